@@ -1,0 +1,5 @@
+pub mod Addr
+pub mod Prefix
+pub mod Name
+pub mod Lists
+pub mod Place
