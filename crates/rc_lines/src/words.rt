@@ -1,3 +1,6 @@
+//! The words of a line, and the addresses that they write.
+//!
+//! Blanks are space and tab; every other byte belongs to a word, also one that no name may have.
 ghost use Rattle.std.specs.Prelude.{◌≡◌, ◌+◌, ◌==◌, ◌<◌, List, ℕ, [], ◌∷◌, ◌++◌, length, take, drop, Some, None, Option, IfSome, ◌≤◌, ◌*◌, MatchOption, option_map};
 ghost use Rattle.rc_lines.specs.Lines.{is_blank, words_of, word_of_part};
 ghost use Rattle.rc_lines.specs.Words.{octet, address_of, digits_from, at_most};
@@ -6,7 +9,7 @@ ghost use Rattle.std.specs.List.{slice_split, position};
 use rc_base::Addr;
 use std::marker::Model;
 
-/// The words of a line, seen as those that are left.
+/// A cursor over the words of a line, seen as the list of the words that are left.
 #[derive(Drop)]
 pub struct Words<'a> {
     rest: &'a [u8],
@@ -21,19 +24,21 @@ impl<'a> Model for Words<'a> {
     ghost view = { λ w. words_of w.rest.now };
 }
 
+/// Whether a byte is a space or a tab.
 fn is_blank_byte(b: u8) -> bool
     ensures { result ≡ is_blank b }
 {
     b == b' ' || b == b'\t'
 }
 
+/// The place of the first blank.
 fn blank_at(text: &[u8]) -> Option<usize>
     ensures { result ≡ position is_blank text.now }
 {
     text.iter().position(|b| is_blank_byte(*b))
 }
 
-/// What stands before the first blank, and after it.
+/// What stands before the first blank, and after it. Where the text begins with a blank, the first part is empty.
 fn first_part(text: &[u8]) -> (&[u8], &[u8])
     requires { 0 < length text.now }
     ensures words { words_of text.now ≡ word_of_part result.0.now ++ words_of result.1.now }
@@ -45,7 +50,7 @@ fn first_part(text: &[u8]) -> (&[u8], &[u8])
     }
 }
 
-/// The first word, and what follows it.
+/// The first word, and the text that follows it, or `None` where there are only blanks.
 fn first_word(text: &[u8]) -> Option<(&[u8], &[u8])>
     ensures { MatchOption result (words_of text.now ≡ []) (λ found. words_of text.now ≡ found.0.now ∷ words_of found.1.now) }
 {
@@ -61,12 +66,14 @@ fn first_word(text: &[u8]) -> Option<(&[u8], &[u8])>
 }
 
 impl<'a> Words<'a> {
+    /// A cursor before the first word of this text.
     pub fn new(text: &'a [u8]) -> Words<'a>
         ensures { result ≡ words_of text.now }
     {
         Words { rest: text }
     }
 
+    /// The next word, or `None` exactly at the end of the line, and from then on.
     pub fn next(&mut self) -> Option<&'a [u8]>
         ensures { MatchOption result ((self.old ≡ []) × (self.new ≡ [])) (λ word. self.old ≡ word.now ∷ self.new) }
     {
@@ -76,6 +83,8 @@ impl<'a> Words<'a> {
     }
 }
 
+/// The number that decimal digits write, or `None` where a byte is no digit or the number is over the limit. No digits
+/// write 0.
 fn digits_value(digits: &[u8], limit: u32) -> Option<u32>
     ensures small { IfSome result (λ n. n ≤ limit) }
     ensures value { result ≡ at_most limit (digits_from 0 digits.now) }
@@ -93,6 +102,7 @@ fn digits_value(digits: &[u8], limit: u32) -> Option<u32>
     Some(value as u32)
 }
 
+/// The octet that one to three digits write, or `None` where it is over 255.
 fn octet_value(digits: &[u8]) -> Option<u32>
     ensures value { result ≡ octet digits.now }
     ensures small { IfSome result (λ n. n ≤ 255) }
@@ -103,13 +113,14 @@ fn octet_value(digits: &[u8]) -> Option<u32>
     digits_value(digits, 255)
 }
 
+/// The place of the first dot.
 fn dot_at(word: &[u8]) -> Option<usize>
     ensures { result ≡ position (λ b. b == 46) word.now }
 {
     word.iter().position(|b| *b == b'.')
 }
 
-/// What stands before the first dot, and after it.
+/// What stands before the first dot, and after it, or `None` where there is no dot.
 fn before_dot(word: &[u8]) -> Option<(&[u8], &[u8])>
     ensures { MatchOption result (slice_split (λ b. b == 46) word.now ≡ word.now ∷ [])
         (λ parts. slice_split (λ b. b == 46) word.now ≡ parts.0.now ∷ slice_split (λ b. b == 46) parts.1.now) }
@@ -120,7 +131,7 @@ fn before_dot(word: &[u8]) -> Option<(&[u8], &[u8])>
     }
 }
 
-/// The four parts of a word between dots.
+/// The four parts of a word between dots, or `None` where it hasn't just three dots. Parts may be empty.
 fn four_parts(word: &[u8]) -> Option<(&[u8], &[u8], &[u8], &[u8])>
     ensures { MatchOption result (address_of word.now ≡ None)
         (λ p. slice_split (λ b. b == 46) word.now ≡ p.0.now ∷ p.1.now ∷ p.2.now ∷ p.3.now ∷ []) }
@@ -140,7 +151,8 @@ fn four_parts(word: &[u8]) -> Option<(&[u8], &[u8], &[u8], &[u8])>
     }
 }
 
-/// The address that a word writes.
+/// The address that a word writes, or `None` exactly where it isn't four parts with dots between them, each of one to
+/// three decimal digits and at most 255. Zeros may lead a part, and a part is decimal all the same; no sign is taken.
 pub fn word_addr(word: &[u8]) -> Option<Addr>
     ensures { result ≡ address_of word.now }
 {
