@@ -22,3 +22,6 @@ pub use items::Items;
 pub use name::Name;
 pub use place::{IfId, Pos, RouterId};
 pub use prefix::Prefix;
+
+#[cfg(test)]
+mod tests;

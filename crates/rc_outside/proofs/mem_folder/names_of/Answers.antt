@@ -2,7 +2,7 @@ use Rattle.std.proofs.Common.{◌≡◌, ◌+◌, ◌<◌, ◌∷◌, [], ◌++�
 use Rattle.std.proofs.lemmas.List.{take_more, at_drop_more, map-append}
 use Rattle.rc_outside.specs.declared.mem_folder.MemFile.{MemFile}
 use Rattle.rc_outside.specs.MemFolder.{file_of, files_of}
-use Rattle.rc_outside.proofs.Listing.{IsListing, listing-kept, listing-same}
+use Rattle.rc_outside.proofs.Listing.{listing-kept, listing-same}
 use Rattle.rc_outside.proofs.mem_folder.names_of.Goals as goal
 use Rattle.rc_outside.proofs.mem_folder.names_of.Goals.{then-is_new_in+in_ok-text+in_ok-push, else-is_new_in}
 

@@ -1,0 +1,5 @@
+mod Fronts
+mod Refused
+mod Puts
+mod FileFronts
+mod Configs

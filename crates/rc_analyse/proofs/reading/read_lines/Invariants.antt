@@ -1,0 +1,10 @@
+use Rattle.std.proofs.Common.{◌≡◌, length, Ok}
+use Rattle.rc_lines.specs.Lines.{lines_of}
+use Rattle.rc_analyse.specs.Reading.{start, with_lines}
+use Rattle.rc_analyse.proofs.reading.read_lines.Given as goal
+
+abbrev pub invariant-loop-line : goal.invariant-loop-line
+invariant-loop-line l = with_lines (Ok l.reading) l.lines ≡ with_lines (Ok start) (lines_of l.bytes)
+
+abbrev pub decreases-loop-line : goal.decreases-loop-line
+decreases-loop-line l = length l.lines

@@ -1,0 +1,37 @@
+//! How a run ends.
+ghost use Rattle.std.specs.Prelude.{◌≡◌};
+
+/// How a run ends.
+#[derive(Clone, Copy, Debug, PartialEq, Eq)]
+pub enum Status {
+    /// The whole text is written.
+    Done,
+    /// A file is refused; the refusal's line is written.
+    Refused,
+    /// The words aren't taken; the usage text is written.
+    Usage,
+    /// The folder failed; nothing is written.
+    Source,
+    /// The sink failed; a front of the text is written.
+    Sink,
+    /// Memory ran out; nothing is written.
+    Memory,
+}
+
+impl Status {
+    ghost use Rattle.rc_analyse.specs.Codes.{status_code};
+
+    /// The exit status of the process: 0, 1, 2, 6, 7 or 8.
+    pub fn code(self) -> u8
+        ensures { result ≡ status_code self }
+    {
+        match self {
+            Status::Done => 0,
+            Status::Refused => 1,
+            Status::Usage => 2,
+            Status::Source => 6,
+            Status::Sink => 7,
+            Status::Memory => 8,
+        }
+    }
+}

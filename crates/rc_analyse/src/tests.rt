@@ -1,0 +1,362 @@
+//! Whole runs over a folder and a sink in memory.
+use crate::{Status, run};
+use rc_outside::{MemFile, MemFolder, MemSink, OpenGate};
+use std::alloc::{AllocError, Global};
+use std::process::Abort;
+use std::test::Fail;
+use std::thread::Threads;
+
+const BASE: &str =
+    "hostname R1\ninterface GigabitEthernet0/0\n ip address 10.0.0.1 255.255.255.0\n";
+
+const CONNECTED: &str =
+    "outcome fixed 2\nrouter R1\n10.0.0.0/24 connected 0/0 dev GigabitEthernet0/0\n";
+
+const NOT_CONNECTED: &str = "outcome fixed 1\nrouter R1\n";
+
+const USAGE: &str = "usage: netcheck routes DIR [--router R]
+       netcheck trace DIR --from PLACE --dst A [--src A] [--proto N] [--sport N] [--dport N]
+       netcheck reach DIR --from PLACE [--end KIND] [--examples N]
+       netcheck sample N
+options: --rounds N --workers N --nodes N
+";
+
+fn file_of(alloc: Global, folder: &str, name: &str, bytes: &[u8]) -> Result<MemFile, AllocError> {
+    Ok(MemFile {
+        folder: String::from_str(alloc, folder)?,
+        name: String::from_str(alloc, name)?,
+        bytes: Vec::from_slice(alloc, bytes)?,
+    })
+}
+
+fn folder_of(
+    alloc: Global,
+    files: &[(&str, &str)],
+    failures: Vec<u64>,
+) -> Result<MemFolder, AllocError> {
+    let mut held = Vec::new(alloc);
+    held.push(file_of(alloc, "elsewhere", "a.cfg", b"frobnicate")?)?;
+    for (name, text) in files {
+        held.push(file_of(alloc, "d", name, text.as_bytes())?)?;
+    }
+    Ok(MemFolder::new(held, failures))
+}
+
+fn answered<R: Threads + Sync + AllocGlobal>(
+    rt: &R,
+    words: &[&str],
+    files: &[(&str, &str)],
+    failures: Vec<u64>,
+) -> Result<(Status, MemSink), AllocError> {
+    let mut folder = folder_of(rt.alloc(), files, failures)?;
+    let mut out = MemSink::new(rt.alloc(), 4096, Vec::new(rt.alloc()))?;
+    let status = run(rt, words, &mut folder, &mut out, &OpenGate);
+    Ok((status, out))
+}
+
+fn check_files<R: Threads + Sync + AllocGlobal + Abort>(
+    rt: &R,
+    files: &[(&str, &str)],
+    status: Status,
+    text: &str,
+) -> Result<(), AllocError> {
+    let (found, out) = answered(rt, &["routes", "d"], files, Vec::new(rt.alloc()))?;
+    assert_eq!(rt; found, status, "{text}");
+    assert_eq!(rt; out.bytes.as_slice(), text.as_bytes());
+    Ok(())
+}
+
+fn check_refused<R: Threads + Sync + AllocGlobal + Abort>(
+    rt: &R,
+    text: &str,
+    line: &str,
+) -> Result<(), AllocError> {
+    check_files(rt, &[("a.cfg", text)], Status::Refused, line)
+}
+
+fn check_done<R: Threads + Sync + AllocGlobal + Abort>(
+    rt: &R,
+    text: &str,
+    answer: &str,
+) -> Result<(), AllocError> {
+    check_files(rt, &[("a.cfg", text)], Status::Done, answer)
+}
+
+fn check_bytes<R: Threads + Sync + AllocGlobal + Abort>(
+    rt: &R,
+    bytes: &[u8],
+    status: Status,
+    text: &str,
+) -> Result<(), AllocError> {
+    let mut held = Vec::new(rt.alloc());
+    held.push(file_of(rt.alloc(), "d", "a.cfg", bytes)?)?;
+    let mut folder = MemFolder::new(held, Vec::new(rt.alloc()));
+    let mut out = MemSink::new(rt.alloc(), 4096, Vec::new(rt.alloc()))?;
+    let found = run(rt, &["routes", "d"], &mut folder, &mut out, &OpenGate);
+    assert_eq!(rt; found, status, "{text}");
+    assert_eq!(rt; out.bytes.as_slice(), text.as_bytes());
+    Ok(())
+}
+
+#[test]
+fn folders_of_none_one_and_two_files(rt: HostRuntime) -> Result<(), Fail> {
+    check_files(&rt, &[], Status::Done, "outcome fixed 1\n")?;
+    check_files(
+        &rt,
+        &[("readme", "x"), ("a.cfg", BASE), ("a.cfg.old", "x")],
+        Status::Done,
+        CONNECTED,
+    )?;
+    check_files(
+        &rt,
+        &[("b.cfg", BASE), ("a.cfg", BASE)],
+        Status::Refused,
+        "refused b.cfg:0: 2\n",
+    )?;
+    check_files(
+        &rt,
+        &[("a.cfg", BASE), ("c.cfg", BASE), ("B.cfg", BASE)],
+        Status::Refused,
+        "refused a.cfg:0: 2\n",
+    )?;
+    Ok(())
+}
+
+#[test]
+fn a_file_says_each_form_once(rt: HostRuntime) -> Result<(), Fail> {
+    check_done(&rt, BASE, CONNECTED)?;
+    check_done(&rt, "hostname R1\ninterface Foo1\n", NOT_CONNECTED)?;
+    check_refused(&rt, "", "refused a.cfg:0: 6\n")?;
+    check_refused(&rt, "interface Serial0\n", "refused a.cfg:0: 6\n")?;
+    check_refused(&rt, "hostname R1\nhostname R1\n", "refused a.cfg:2: 2\n")?;
+    check_refused(
+        &rt,
+        "interface Serial0\ninterface Serial0\n",
+        "refused a.cfg:2: 2\n",
+    )?;
+    check_refused(
+        &rt,
+        "hostname R1\ninterface Serial0\n ip address 1.1.1.1 255.0.0.0\n ip address 1.1.1.1 255.0.0.0\n",
+        "refused a.cfg:4: 2\n",
+    )?;
+    check_refused(
+        &rt,
+        "hostname R1\ninterface GigabitEthernet0/0\n ip address 10.0.0.1 255.255.255.0\n shutdown\n",
+        "refused a.cfg:4: 2\n",
+    )?;
+    Ok(())
+}
+
+#[test]
+fn lines_and_blocks(rt: HostRuntime) -> Result<(), Fail> {
+    check_done(
+        &rt,
+        "!\r\n\r\n \t \ninterface GigabitEthernet0/0\r\n!x\n\t ip\taddress  10.0.0.1 255.255.255.0 \r\nhostname R1",
+        CONNECTED,
+    )?;
+    check_refused(
+        &rt,
+        "interface Serial0\nhostname R1\n ip address 10.0.0.1 255.255.255.0\n",
+        "refused a.cfg:3: 2\n",
+    )?;
+    check_refused(&rt, " hostname R1\n", "refused a.cfg:1: 2\n")?;
+    check_refused(
+        &rt,
+        "hostname R1\nip address 10.0.0.1 255.255.255.0\n",
+        "refused a.cfg:2: 2\n",
+    )?;
+    check_refused(
+        &rt,
+        "interface Serial0\n interface Serial1\n",
+        "refused a.cfg:2: 2\n",
+    )?;
+    Ok(())
+}
+
+fn check_address<R: Threads + Sync + AllocGlobal + Abort>(
+    rt: &R,
+    line: &str,
+) -> Result<(), AllocError> {
+    let text = format!(in rt.alloc(); "hostname R1\ninterface Serial0\n {line}\n")?;
+    check_refused(rt, text.as_str(), "refused a.cfg:3: 2\n")
+}
+
+#[test]
+fn addresses_and_masks(rt: HostRuntime) -> Result<(), Fail> {
+    check_done(
+        &rt,
+        "hostname R1\ninterface Serial0/1\n ip address 10.201.003.255 255.255.252.0\n",
+        "outcome fixed 2\nrouter R1\n10.201.0.0/22 connected 0/0 dev Serial0/1\n",
+    )?;
+    check_done(
+        &rt,
+        "hostname R1\ninterface Loopback0\n ip address 255.255.255.255 255.255.255.255\n",
+        "outcome fixed 2\nrouter R1\n255.255.255.255/32 connected 0/0 dev Loopback0\n",
+    )?;
+    check_address(&rt, "ip address 10.0.0.1 0.0.0.0")?;
+    check_address(&rt, "ip address 10.0.0.1 255.0.255.0")?;
+    check_address(&rt, "ip address 10.0.0.256 255.0.0.0")?;
+    check_address(&rt, "ip address 10.0.0.0001 255.0.0.0")?;
+    check_address(&rt, "ip address 10.0.0 255.0.0.0")?;
+    check_address(&rt, "ip address 10.0.0.1")?;
+    check_address(&rt, "ip address 10.0.0.1 255.0.0.0 secondary")?;
+    check_address(&rt, "ip address +10.0.0.1 255.0.0.0")?;
+    check_refused(
+        &rt,
+        "hostname R1\ninterface Tunnel0\n ip address 10.0.0.1 255.0.0.0\n",
+        "refused a.cfg:3: 2\n",
+    )?;
+    Ok(())
+}
+
+#[test]
+fn names(rt: HostRuntime) -> Result<(), Fail> {
+    check_done(
+        &rt,
+        "hostname a.B-c_9\n",
+        "outcome fixed 1\nrouter a.B-c_9\n",
+    )?;
+    check_refused(&rt, "hostname R/1\n", "refused a.cfg:1: 2\n")?;
+    check_refused(&rt, "hostname R 1\n", "refused a.cfg:1: 2\n")?;
+    check_refused(&rt, "hostname\n", "refused a.cfg:1: 2\n")?;
+    check_refused(&rt, "interface 0\n", "refused a.cfg:1: 2\n")?;
+    check_done(
+        &rt,
+        "hostname a23456789b23456789c23456789d23456789e23456789f23456789g23456789\n",
+        "outcome fixed 1\nrouter a23456789b23456789c23456789d23456789e23456789f23456789g23456789\n",
+    )?;
+    check_refused(
+        &rt,
+        "hostname a23456789b23456789c23456789d23456789e23456789f23456789g23456789x\n",
+        "refused a.cfg:1: 2\n",
+    )?;
+    Ok(())
+}
+
+#[test]
+fn hostile_bytes(rt: HostRuntime) -> Result<(), Fail> {
+    check_bytes(&rt, b"\x00", Status::Refused, "refused a.cfg:1: 2\n")?;
+    check_bytes(&rt, b"\n\xff", Status::Refused, "refused a.cfg:2: 2\n")?;
+    check_bytes(&rt, b"\r", Status::Refused, "refused a.cfg:1: 2\n")?;
+    check_bytes(&rt, b"\r\n", Status::Refused, "refused a.cfg:0: 6\n")?;
+    check_bytes(
+        &rt,
+        b"hostname R1\r",
+        Status::Refused,
+        "refused a.cfg:1: 2\n",
+    )?;
+    check_bytes(
+        &rt,
+        b"hostname R\xc3\xa9\n",
+        Status::Refused,
+        "refused a.cfg:1: 2\n",
+    )?;
+    check_bytes(
+        &rt,
+        b"hostname R1\x00\n",
+        Status::Refused,
+        "refused a.cfg:1: 2\n",
+    )?;
+    Ok(())
+}
+
+#[test]
+fn a_file_at_the_limit(rt: HostRuntime) -> Result<(), Fail> {
+    let mut bytes = Vec::from_slice(rt.alloc(), b"hostname R1\n")?;
+    for _ in 12..1_048_576 {
+        bytes.push(b'!')?;
+    }
+    check_bytes(&rt, bytes.as_slice(), Status::Done, NOT_CONNECTED)?;
+    bytes.push(b'!')?;
+    check_bytes(
+        &rt,
+        bytes.as_slice(),
+        Status::Refused,
+        "refused a.cfg:0: 2\n",
+    )?;
+    Ok(())
+}
+
+fn check_usage<R: Threads + Sync + AllocGlobal + Abort>(
+    rt: &R,
+    words: &[&str],
+) -> Result<(), AllocError> {
+    let (found, out) = answered(rt, words, &[("a.cfg", BASE)], Vec::new(rt.alloc()))?;
+    assert_eq!(rt; found, Status::Usage);
+    assert_eq!(rt; out.bytes.as_slice(), USAGE.as_bytes());
+    Ok(())
+}
+
+#[test]
+fn words_that_are_not_taken(rt: HostRuntime) -> Result<(), Fail> {
+    check_usage(&rt, &[])?;
+    check_usage(&rt, &["routes"])?;
+    check_usage(&rt, &["routes", "-d"])?;
+    check_usage(&rt, &["routes", ""])?;
+    check_usage(&rt, &["Routes", "d"])?;
+    check_usage(&rt, &["routes", "d", "d"])?;
+    check_usage(&rt, &["trace", "d"])?;
+    check_usage(&rt, &["--help"])?;
+    Ok(())
+}
+
+fn check_source<R: Threads + Sync + AllocGlobal + Abort>(
+    rt: &R,
+    call: u64,
+) -> Result<(), AllocError> {
+    let failures = Vec::from_slice(rt.alloc(), &[call])?;
+    let (found, out) = answered(rt, &["routes", "d"], &[("a.cfg", BASE)], failures)?;
+    assert_eq!(rt; found, Status::Source);
+    assert_eq!(rt; out.calls, 0);
+    Ok(())
+}
+
+#[test]
+fn a_folder_that_fails(rt: HostRuntime) -> Result<(), Fail> {
+    check_source(&rt, 1)?;
+    check_source(&rt, 2)?;
+    let third = Vec::from_slice(rt.alloc(), &[3])?;
+    let (found, _) = answered(&rt, &["routes", "d"], &[("a.cfg", BASE)], third)?;
+    assert_eq!(rt; found, Status::Done);
+    Ok(())
+}
+
+fn check_sink<R: Threads + Sync + AllocGlobal + Abort>(
+    rt: &R,
+    room: usize,
+    failure: (u64, usize),
+    text: &str,
+    calls: u64,
+) -> Result<(), AllocError> {
+    let mut folder = folder_of(rt.alloc(), &[("a.cfg", BASE)], Vec::new(rt.alloc()))?;
+    let failures = Vec::from_slice(rt.alloc(), &[failure])?;
+    let mut out = MemSink::new(rt.alloc(), room, failures)?;
+    let status = run(rt, &["routes", "d"], &mut folder, &mut out, &OpenGate);
+    assert_eq!(rt; status, Status::Sink);
+    assert_eq!(rt; out.bytes.as_slice(), text.as_bytes());
+    assert_eq!(rt; out.calls, calls);
+    Ok(())
+}
+
+#[test]
+fn a_sink_that_fails(rt: HostRuntime) -> Result<(), Fail> {
+    check_sink(&rt, 4096, (1, 0), "", 1)?;
+    check_sink(&rt, 4096, (2, 3), "outcome fixed 2\nrou", 2)?;
+    check_sink(&rt, 26, (9, 0), "outcome fixed 2\nrouter R1\n", 3)?;
+    Ok(())
+}
+
+#[test]
+fn a_line_goes_out_in_pieces(rt: HostRuntime) -> Result<(), Fail> {
+    let mut name = String::new(rt.alloc());
+    for _ in 0..508 {
+        name.push_str("x")?;
+    }
+    name.push_str(".cfg")?;
+    let mut folder = folder_of(rt.alloc(), &[(name.as_str(), "")], Vec::new(rt.alloc()))?;
+    let mut out = MemSink::new(rt.alloc(), 4096, Vec::new(rt.alloc()))?;
+    let status = run(&rt, &["routes", "d"], &mut folder, &mut out, &OpenGate);
+    assert_eq!(rt; status, Status::Refused);
+    assert_eq!(rt; out.calls, 2);
+    Ok(())
+}

@@ -1,0 +1,98 @@
+//! What the types mean, by examples from outside.
+use crate::{Addr, Ends, FileName, Items, Kind, Name, Pos, Prefix, RouterId, len_of, mask_of};
+use std::process::Abort;
+use std::test::Fail;
+
+/// Whether the prefix of the first address and length has this network.
+fn has_network(bits: u32, len: u8, network: u32) -> bool {
+    match Prefix::new(Addr::new(bits), len) {
+        Some(prefix) => prefix.network() == Addr::new(network) && prefix.len() == len,
+        None => false,
+    }
+}
+
+#[test]
+fn prefixes_have_no_host_bits(rt: HostRuntime) {
+    assert!(rt; has_network(0x0a01_02ff, 24, 0x0a01_0200));
+    assert!(rt; has_network(0x0a01_02ff, 8, 0x0a00_0000));
+    assert!(rt; has_network(0xffff_ffff, 32, 0xffff_ffff));
+    assert!(rt; has_network(0xffff_ffff, 0, 0));
+    assert!(rt; Prefix::new(Addr::new(0), 33).is_none());
+}
+
+#[test]
+fn a_prefix_holds_its_addresses(rt: HostRuntime) -> Result<(), Fail> {
+    let wide = Prefix::new(Addr::new(0x0a00_0000), 8).ok_or("/8")?;
+    let narrow = Prefix::new(Addr::new(0x0a01_0200), 24).ok_or("/24")?;
+    assert!(rt; wide.contains(Addr::new(0x0aff_ffff)));
+    assert!(rt; !wide.contains(Addr::new(0x0b00_0000)));
+    assert!(rt; wide.covers(&narrow));
+    assert!(rt; !narrow.covers(&wide));
+    assert!(rt; wide < narrow);
+    Ok(())
+}
+
+#[test]
+fn masks(rt: HostRuntime) {
+    assert_eq!(rt; mask_of(24).bits(), 0xffff_ff00);
+    assert_eq!(rt; mask_of(0).bits(), 0);
+    assert_eq!(rt; len_of(Addr::new(0xffff_fffc)), Some(30));
+    assert_eq!(rt; len_of(Addr::new(0xffff_ffff)), Some(32));
+    assert_eq!(rt; len_of(Addr::new(0)), Some(0));
+    assert_eq!(rt; len_of(Addr::new(0xff00_ff00)), None);
+    assert_eq!(rt; len_of(Addr::new(0x0000_00ff)), None);
+}
+
+fn check_name(rt: &impl Abort, text: &[u8], is_name: bool) {
+    assert_eq!(rt; Name::new(text).is_some(), is_name);
+}
+
+#[test]
+fn names(rt: HostRuntime) -> Result<(), Fail> {
+    check_name(&rt, b"Gi0/0.10", true);
+    check_name(&rt, b"~", true);
+    check_name(&rt, b"", false);
+    check_name(&rt, b"a b", false);
+    check_name(&rt, b"\x7f", false);
+    check_name(&rt, b"\xc3\xa9", false);
+    check_name(&rt, &[b'x'; 63], true);
+    check_name(&rt, &[b'x'; 64], false);
+    let short = Name::new(b"R").ok_or("R")?;
+    let long = Name::new(b"R1").ok_or("R1")?;
+    assert!(rt; short < long);
+    assert!(rt; short != long);
+    assert_eq!(rt; long.as_bytes(), b"R1".as_slice());
+    Ok(())
+}
+
+#[test]
+fn lists_and_places(rt: HostRuntime) -> Result<(), Fail> {
+    let mut items = Items::new(rt.alloc());
+    assert!(rt; items.is_empty());
+    items.push(RouterId::at(7))?;
+    assert_eq!(rt; items.len(), 1);
+    let same = Items::from_vec(items.into_vec());
+    assert_eq!(rt; same.as_slice(), [RouterId::at(7)].as_slice());
+    assert!(rt; Pos::Own(RouterId::at(0)) != Pos::Own(RouterId::at(1)));
+    let upper = FileName::new(String::from_str(rt.alloc(), "B.cfg")?);
+    let lower = FileName::new(String::from_str(rt.alloc(), "a.cfg")?);
+    assert!(rt; upper < lower);
+    Ok(())
+}
+
+#[test]
+fn sets_of_endings(rt: HostRuntime) {
+    let ends = Ends {
+        denied_in: false,
+        accepted: true,
+        no_route: false,
+        null_routed: false,
+        denied_out: false,
+        unreachable: false,
+        exits: false,
+        delivered: true,
+    };
+    assert!(rt; ends.has(Kind::Accepted));
+    assert!(rt; ends.has(Kind::Delivered));
+    assert!(rt; !ends.has(Kind::Exits));
+}
