@@ -1,5 +1,5 @@
 -- The network of the files of a folder, or their first refusal.
-use Rattle.std.specs.Prelude.{ℕ, List, [], ◌∷◌, filter, Option, Some, None, Result, Ok, Err, unwrap_or, IsPermutation, IsSorted}
+use Rattle.std.specs.Prelude.{◌≡◌, ℕ, List, [], ◌∷◌, filter, Option, Some, None, Result, Ok, Err, unwrap_or, IsPermutation, IsSorted}
 use Rattle.std.specs.Ordering.{nat_cmp}
 use Rattle.std.specs.Cmp.Lexicographic.{slice_cmp}
 use Rattle.rc_outside.specs.Folder.{File, names_in, bytes_at, is_config}
@@ -34,3 +34,7 @@ net_of_configs bytes (first ∷ second ∷ names) = Err (record { file = second;
 -- the configurations are the files whose name ends in `.cfg`
 abbrev pub net_of : List ℕ → List File → List (List ℕ) → Result (Option Config) FileRefusal
 net_of dir files names = net_of_configs (bytes_in dir files) (filter is_config names)
+
+-- a folder has one listing in byte order
+abbrev pub HasOneListing : Type 0
+HasOneListing = (dir : List ℕ) (files : List File) (these those : List (List ℕ)) → AreNamesInOrder dir files these → AreNamesInOrder dir files those → these ≡ those

@@ -18,6 +18,7 @@ mod runs;
 mod status;
 mod texts;
 
+pub use listing::one_listing;
 pub use runs::run;
 pub use status::Status;
 

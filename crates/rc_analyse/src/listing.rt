@@ -5,6 +5,7 @@ ghost use Rattle.std.specs.Cmp.Lexicographic.{slice_cmp};
 ghost use Rattle.rc_outside.specs.Causes.{HasCause};
 ghost use Rattle.rc_outside.specs.Folder.{is_config, bytes_at, names_in};
 ghost use Rattle.rc_analyse.specs.Answer.{AreConfigs};
+ghost use Rattle.rc_analyse.specs.Net.{HasOneListing};
 ghost use Rattle.rc_analyse.specs.Reading.{config_of};
 
 use crate::config::Config;
@@ -13,6 +14,11 @@ use crate::refusal::Refusal;
 use rc_base::FileName;
 use rc_outside::{Folder, Names, SourceError};
 use std::alloc::{AllocError, Global};
+
+/// A folder has one listing in byte order, so the answer to its files is one, whatever the order in which it lists them.
+pub fn one_listing()
+    ensures { HasOneListing }
+{}
 
 fn is_config_name(name: &FileName) -> bool
     ensures { result ≡ is_config name.now }

@@ -1,10 +1,9 @@
-use Rattle.std.proofs.Common.{◌≡◌, ◌≤◌, ◌&&◌, ◌-◌, ℕ, Bool, true, nat_lt, nat_le, List, ◌++◌, length, take, drop, replicate, refl, sym, ap, ◌∙◌, subst, arith, rules}
-use Rattle.std.specs.List.{list_all}
+use Rattle.std.proofs.Common.{◌≡◌, ℕ, true, List, ◌++◌, length, drop, replicate, refl, sym, ap, ◌∙◌, subst, arith}
 use Rattle.std.proofs.lemmas.List.{drop-replicate}
 use Rattle.std.proofs.Math.Seq.{take-append_seam}
 use Rattle.std.proofs.lemmas.Grind.{common_steps}
 use Rattle.std.proofs.lemmas.Bool.Decides.{nat_tests}
-use Rattle.rc_base.specs.Name.{is_name_byte, is_name, padded, IsPadded}
+use Rattle.rc_base.specs.Name.{is_name, padded, IsPadded}
 use Rattle.rc_base.proofs.name.Name.new.Goals as goal
 
 -- a name with zeros behind it
