@@ -1,0 +1,158 @@
+//! The real folder.
+ghost use Rattle.std.specs.Prelude.{◌≡◌, true, None};
+
+use rc_base::FileName;
+use rc_outside::{Folder, Names, SourceError};
+use std::alloc::Global;
+use std::fs::{self, DirEntry};
+use std::io::{self, Read};
+use std::rt::Files;
+
+/// The folders of the system. No clause says which bytes the system gives, so this tells no content.
+///
+/// - The files of a folder are its regular files and the links that lead to one. Other entries, as folders and pipes,
+///   are passed over, whatever their names.
+/// - A link that cannot be followed is a fault, and so is a name that isn't UTF-8: passing over it could leave a
+///   router out of the answer unseen.
+/// - Want of memory is no fault.
+#[derive(Drop)]
+pub struct RealFolder<R: Files + AllocGlobal + Clone + Drop> {
+    rt: R,
+    faults: u64,
+}
+
+fn is_regular<R: Files + AllocGlobal + Clone + Drop>(
+    rt: &R,
+    entry: &DirEntry<R>,
+) -> io::Result<bool> {
+    let found = fs::metadata(rt, entry.path())?;
+    Ok(found.is_file())
+}
+
+fn listed<R: Files + AllocGlobal + Clone + Drop>(
+    rt: &R,
+    alloc: Global,
+    dir: &str,
+) -> io::Result<Vec<FileName>> {
+    let mut names = Vec::new(alloc);
+    for entry in fs::read_dir(rt, dir)? {
+        let entry = entry?;
+        if is_regular(rt, &entry)? {
+            let text = String::from_str(alloc, entry.file_name())?;
+            names.push(FileName::new(text))?;
+        }
+    }
+    Ok(names)
+}
+
+/// The first bytes of a file, at most `most + 1` of them: no more are read, however long the file is.
+fn front<R: Files + AllocGlobal>(
+    rt: &R,
+    alloc: Global,
+    dir: &str,
+    name: &str,
+    most: usize,
+) -> io::Result<Vec<u8>> {
+    let path = format!(in alloc; "{dir}/{name}")?;
+    let file = fs::open(rt, path.as_str())?;
+    let mut bytes = Vec::new(alloc);
+    let limit = (most as u64).saturating_add(1);
+    file.take(limit).read_to_end(&mut bytes)?;
+    Ok(bytes)
+}
+
+fn is_out_of_memory(error: &io::Error) -> bool {
+    error.kind() == io::ErrorKind::OutOfMemory
+}
+
+impl<R: Files + AllocGlobal + Clone + Drop> RealFolder<R> {
+    pub fn new(rt: R) -> RealFolder<R> {
+        RealFolder { rt, faults: 0 }
+    }
+}
+
+impl<R: Files + AllocGlobal + Clone + Drop> Folder for RealFolder<R> {
+    ghost told = { λ _. None };
+
+    ghost allows = { λ _ _. true };
+
+    ghost faults = { λ f. f.faults };
+
+    fn names(&mut self, alloc: Global, dir: &str) -> Result<Names, SourceError> {
+        match listed(&self.rt, alloc, dir) {
+            Ok(names) => Ok(Names::from_vec(names)),
+            Err(error) => {
+                if is_out_of_memory(&error) {
+                    return Err(SourceError::Memory);
+                }
+                self.faults = self.faults.saturating_add(1);
+                Err(SourceError::Failed)
+            }
+        }
+    }
+
+    fn read(
+        &mut self,
+        alloc: Global,
+        dir: &str,
+        name: &str,
+        most: usize,
+    ) -> Result<Vec<u8>, SourceError> {
+        match front(&self.rt, alloc, dir, name, most) {
+            Ok(bytes) => Ok(bytes),
+            Err(error) => {
+                if is_out_of_memory(&error) {
+                    return Err(SourceError::Memory);
+                }
+                self.faults = self.faults.saturating_add(1);
+                Err(SourceError::Failed)
+            }
+        }
+    }
+}
+
+#[cfg(test)]
+mod tests {
+    use super::RealFolder;
+    use rc_outside::{Folder, SourceError};
+    use std::fs;
+    use std::os::unix::fs::symlink;
+    use std::test::Fail;
+
+    #[test]
+    fn a_real_folder(rt: HostRuntime) -> Result<(), Fail> {
+        let _ = fs::remove_dir_all(&rt, "tried");
+        fs::create_dir(&rt, "tried")?;
+        fs::write(&rt, "tried/a.cfg", "hostname R1\n")?;
+        symlink(&rt, "a.cfg", "tried/b.cfg")?;
+        fs::create_dir(&rt, "tried/c.cfg")?;
+        let mut folder = RealFolder::new(rt.clone()?);
+
+        let names = folder.names(rt.alloc(), "tried/").ok().ok_or("names")?;
+        let mut names = names.into_vec();
+        names.sort()?;
+        assert_eq!(rt; names.len(), 2);
+        assert_eq!(rt; names[0].as_str(), "a.cfg");
+        assert_eq!(rt; names[1].as_str(), "b.cfg");
+
+        for (most, text) in [(0, "h"), (7, "hostname"), (100, "hostname R1\n")] {
+            let read = folder.read(rt.alloc(), "tried", "b.cfg", most);
+            let bytes = read.ok().ok_or("read")?;
+            assert_eq!(rt; bytes.as_slice(), text.as_bytes());
+        }
+        assert_eq!(rt; folder.faults, 0);
+
+        // A folder that isn't there, a file in the place of a folder, and a link that leads nowhere.
+        symlink(&rt, "gone.cfg", "tried/d.cfg")?;
+        for (dir, faults) in [("none", 1), ("tried/a.cfg", 2), ("tried", 3)] {
+            let listing = folder.names(rt.alloc(), dir);
+            assert_eq!(rt; listing.err(), Some(SourceError::Failed));
+            assert_eq!(rt; folder.faults, faults);
+        }
+        let read = folder.read(rt.alloc(), "tried", "none.cfg", 100);
+        assert_eq!(rt; read.err(), Some(SourceError::Failed));
+        assert_eq!(rt; folder.faults, 4);
+        fs::remove_dir_all(&rt, "tried")?;
+        Ok(())
+    }
+}
