@@ -7,7 +7,7 @@ use Rattle.std.specs.Char.{is_ascii_digit, is_ascii_alphabetic, is_ascii_alphanu
 use Rattle.rc_base.specs.Addr.{mask_len}
 use Rattle.rc_base.specs.Name.{is_name}
 use Rattle.rc_base.specs.Prefix.{prefix_at}
-use Rattle.rc_lines.specs.Words.{address_of}
+use Rattle.rc_openings.specs.Values.{address_of}
 use Rattle.rc_analyse.specs.declared.command.Block.{Block}
 use Rattle.rc_analyse.specs.declared.command.Block.TheVariants.{Global, Interface, Closed}
 use Rattle.rc_analyse.specs.declared.command.Command.{Command}

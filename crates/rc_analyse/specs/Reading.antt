@@ -1,7 +1,9 @@
 -- What the lines of a file say, or the first of them that is refused.
 use Rattle.std.specs.Prelude.{ℕ, ◌==◌, Bool, true, false, nat_lt, if◌then◌else◌, List, [], ◌∷◌, length, Option, Some, None, Result, Ok, Err, is_some}
 use Rattle.std.specs.Option.{option_and_then, option_map}
-use Rattle.rc_lines.specs.Lines.{TextLine, indent_of, words_of, lines_of}
+use Rattle.rc_openings.specs.Words.{words_of}
+use Rattle.rc_lines.specs.Banners.{indent_of}
+use Rattle.rc_lines.specs.Lines.{TextLine, lines_of}
 use Rattle.rc_analyse.specs.Grammar.{command_of}
 use Rattle.rc_analyse.specs.declared.command.Block.{Block}
 use Rattle.rc_analyse.specs.declared.command.Block.TheVariants.{Global, Interface, Closed}

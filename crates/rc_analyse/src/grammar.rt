@@ -3,11 +3,12 @@ ghost use Rattle.std.specs.Prelude.{◌≡◌, List, ℕ, [], ◌∷◌, length,
 ghost use Rattle.std.specs.Char.{is_ascii_digit};
 ghost use Rattle.std.specs.List.{list_all};
 ghost use Rattle.rc_analyse.specs.Grammar.{has_type, type_of, attached, mask_of_word, begins_with_letter, is_host_byte, host_name_value, interface_value, address_value, command_of};
-ghost use Rattle.rc_lines.specs.Words.{address_of};
+ghost use Rattle.rc_openings.specs.Values.{address_of};
+ghost use Rattle.rc_openings.specs.Words.{words_left};
 
 use crate::command::{Block, Command};
 use rc_base::{Name, Prefix, len_of};
-use rc_lines::{Words, word_addr};
+use rc_openings::{Words, word_addr};
 
 fn is_host_name(text: &[u8]) -> bool
     ensures { result ≡ list_all is_host_byte text.now }
@@ -55,12 +56,12 @@ fn is_of_known_type(name: &[u8]) -> bool
 }
 
 fn host_name(words: &mut Words) -> Option<Command>
-    ensures { result ≡ host_name_value Block.Global words.old }
+    ensures { result ≡ host_name_value Block.Global (words_left words.old) }
 {
-    let Some(text) = words.next() else {
+    let Some(text) = words.next_word() else {
         return None;
     };
-    if words.next().is_some() || !is_host_name(text) {
+    if words.next_word().is_some() || !is_host_name(text) {
         return None;
     }
     match Name::new(text) {
@@ -70,12 +71,12 @@ fn host_name(words: &mut Words) -> Option<Command>
 }
 
 fn interface(words: &mut Words) -> Option<Command>
-    ensures { result ≡ interface_value Block.Global words.old }
+    ensures { result ≡ interface_value Block.Global (words_left words.old) }
 {
-    let Some(text) = words.next() else {
+    let Some(text) = words.next_word() else {
         return None;
     };
-    if words.next().is_some() || !begins_alphabetic(text) {
+    if words.next_word().is_some() || !begins_alphabetic(text) {
         return None;
     }
     match Name::new(text) {
@@ -113,15 +114,15 @@ fn attached_prefix(name: &Name, addr: &[u8], mask: &[u8]) -> Option<Command>
 }
 
 fn address(name: &Name, words: &mut Words) -> Option<Command>
-    ensures { result ≡ address_value (Block.Interface name.now) words.old }
+    ensures { result ≡ address_value (Block.Interface name.now) (words_left words.old) }
 {
-    let Some(addr) = words.next() else {
+    let Some(addr) = words.next_word() else {
         return None;
     };
-    let Some(mask) = words.next() else {
+    let Some(mask) = words.next_word() else {
         return None;
     };
-    if words.next().is_some() || !is_of_known_type(name.as_bytes()) {
+    if words.next_word().is_some() || !is_of_known_type(name.as_bytes()) {
         return None;
     }
     attached_prefix(name, addr, mask)
@@ -130,9 +131,9 @@ fn address(name: &Name, words: &mut Words) -> Option<Command>
 /// The command that a line's words are in a block.
 #[tactic(auto, unfolding(crate::specs::Grammar::command_of))]
 pub(crate) fn read_words(block: &Block, words: &mut Words) -> Option<Command>
-    ensures { result ≡ command_of block.now words.old }
+    ensures { result ≡ command_of block.now (words_left words.old) }
 {
-    let Some(first) = words.next() else {
+    let Some(first) = words.next_word() else {
         return None;
     };
     match block {
@@ -145,7 +146,7 @@ pub(crate) fn read_words(block: &Block, words: &mut Words) -> Option<Command>
                 None
             }
         }
-        Block::Interface(name) => match words.next() {
+        Block::Interface(name) => match words.next_word() {
             Some(second) if first == b"ip".as_slice() && second == b"address".as_slice() => {
                 address(name, words)
             }

@@ -1,6 +1,7 @@
 //! A file, line by line.
 ghost use Rattle.std.specs.Prelude.{◌≡◌, List, ℕ, [], ◌∷◌, Some, None, Ok, Err};
-ghost use Rattle.rc_lines.specs.Lines.{TextLine, lines_of, words_of};
+ghost use Rattle.rc_openings.specs.Words.{words_of};
+ghost use Rattle.rc_lines.specs.Lines.{TextLine, lines_of};
 ghost use Rattle.rc_analyse.specs.Grammar.{command_of};
 ghost use Rattle.rc_analyse.specs.Reading.{with_command, after, context_of, is_passed, step, start, with_lines, named, config_of};
 
@@ -46,7 +47,7 @@ fn applied(block: &Block, said: Said, command: Command) -> Option<Reading>
 fn is_passed_over(line: &Line) -> bool
     ensures { result ≡ is_passed (words_of line.now.text) }
 {
-    match line.words().next() {
+    match line.words().next_word() {
         None => true,
         Some([b'!', ..]) => true,
         Some(_) => false,

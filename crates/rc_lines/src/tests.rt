@@ -1,6 +1,6 @@
 //! Files and words by the rules of the format. Expected lines stand with a bar between them, expected words with a comma.
 
-use crate::{Lines, Words, word_addr};
+use crate::{Lines, Part, Words, word_addr};
 use rc_base::Addr;
 
 /// Whether the file has just these lines, numbered from 1.
@@ -54,12 +54,12 @@ fn has_words(file: &[u8], wanted: &[u8]) -> bool {
     };
     let mut words = line.words();
     for word in wanted.split(|b| *b == b',') {
-        match words.next() {
+        match words.next_word() {
             Some(found) if found == word => {}
             _ => return false,
         }
     }
-    words.next().is_none()
+    words.next_word().is_none()
 }
 
 #[test]
@@ -71,8 +71,8 @@ fn cuts_words_at_blanks(rt: HostRuntime) {
     );
     assert!(rt; has_words(b"a\r", b"a\r"), "a return in the last line");
     assert!(rt; has_words(b"\x00 \xff", b"\x00,\xff"), "bytes of no text");
-    assert!(rt; Words::new(b" \t ").next().is_none(), "blanks alone");
-    assert!(rt; Words::new(b"").next().is_none(), "nothing");
+    assert!(rt; Words::new(b" \t ").next_word().is_none(), "blanks alone");
+    assert!(rt; Words::new(b"").next_word().is_none(), "nothing");
 }
 
 /// Whether the first line of the file has no indent.
@@ -90,6 +90,62 @@ fn tells_an_indent(rt: HostRuntime) {
     assert!(rt; begins_flush(b"\r"), "a return is no blank");
     assert!(rt; !begins_flush(b" ip route\n"), "a space");
     assert!(rt; !begins_flush(b"\tip route\n"), "a tab");
+}
+
+/// Whether the lines of the file have just these parts.
+fn has_parts(file: &[u8], wanted: &[Part]) -> bool {
+    let mut lines = Lines::new(file);
+    for part in wanted {
+        match lines.next() {
+            Some(line) if line.part() == *part => {}
+            _ => return false,
+        }
+    }
+    lines.next().is_none()
+}
+
+#[test]
+fn passes_over_banners(rt: HostRuntime) {
+    assert!(rt;
+        has_parts(
+            b"banner motd ^C\r\n a\r\nb ^C c\r\nend\r\n",
+            &[Part::Banner, Part::InBanner, Part::InBanner, Part::Plain]
+        ),
+        "closed on a later line"
+    );
+    assert!(rt;
+        has_parts(b"banner motd #hi#\nend\n", &[Part::Banner, Part::Plain]),
+        "closed on its own line"
+    );
+    assert!(rt;
+        has_parts(
+            b"banner motd #\nbanner exec x\n",
+            &[Part::OpenBanner, Part::InBanner]
+        ),
+        "closed by no line"
+    );
+    assert!(rt;
+        has_parts(b"banner motd\nend\n", &[Part::ShortBanner, Part::Plain]),
+        "without a delimiter"
+    );
+}
+
+/// Whether the first line of the file is too long.
+fn begins_too_long(file: &[u8]) -> bool {
+    match Lines::new(file).next() {
+        Some(line) => line.is_too_long(),
+        None => false,
+    }
+}
+
+#[test]
+fn tells_a_long_line(rt: HostRuntime) {
+    let mut file = [b'a'; 4100];
+    file[4096] = b'\r';
+    file[4097] = b'\n';
+    assert!(rt; !begins_too_long(&file), "4,096 bytes, and an end");
+    file[4096] = b'a';
+    assert!(rt; begins_too_long(&file), "4,097 bytes, and an end");
 }
 
 #[test]

@@ -1,0 +1,3 @@
+pub mod NamedLaws
+mod LawfulLaws
+pub mod OrderLaws

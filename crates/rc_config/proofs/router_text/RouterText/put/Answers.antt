@@ -1,0 +1,5 @@
+use Rattle.rc_config.proofs.LawfulLaws.{put-lawful}
+use Rattle.rc_config.proofs.router_text.RouterText.put.Goals as goal
+
+pub returns-clause-lawful : goal.returns-clause-lawful
+returns-clause-lawful c = put-lawful _ c.args.self c.args.command c.put_command.ensures

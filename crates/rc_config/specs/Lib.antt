@@ -1,0 +1,9 @@
+pub mod MaskedAddr
+pub mod Named
+pub mod IfType
+pub mod Interface
+pub mod Update
+pub mod Members
+pub mod Lawful
+pub mod Rows
+pub mod Place

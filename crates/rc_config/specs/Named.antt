@@ -1,0 +1,25 @@
+-- Values under names, as a list of names and values in the order of first mention.
+use Rattle.std.specs.Prelude.{ℕ, List, Option}
+use Rattle.std.specs.List.{position}
+use Rattle.std.specs.List.Sorted.{IsStrictlySortedBy}
+use Rattle.std.specs.Ordering.{nat_cmp}
+use Rattle.std.specs.Cmp.Lexicographic.{slice_cmp}
+use Rattle.std.specs.Map.{keys_of, lookup}
+use Rattle.indexmap.specs.IndexMap.{insert_entry}
+use Rattle.rc_base.specs.Name.{same_name}
+
+-- the value under a name
+abbrev pub named : {V : Type 0} → List (List ℕ × V) → List ℕ → Option V
+named entries name = lookup (same_name name) entries
+
+-- the place of a name
+abbrev pub place_of : {V : Type 0} → List (List ℕ × V) → List ℕ → Option ℕ
+place_of entries name = position (same_name name) (keys_of entries)
+
+-- the entries with a value under a name: a name that is there keeps its place, and a new one goes last
+abbrev pub with_value : {V : Type 0} → List (List ℕ × V) → List ℕ → V → List (List ℕ × V)
+with_value entries name value = insert_entry same_name entries name value
+
+-- the names rise in byte order
+abbrev pub AreNamesInOrder : {V : Type 0} → List (List ℕ × V) → Type 0
+AreNamesInOrder entries = IsStrictlySortedBy (slice_cmp nat_cmp) (keys_of entries)

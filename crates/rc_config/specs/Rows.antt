@@ -1,0 +1,111 @@
+-- Worked cases of the definitions, each by computation.
+use Rattle.std.specs.Prelude.{◌≡◌, ℕ, ◌+◌, ◌*◌, true, false, List, [], ◌∷◌, fold, Some, None, codes, refl}
+use Rattle.rc_config.specs.declared.command.Command.{Command}
+use Rattle.rc_config.specs.declared.command.Command.TheVariants.{Passed, Hostname, Interface, Address, Shutdown, Bandwidth}
+use Rattle.rc_config.specs.declared.if_type.IfType.TheVariants as types
+use Rattle.rc_config.specs.declared.interface.Interface.{Interface as Block}
+use Rattle.rc_config.specs.declared.network.Network.{Network}
+use Rattle.rc_config.specs.declared.router_text.RouterText.{RouterText}
+use Rattle.rc_config.specs.IfType.{type_of}
+use Rattle.rc_config.specs.Interface.{fresh, declared_addresses}
+use Rattle.rc_config.specs.MaskedAddr.{MaskedAddr}
+use Rattle.rc_config.specs.Members.{router_named, interface_named as interface_id}
+use Rattle.rc_config.specs.Update.{after, empty, interface_named}
+
+-- the model of a file whose lines say these commands
+abbrev file : List Command → RouterText
+file commands = fold after empty commands
+
+abbrev first : List ℕ
+first = codes "Ethernet0"
+
+abbrev second : List ℕ
+second = codes "Serial1"
+
+-- 10.0.0.n with a mask of length 24
+abbrev host : ℕ → MaskedAddr
+host n = record { addr = 10 * 16777216 + n; len = 24 }
+
+abbrev the_first : List Command → Block
+the_first commands = interface_named (file (Interface first 2 ∷ commands)) first
+
+-- a later `ip address` line without `secondary` replaces the primary address
+pub primary_replaced : the_first (Address first (host 1) false ∷ Address first (host 2) false ∷ []) ≡ record fresh { primary = Some (host 2) }
+primary_replaced = refl
+
+-- and leaves the secondary ones
+pub secondary_left : declared_addresses (the_first (Address first (host 1) false ∷ Address first (host 5) true ∷ Address first (host 2) false ∷ [])) ≡ host 2 ∷ host 5 ∷ []
+secondary_left = refl
+
+-- secondary addresses stand as written, the same one twice too
+pub secondary_appended : (the_first (Address first (host 9) true ∷ Address first (host 3) true ∷ Address first (host 9) true ∷ [])).secondary ≡ host 9 ∷ host 3 ∷ host 9 ∷ []
+secondary_appended = refl
+
+-- a secondary address makes no primary one
+pub no_primary : (the_first (Address first (host 9) true ∷ [])).primary ≡ None
+no_primary = refl
+
+-- the last of `shutdown` and `no shutdown` counts, and so does the last bandwidth
+pub up_again : the_first (Shutdown first true ∷ Bandwidth first 64 ∷ Shutdown first false ∷ Bandwidth first 128 ∷ []) ≡ record fresh { bandwidth = Some 128 }
+up_again = refl
+
+-- a known name opens its block again: the interface keeps its place and what its block says
+pub opened_again : (file (Interface first 2 ∷ Shutdown first true ∷ Interface second 4 ∷ Interface first 6 ∷ Bandwidth first 64 ∷ [])).interfaces
+    ≡ (first, record fresh { shutdown = true; bandwidth = Some 64 }) ∷ (second, fresh) ∷ []
+opened_again = refl
+
+-- a host name comes with its line, and a line that says nothing here changes nothing
+pub host_line : file (Passed ∷ Hostname (codes "r1") 2 ∷ Passed ∷ []) ≡ record { host = Some (record { name = codes "r1"; line = 2 }); interfaces = [] }
+host_line = refl
+
+-- the front of a name is its type, in just these letters, and a subinterface has its parent's
+pub front_is_type : type_of (codes "GigabitEthernet0/1") ≡ Some types.GigabitEthernet
+unfolding type_of
+front_is_type = refl
+
+pub type_of_parent : type_of (codes "GigabitEthernet0/1.20") ≡ Some types.GigabitEthernet
+unfolding type_of
+type_of_parent = refl
+
+pub hyphen_counts : type_of (codes "Port-channel7") ≡ Some types.PortChannel
+unfolding type_of
+hyphen_counts = refl
+
+pub no_digit_needed : type_of (codes "Vlan") ≡ Some types.Vlan
+unfolding type_of
+no_digit_needed = refl
+
+pub whole_front : type_of (codes "Ether0") ≡ None
+unfolding type_of
+whole_front = refl
+
+pub no_more_than_front : type_of (codes "FastEthernetX0") ≡ None
+unfolding type_of
+no_more_than_front = refl
+
+pub case_counts : type_of (codes "loopback0") ≡ None
+unfolding type_of
+case_counts = refl
+
+pub other_type : type_of (codes "Tunnel0") ≡ None
+unfolding type_of
+other_type = refl
+
+-- ids are places: routers in the network's order, interfaces in the order of declaration
+abbrev pair : Network
+pair = record { routers = (codes "r1", file (Interface first 1 ∷ [])) ∷ (codes "r2", file (Interface first 1 ∷ Interface second 2 ∷ [])) ∷ [] }
+
+pub router_place : router_named pair (codes "r2") ≡ Some 1
+router_place = refl
+
+pub no_router : router_named pair (codes "r") ≡ None
+no_router = refl
+
+pub interface_place : interface_id pair 1 second ≡ Some (record { router = 1; index = 1 })
+interface_place = refl
+
+pub no_interface : interface_id pair 0 second ≡ None
+no_interface = refl
+
+pub no_such_router : interface_id pair 2 first ≡ None
+no_such_router = refl

@@ -1,0 +1,109 @@
+//! Interfaces and their addresses.
+ghost use Rattle.std.specs.Prelude.{◌≡◌, IfOk};
+ghost use Rattle.std.specs.Option.{SomeIff};
+ghost use Rattle.rc_base.specs.Prefix.{prefix_at};
+ghost use Rattle.rc_config.specs.MaskedAddr.{IsMaskLen};
+
+use rc_base::{Addr, Items, Prefix};
+use std::alloc::{AllocError, Global};
+use std::marker::Model;
+
+/// An address of an interface with the length of its mask, from 1 to 32, seen as the record of the two.
+///
+/// The address is kept whole, its host bits too.
+#[derive(Clone, Copy, Debug, PartialEq, Eq)]
+pub struct IfAddr {
+    addr: Addr,
+    len: u8,
+}
+
+impl Model for IfAddr {
+    ghost use Rattle.rc_config.specs.MaskedAddr.{MaskedAddr, IsMaskLen};
+
+    ghost Value = { MaskedAddr };
+
+    ghost view = { λ a. record { addr = a.addr; len = a.len } };
+
+    ghost invariant = { λ a. IsMaskLen a.len };
+
+    ghost inverse = { λ a. record { addr = a.addr; len = a.len } };
+}
+
+impl IfAddr {
+    /// The address with a mask of this length, or `None` exactly where the length isn't from 1 to 32.
+    pub fn new(addr: Addr, len: u8) -> Option<IfAddr>
+        ensures { SomeIff result (IsMaskLen len) (record { addr = addr; len = len }) }
+    {
+        if len == 0 || len > 32 {
+            return None;
+        }
+        Some(IfAddr { addr, len })
+    }
+
+    /// The address.
+    pub fn addr(&self) -> Addr
+        ensures { result ≡ self.now.addr }
+    {
+        self.addr
+    }
+
+    /// The length of its mask, from 1 to 32.
+    pub fn len(&self) -> u8
+        ensures value { result ≡ self.now.len }
+        ensures range { IsMaskLen result }
+    {
+        self.len
+    }
+
+    /// The prefix that it makes connected: the address without its host bits, under its mask.
+    pub fn prefix(&self) -> Prefix
+        ensures { result ≡ prefix_at self.now.addr self.now.len }
+    {
+        Prefix::new(self.addr, self.len).unwrap()
+    }
+}
+
+/// What the block of an interface says.
+#[derive(Drop)]
+pub struct Interface {
+    /// The address of the last `ip address` line without `secondary`.
+    pub primary: Option<IfAddr>,
+    /// The secondary addresses as written, in order, the same one twice too.
+    pub secondary: Items<IfAddr>,
+    /// Whether the last of the lines `shutdown` and `no shutdown` is `shutdown`.
+    pub shutdown: bool,
+    /// The bandwidth that the block sets, from 1 to 10,000,000 kbit/s.
+    pub bandwidth: Option<u32>,
+}
+
+impl Interface {
+    ghost use Rattle.rc_config.specs.Interface.{fresh, with_address};
+
+    /// An interface with no line in its block. It takes no memory.
+    pub fn new(alloc: Global) -> Interface
+        ensures { result ≡ fresh }
+    {
+        Interface {
+            primary: None,
+            secondary: Items::new(alloc),
+            shutdown: false,
+            bandwidth: None,
+        }
+    }
+
+    /// The interface with one more secondary address, or with this primary address in place of any other.
+    pub(crate) fn with_address(
+        mut self,
+        address: IfAddr,
+        secondary: bool,
+    ) -> Result<Interface, AllocError>
+        ensures { IfOk result (λ i. i ≡ with_address self address secondary) }
+    {
+        if secondary {
+            self.secondary.push(address)?;
+        } else {
+            self.primary = Some(address);
+        }
+        Ok(self)
+    }
+}

@@ -1,0 +1,24 @@
+//! The model that the lines of a configuration make: a file's host name and interfaces, and the network of all files.
+//!
+//! It stands on the names and addresses of rc_base, and on the map of indexmap. The layer above knows a file's model as
+//! what `after` makes of its commands one by one, a map as its list of names and values in the order of first mention,
+//! and a router or an interface by its place in such a list.
+#![tactic(auto)]
+
+mod command;
+mod context;
+mod if_type;
+mod interface;
+mod named;
+mod network;
+mod router_text;
+#[cfg(test)]
+mod tests;
+
+pub use command::Command;
+pub use context::{Context, Place};
+pub use if_type::{IfType, type_of_name};
+pub use interface::{IfAddr, Interface};
+pub use named::Named;
+pub use network::Network;
+pub use router_text::{HostLine, RouterText};

@@ -1,0 +1,66 @@
+-- The rows of each form: what a line of it says, by its words behind the opening. A line that fits no row is BadValue.
+use Rattle.std.specs.Prelude.{ℕ, Bool, true, false, ◌&&◌, ◌||◌, ◌==◌, nat_lt, List, [], ◌∷◌, Option, Some, None, Result, Ok, Err, if◌then◌else◌, is_some, is_none, codes}
+use Rattle.std.specs.List.{list_all}
+use Rattle.std.specs.Str.{bytes_eq}
+use Rattle.std.specs.Char.{is_ascii_alphabetic, is_ascii_alphanumeric}
+use Rattle.rc_base.specs.Name.{is_name}
+use Rattle.rc_config.specs.IfType.{type_of}
+use Rattle.rc_config.specs.declared.command.Command.{Command}
+use Rattle.rc_config.specs.declared.command.Command.TheVariants as command
+use Rattle.rc_config.specs.declared.router_text.RouterText.{RouterText}
+use Rattle.rc_openings.specs.Values.{number_within, address_of, mask_length_of}
+use Rattle.rc_openings.specs.declared.reading.LineRefusal.{LineRefusal}
+use Rattle.rc_openings.specs.declared.reading.LineRefusal.TheVariants.{Unsupported, BadValue}
+
+abbrev pub Answer : Type 0
+Answer = Result Command LineRefusal
+
+-- letters, digits, dash, underscore and dot
+abbrev pub is_host_byte : ℕ → Bool
+is_host_byte b = is_ascii_alphanumeric b || (b == 45) || (b == 95) || (b == 46)
+
+abbrev pub is_host_name : List ℕ → Bool
+is_host_name text = is_name text && list_all is_host_byte text
+
+-- `hostname NAME`; a second one is refused
+abbrev pub hostname : RouterText → ℕ → List (List ℕ) → Answer
+hostname file line (name ∷ []) = if is_host_name name && is_none file.host then Ok (command.Hostname name line) else Err BadValue
+hostname file line _ = Err BadValue
+
+abbrev pub begins_with_letter : List ℕ → Bool
+begins_with_letter [] = false
+begins_with_letter (b ∷ bs) = is_ascii_alphabetic b
+
+abbrev pub is_interface_name : List ℕ → Bool
+is_interface_name text = is_name text && begins_with_letter text
+
+-- `interface IF`
+abbrev pub interface : ℕ → List (List ℕ) → Answer
+interface line (name ∷ []) = if is_interface_name name then Ok (command.Interface name line) else Err BadValue
+interface line _ = Err BadValue
+
+-- an address and a mask of length 1 to 32, in an interface of a type that may have addresses; in any other it isn't modelled
+abbrev pub address_in : List ℕ → Bool → Option ℕ → Option ℕ → Answer
+address_in owner secondary (Some a) (Some len) =
+    if nat_lt 0 len then (if is_some (type_of owner) then Ok (command.Address owner (record { addr = a; len = len }) secondary) else Err Unsupported) else Err BadValue
+address_in owner secondary _ _ = Err BadValue
+
+-- `ip address A M [secondary]`
+abbrev pub ip_address : List ℕ → List (List ℕ) → Answer
+ip_address owner (a ∷ m ∷ []) = address_in owner false (address_of a) (mask_length_of m)
+ip_address owner (a ∷ m ∷ s ∷ []) = if bytes_eq s (codes "secondary") then address_in owner true (address_of a) (mask_length_of m) else Err BadValue
+ip_address owner _ = Err BadValue
+
+-- `shutdown`, `no shutdown`
+abbrev pub shutdown : List ℕ → Bool → List (List ℕ) → Answer
+shutdown owner down [] = Ok (command.Shutdown owner down)
+shutdown owner down (w ∷ ws) = Err BadValue
+
+abbrev pub kbits_in : List ℕ → Option ℕ → Answer
+kbits_in owner (Some kbits) = Ok (command.Bandwidth owner kbits)
+kbits_in owner None = Err BadValue
+
+-- `bandwidth N`, from 1 to 10,000,000 kbit/s
+abbrev pub bandwidth : List ℕ → List (List ℕ) → Answer
+bandwidth owner (n ∷ []) = kbits_in owner (number_within 1 10000000 n)
+bandwidth owner _ = Err BadValue

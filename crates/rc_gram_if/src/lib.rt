@@ -1,0 +1,13 @@
+//! The grammar of what stands outside every other grammar: host names, interfaces and what their blocks say.
+//!
+//! It stands on the openings of lines, the lines of a file and the model. The layer above knows that each line in each
+//! block is one command, is passed over, or has one refusal, as the tables say, and that each command is in range.
+#![tactic(auto)]
+
+mod reading;
+mod rows;
+
+pub use reading::read_line;
+
+#[cfg(test)]
+mod tests;

@@ -1,0 +1,72 @@
+//! One line where it stands.
+ghost use Rattle.std.specs.Prelude.{◌≡◌, IfOk};
+ghost use Rattle.rc_openings.specs.Words.{words_left, words_of};
+ghost use Rattle.rc_config.specs.Lawful.{IsInRange};
+ghost use Rattle.rc_gram_if.specs.Reading.{Says, says, row_answer};
+
+use crate::rows::{bandwidth, hostname, interface, ip_address, shutdown};
+use rc_config::{Command, Context, Place, RouterText};
+use rc_lines::Line;
+use rc_openings::{Form, LineRefusal, Verdict, Words, judged, unopened};
+
+/// What a line says where it stands: a command, or why it is refused.
+///
+/// It errs exactly where the definition of its openings and rows does, and takes no memory.
+pub fn read_line(line: &Line, context: Context) -> Result<Command, LineRefusal>
+    // The opening with most words decides.
+    ensures decided { Says context.entry.place context.entry.file.now line.now.number (words_of line.now.text) result }
+    // So each line says one thing.
+    ensures exact { result ≡ says context.entry.place context.entry.file.now line.now.number (words_of line.now.text) }
+    // An address goes to an interface of a type that may have one, and values are in their ranges.
+    ensures in_range { IfOk result IsInRange }
+{
+    let Context { place, file } = context;
+    read_words(line.number(), line.words(), &place, file)
+}
+
+#[tactic(auto, unfolding(rc_openings::specs::Words::words_of))]
+fn read_words(
+    number: u64,
+    words: Words,
+    place: &Place,
+    file: &RouterText,
+) -> Result<Command, LineRefusal>
+    ensures decided { Says place.now file.now number (words_left words.entry) result }
+    ensures in_range { IfOk result IsInRange }
+{
+    match place.block().decide(words) {
+        None => Err(unopened(words)),
+        Some(opening) => match opening.verdict {
+            Verdict::Ignored => Ok(Command::Passed),
+            Verdict::Refused => Err(LineRefusal::Unsupported),
+            Verdict::Later(_) => Err(LineRefusal::Unsupported),
+            Verdict::Form(form) => judged(
+                read_form(form, number, words, place, file),
+                opening.behind(words),
+                Words::new(b""),
+            ),
+        },
+    }
+}
+
+/// The answer of the rows of a form.
+fn read_form(
+    form: Form,
+    number: u64,
+    words: Words,
+    place: &Place,
+    file: &RouterText,
+) -> Result<Command, LineRefusal>
+    ensures row { result ≡ row_answer form place.now file.now number (words_left words.entry) }
+    ensures in_range { IfOk result IsInRange }
+{
+    match (form, *place) {
+        (Form::Hostname, _) => hostname(file, number, words.skip(1)),
+        (Form::Interface, _) => interface(number, words.skip(1)),
+        (Form::IpAddress, Place::Interface(owner)) => ip_address(owner, words.skip(2)),
+        (Form::Shutdown, Place::Interface(owner)) => shutdown(owner, true, words.skip(1)),
+        (Form::NoShutdown, Place::Interface(owner)) => shutdown(owner, false, words.skip(2)),
+        (Form::Bandwidth, Place::Interface(owner)) => bandwidth(owner, words.skip(1)),
+        _ => Err(LineRefusal::BadValue),
+    }
+}

@@ -1,0 +1,2 @@
+mod FewLaws
+mod Refused

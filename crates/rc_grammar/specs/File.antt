@@ -1,0 +1,110 @@
+-- A file: its lines in order, each read where it stands, up to the first refusal.
+use Rattle.std.specs.Prelude.{◌≡◌, ℕ, ◌==◌, Bool, true, false, ◌&&◌, nat_le, if◌then◌else◌, List, [], ◌∷◌, length, Option, Some, None, Result, Ok, Err, is_none, is_some}
+use Rattle.rc_openings.specs.Words.{words_of}
+use Rattle.rc_openings.specs.declared.reading.LineRefusal.{LineRefusal}
+use Rattle.rc_openings.specs.declared.reading.LineRefusal.TheVariants.{BadValue}
+use Rattle.rc_lines.specs.Banners.{indent_of}
+use Rattle.rc_lines.specs.Lines.{TextLine, lines_of, is_too_long}
+use Rattle.rc_lines.specs.declared.banner.Part.{Part}
+use Rattle.rc_lines.specs.declared.banner.Part.TheVariants as part
+use Rattle.rc_config.specs.Named.{named}
+use Rattle.rc_config.specs.Update.{after, empty}
+use Rattle.rc_config.specs.declared.command.Command.{Command}
+use Rattle.rc_config.specs.declared.command.Command.TheVariants as command
+use Rattle.rc_config.specs.declared.context.Place.{Place}
+use Rattle.rc_config.specs.declared.context.Place.TheVariants as place
+use Rattle.rc_config.specs.declared.router_text.RouterText.{RouterText}
+use Rattle.rc_gram_if.specs.Reading.{says}
+use Rattle.rc_grammar.specs.declared.reading.Reading.{Reading}
+use Rattle.rc_grammar.specs.declared.refusal.FileCause.{FileCause}
+use Rattle.rc_grammar.specs.declared.refusal.FileCause.TheVariants.{Line, LineTooLong, NoHostName, OpenBanner, TooManyInterfaces}
+use Rattle.rc_grammar.specs.declared.refusal.FileRefusal.{FileRefusal}
+use Rattle.rc_grammar.specs.declared.refusal.ReadError.{ReadError}
+use Rattle.rc_grammar.specs.declared.refusal.ReadError.TheVariants as error
+
+-- no words, or a first byte `!`: such a line is passed over, and closes no block
+abbrev pub is_passed : List (List ℕ) → Bool
+is_passed [] = true
+is_passed ([] ∷ ws) = false
+is_passed ((b ∷ bs) ∷ ws) = b == 33
+
+-- a line without indent stands in the global block, and any other in the open one
+abbrev pub place_at : Place → List ℕ → Place
+place_at open' text = if indent_of text == 0 then place.Global else open'
+
+-- The block that is open after a command: a line without indent closes the open block, `interface` opens one, and a line
+-- without indent that is passed over opens one whose lines are all passed over.
+abbrev pub open_after : Place → Command → Place
+open_after place.Global (command.Interface name line) = place.Interface name
+open_after place.Global command.Passed = place.Ignored
+open_after place.Global _ = place.Closed
+open_after at _ = at
+
+-- the interface that a command names
+abbrev pub interface_of : Command → Option (List ℕ)
+interface_of command.Passed = None
+interface_of (command.Hostname name line) = None
+interface_of (command.Interface name line) = Some name
+interface_of (command.Address name address secondary) = Some name
+interface_of (command.Shutdown name down) = Some name
+interface_of (command.Bandwidth name kbits) = Some name
+
+-- a file has at most 256 interfaces
+abbrev pub is_one_too_many : RouterText → Option (List ℕ) → Bool
+is_one_too_many file None = false
+is_one_too_many file (Some name) = is_none (named file.interfaces name) && nat_le 256 (length file.interfaces)
+
+abbrev pub refused : {A : Type 0} → ℕ → FileCause → Result A FileRefusal
+refused line cause = Err (record { line = line; cause = cause })
+
+abbrev pub with_command : ℕ → Reading → Place → Command → Result Reading FileRefusal
+with_command number r at m = if is_one_too_many r.file (interface_of m) then refused number TooManyInterfaces else Ok (record { file = after r.file m; place = open_after at m })
+
+abbrev pub with_answer : ℕ → Reading → Place → Result Command LineRefusal → Result Reading FileRefusal
+with_answer number r at (Err refusal) = refused number (Line refusal)
+with_answer number r at (Ok m) = with_command number r at m
+
+abbrev pub with_text : Reading → TextLine → Result Reading FileRefusal
+with_text r l = if is_passed (words_of l.text) then Ok r else with_answer l.number r (place_at r.place l.text) (says (place_at r.place l.text) r.file l.number (words_of l.text))
+
+-- a line of a banner says nothing, and the first one closes the open block
+abbrev pub by_part : Reading → TextLine → Part → Result Reading FileRefusal
+by_part r l part.Plain = with_text r l
+by_part r l part.InBanner = Ok r
+by_part r l part.Banner = Ok (record r { place = place.Closed })
+by_part r l part.ShortBanner = refused l.number (Line BadValue)
+by_part r l part.OpenBanner = refused l.number OpenBanner
+
+-- one line more; its length is tested first, that of a line which is passed over too
+unfoldable pub step : Reading → TextLine → Result Reading FileRefusal
+step r l = if is_too_long l.text then refused l.number LineTooLong else by_part r l l.part
+
+-- a line, unless an earlier one was refused
+abbrev pub with_line : Result Reading FileRefusal → TextLine → Result Reading FileRefusal
+with_line (Err refusal) line = Err refusal
+with_line (Ok reading) line = step reading line
+
+abbrev pub with_lines : Result Reading FileRefusal → List TextLine → Result Reading FileRefusal
+with_lines so_far [] = so_far
+with_lines so_far (line ∷ lines) = with_lines (with_line so_far line) lines
+
+abbrev pub start : Reading
+start = record { file = empty; place = place.Closed }
+
+-- a file names its host
+abbrev pub with_host : Result Reading FileRefusal → Result RouterText FileRefusal
+with_host (Err refusal) = Err refusal
+with_host (Ok reading) = if is_some reading.file.host then Ok reading.file else refused 0 NoHostName
+
+-- the model of a file, or its first refusal: of the least line, then of the host name
+unfoldable pub file_of : List ℕ → Result RouterText FileRefusal
+file_of bytes = with_host (with_lines (Ok start) (lines_of bytes))
+
+-- what a call gave is this, unless memory ran out
+abbrev pub Fails : {B : Type 0} → ReadError → Result B FileRefusal → Type 0
+Fails error.Memory read = Unit {0}
+Fails (error.Refused refusal) read = read ≡ Err refusal
+
+abbrev pub Gives : {B : Type 0} → Result B ReadError → Result B FileRefusal → Type 0
+Gives (Ok x) read = read ≡ Ok x
+Gives (Err e) read = Fails e read

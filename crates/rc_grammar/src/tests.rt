@@ -1,0 +1,186 @@
+//! Whole files.
+use crate::{FileCause, FileRefusal, ReadError, read_file};
+use rc_base::Name;
+use rc_openings::LineRefusal;
+use std::alloc::{AllocError, Global};
+use std::process::Abort;
+use std::test::Fail;
+
+const RUNNING: &[u8] = b"Building configuration...
+
+Current configuration : 1492 bytes
+!
+version 15.7
+no service password-encryption
+!
+hostname R1
+!
+enable secret 5 $1$abcd
+ip cef
+crypto pki certificate chain self
+ certificate self-signed 01
+  30820240 308201A9
+  \tquit
+!
+interface Embedded-Service-Engine0/0
+ no ip address
+ shutdown
+!
+interface GigabitEthernet0/0
+ description LAN
+ ip address 10.0.0.1 255.255.255.0
+ ip address 10.0.0.2 255.255.255.0
+ ip address 10.0.1.1 255.255.255.0 secondary
+ duplex auto
+!
+no ip http server
+banner motd ^C
+interface text in a banner
+^C
+line con 0
+line vty 0 4
+ transport input ssh
+!
+interface GigabitEthernet0/0
+ no shutdown
+!
+end
+";
+
+#[test]
+fn a_running_configuration(rt: HostRuntime) -> Result<(), Fail> {
+    let file = read_file(rt.alloc(), RUNNING).ok().ok_or("refused")?;
+    let host = file.host.ok_or("no host name")?;
+    assert_eq!(rt; host.name.as_bytes(), b"R1".as_slice());
+    assert_eq!(rt; host.line, 8);
+    assert_eq!(rt; file.interfaces.len(), 2);
+    let name = Name::new(b"GigabitEthernet0/0").ok_or("name")?;
+    let interface = file.interfaces.get(&name).ok_or("interface")?;
+    let primary = interface.primary.ok_or("address")?;
+    assert_eq!(rt; primary.addr().bits(), 0x0a00_0002);
+    assert_eq!(rt; interface.secondary.len(), 1);
+    assert!(rt; !interface.shutdown);
+    Ok(())
+}
+
+fn check(rt: &impl Abort, alloc: Global, text: &[u8], line: u64, cause: FileCause) {
+    let refusal = FileRefusal { line, cause };
+    let found = read_file(alloc, text);
+    assert_eq!(rt; found.err(), Some(ReadError::Refused(refusal)));
+}
+
+#[test]
+fn the_least_line_is_refused(rt: HostRuntime) {
+    let alloc = rt.alloc();
+    let unknown = FileCause::Line(LineRefusal::Unknown);
+    let unsupported = FileCause::Line(LineRefusal::Unsupported);
+    let bad = FileCause::Line(LineRefusal::BadValue);
+    let out_of_place = FileCause::Line(LineRefusal::OutOfPlace);
+    check(&rt, alloc, b"", 0, FileCause::NoHostName);
+    check(
+        &rt,
+        alloc,
+        b"frobnicate\nhostname X\nfrobnicate",
+        1,
+        unknown,
+    );
+    check(&rt, alloc, b"hostname X\nhostname X", 2, bad);
+    check(&rt, alloc, b"hostname X\n shutdown", 2, out_of_place);
+    check(
+        &rt,
+        alloc,
+        b"interface Serial0\n!\n\n ip nat inside",
+        4,
+        unsupported,
+    );
+    check(
+        &rt,
+        alloc,
+        b"interface Serial0\nip cef\n shutdown\n!",
+        0,
+        FileCause::NoHostName,
+    );
+    check(
+        &rt,
+        alloc,
+        b"interface Serial0\nhostname X\n shutdown",
+        3,
+        out_of_place,
+    );
+}
+
+#[test]
+fn banners(rt: HostRuntime) {
+    let alloc = rt.alloc();
+    let bad = FileCause::Line(LineRefusal::BadValue);
+    let out_of_place = FileCause::Line(LineRefusal::OutOfPlace);
+    check(&rt, alloc, b"banner motd\n", 1, bad);
+    check(
+        &rt,
+        alloc,
+        b"hostname X\nbanner motd #\nfrobnicate",
+        2,
+        FileCause::OpenBanner,
+    );
+    check(
+        &rt,
+        alloc,
+        b"banner motd #\nfrobnicate\n#\n",
+        0,
+        FileCause::NoHostName,
+    );
+    check(
+        &rt,
+        alloc,
+        b"interface Serial0\nbanner exec xax\n shutdown",
+        3,
+        out_of_place,
+    );
+}
+
+/// A host name, and then a piece so many times.
+fn repeated(alloc: Global, front: &[u8], piece: &[u8], times: u32) -> Result<Vec<u8>, AllocError> {
+    let mut text = Vec::from_slice(alloc, front)?;
+    for _ in 0..times {
+        text.extend_from_slice(piece)?;
+    }
+    Ok(text)
+}
+
+#[test]
+fn long_lines(rt: HostRuntime) -> Result<(), Fail> {
+    let alloc = rt.alloc();
+    let most = repeated(alloc, b"banner motd #\n", b"!", 4096)?;
+    check(&rt, alloc, most.as_slice(), 1, FileCause::OpenBanner);
+    let over = repeated(alloc, b"banner motd #\n#\n", b"!", 4097)?;
+    check(&rt, alloc, over.as_slice(), 3, FileCause::LineTooLong);
+    let words = repeated(alloc, b"interface Serial0\n description", b" x", 2000)?;
+    check(&rt, alloc, words.as_slice(), 0, FileCause::NoHostName);
+    Ok(())
+}
+
+fn with_interfaces(alloc: Global, count: u32) -> Result<Vec<u8>, AllocError> {
+    let mut text = Vec::from_slice(alloc, b"hostname X\n")?;
+    for number in 0..count {
+        let line = format!(in alloc; "interface Serial{number}\n")?;
+        text.extend_from_slice(line.as_str().as_bytes())?;
+    }
+    text.extend_from_slice(b"interface Serial0\n")?;
+    Ok(text)
+}
+
+#[test]
+fn many_interfaces(rt: HostRuntime) -> Result<(), Fail> {
+    let most = with_interfaces(rt.alloc(), 256)?;
+    assert!(rt; read_file(rt.alloc(), most.as_slice()).is_ok());
+    let over = with_interfaces(rt.alloc(), 257)?;
+    check(
+        &rt,
+        rt.alloc(),
+        over.as_slice(),
+        258,
+        FileCause::TooManyInterfaces,
+    );
+    assert_eq!(rt; FileCause::TooManyInterfaces.code(), 12);
+    Ok(())
+}

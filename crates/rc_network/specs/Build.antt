@@ -1,0 +1,52 @@
+-- The network of the models of files, in the order of their files' names.
+use Rattle.std.specs.Prelude.{◌≡◌, ℕ, Bool, List, [], ◌∷◌, ◌++◌, map, Option, Some, None, Result, Ok, Err, if◌then◌else◌, is_some, IsPermutation}
+use Rattle.std.specs.Option.{option_map, option_map_or}
+use Rattle.rc_config.specs.Named.{named, AreNamesInOrder}
+use Rattle.rc_config.specs.declared.network.Network.{Network}
+use Rattle.rc_config.specs.declared.router_text.RouterText.{RouterText}
+use Rattle.rc_network.specs.declared.refusal.BuildError.{BuildError}
+use Rattle.rc_network.specs.declared.refusal.BuildError.TheVariants as error
+use Rattle.rc_network.specs.declared.refusal.NetCause.TheVariants.{TwiceNamed}
+use Rattle.rc_network.specs.declared.refusal.NetRefusal.{NetRefusal}
+use Rattle.rc_network.specs.declared.refusal.NetRefusal.TheVariants.{InFile}
+
+-- the name of a file, and its model
+abbrev pub Model : Type 0
+Model = List ℕ × RouterText
+
+-- the host name of a model, and the line that gives it
+abbrev pub host_of : RouterText → List ℕ
+host_of r = option_map_or (λ h. h.name) r.host []
+
+abbrev pub host_line : RouterText → ℕ
+host_line r = option_map_or (λ h. h.line) r.host 0
+
+-- a model under its host name
+abbrev pub under_host : Model → List ℕ × RouterText
+under_host m = (host_of m.1, m.1)
+
+-- the first model whose host name is that of an earlier one
+abbrev pub first_twice : List (List ℕ × RouterText) → List Model → Option Model
+first_twice earlier [] = None
+first_twice earlier (m ∷ ms) = if is_some (named earlier (host_of m.1)) then Some m else first_twice (earlier ++ under_host m ∷ []) ms
+
+-- it is refused at its `hostname` line
+abbrev pub twice_refusal : Model → NetRefusal
+twice_refusal m = InFile m.0 (host_line m.1) TwiceNamed
+
+abbrev pub twice_from : List (List ℕ × RouterText) → List Model → Option NetRefusal
+twice_from earlier models = option_map twice_refusal (first_twice earlier models)
+
+abbrev pub twice : List Model → Option NetRefusal
+twice models = twice_from [] models
+
+-- the models under their host names, in byte order of these
+pub record IsNetworkOf (models : List Model) (net : Network) : Type 0 where
+  pub same : IsPermutation (map under_host models) net.routers
+  pub in_order : AreNamesInOrder net.routers
+
+-- what a call gave is the network of the models, or the refusal of the first host name that is there already; unless memory ran out
+abbrev pub IsBuilt : List Model → Result Network BuildError → Type 0
+IsBuilt models (Ok net) = (twice models ≡ None) × IsNetworkOf models net
+IsBuilt models (Err error.Memory) = Unit {0}
+IsBuilt models (Err (error.Refused refusal)) = twice models ≡ Some refusal

@@ -1,0 +1,15 @@
+//! The network of the files of a folder.
+//!
+//! It stands on the model and on the models of files. The layer above knows the network of some models as these under
+//! their host names in byte order, or the first host name that is there already, with its file and line; and that the
+//! network of lawful models is lawful.
+#![tactic(auto)]
+
+mod building;
+mod refusal;
+
+pub use building::build;
+pub use refusal::{BuildError, NetCause, NetRefusal};
+
+#[cfg(test)]
+mod tests;

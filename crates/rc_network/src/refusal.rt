@@ -1,0 +1,49 @@
+//! Why a folder has no network.
+ghost use Rattle.std.specs.Prelude.{◌≡◌};
+
+use rc_base::FileName;
+use rc_grammar::FileCause;
+
+/// Why a file of a network is refused.
+#[derive(Clone, Copy, Debug, PartialEq, Eq)]
+pub enum NetCause {
+    /// The file is refused by itself.
+    File(FileCause),
+    /// Its host name is that of an earlier file.
+    TwiceNamed,
+    /// It has more than 1,048,576 bytes.
+    FileTooLong,
+}
+
+impl NetCause {
+    ghost use Rattle.rc_network.specs.Codes.{net_code};
+
+    /// The number that is printed.
+    pub fn code(self) -> u8
+        ensures { result ≡ net_code self }
+    {
+        match self {
+            NetCause::File(cause) => cause.code(),
+            NetCause::TwiceNamed => 8,
+            NetCause::FileTooLong => 11,
+        }
+    }
+}
+
+/// The first refusal of the files of a folder.
+#[derive(Debug, Drop)]
+pub enum NetRefusal {
+    /// The folder has more than 512 configurations.
+    TooManyFiles,
+    /// A file is refused: its name, the number of the line, or 0 for the file as a whole, and the cause.
+    InFile(FileName, u64, NetCause),
+}
+
+/// Why there is no network.
+#[derive(Debug, Drop)]
+pub enum BuildError {
+    /// A file is refused.
+    Refused(NetRefusal),
+    /// Memory ran out.
+    Memory,
+}

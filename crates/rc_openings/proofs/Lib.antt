@@ -1,0 +1,6 @@
+mod WordsLemmas
+mod DecisiveLemmas
+mod ValueLemmas
+pub mod ApartLemmas
+pub mod FrontLemmas
+pub mod ReadingLaws

@@ -1,0 +1,117 @@
+-- Lines and words with what they are, by computation.
+use Rattle.std.specs.Prelude.{◌≡◌, refl, ℕ, List, Option, Some, None, codes, option_map}
+use Rattle.rc_openings.specs.declared.block.Block.{Block}
+use Rattle.rc_openings.specs.declared.block.Block.TheVariants as block
+use Rattle.rc_openings.specs.declared.form.Form.TheVariants as form
+use Rattle.rc_openings.specs.declared.opening.Verdict.{Verdict}
+use Rattle.rc_openings.specs.declared.opening.Verdict.TheVariants.{Form, Later, Refused, Ignored}
+use Rattle.rc_openings.specs.declared.reading.LineRefusal.TheVariants.{Unknown, OutOfPlace}
+use Rattle.rc_openings.specs.Block.{rows_of}
+use Rattle.rc_openings.specs.Opening.{decisive_row}
+use Rattle.rc_openings.specs.Reading.{unopened}
+use Rattle.rc_openings.specs.Values.{number_of, number_within, address_of, mask_length, mask_length_of, prefix_of}
+use Rattle.rc_openings.specs.Words.{words_of}
+use Rattle.rc_openings.specs.GlobalOpenings.{global, global_forms, global_refused, global_ignored}
+use Rattle.rc_openings.specs.InterfaceOpenings.{interface, interface_forms, interface_refused, interface_ignored}
+use Rattle.rc_openings.specs.AclOpenings.{acl, acl_forms, acl_refused, acl_ignored}
+use Rattle.rc_openings.specs.RouteMapOpenings.{route_map, route_map_forms, route_map_refused, route_map_ignored}
+use Rattle.rc_openings.specs.OspfOpenings.{ospf, ospf_forms, ospf_refused, ospf_ignored}
+use Rattle.rc_openings.specs.BgpOpenings.{bgp, bgp_forms, bgp_refused, bgp_ignored}
+
+-- the line is decided by an opening with this verdict, or by none
+abbrev pub IsDecided : Block → List ℕ → Option Verdict → Type 0
+IsDecided kind line verdict = option_map (λ r. r.verdict) (decisive_row (rows_of kind) (words_of line)) ≡ verdict
+
+pub global_lines :
+    IsDecided block.Global (codes "hostname R1") (Some (Form form.Hostname))
+    × IsDecided block.Global (codes "interface GigabitEthernet0/0") (Some (Form form.Interface))
+    × IsDecided block.Global (codes "ip route 10.0.0.0 255.0.0.0 Null0") (Some (Later form.StaticRoute))
+    × IsDecided block.Global (codes "ip route vrf RED 10.0.0.0 255.0.0.0 Null0") (Some Refused)
+    × IsDecided block.Global (codes "no ip routing") (Some Refused)
+    × IsDecided block.Global (codes "no ip http server") (Some Ignored)
+    × IsDecided block.Global (codes "router rip") (Some Refused)
+    × IsDecided block.Global (codes "router bgp 65001") (Some (Later form.RouterBgp))
+    × IsDecided block.Global (codes "ip prefix-list X permit 10.0.0.0/8") (Some (Later form.PrefixList))
+    × IsDecided block.Global (codes "ip prefix-list X description y") (Some Ignored)
+    × IsDecided block.Global (codes "ip community-list expanded X permit .*") (Some Refused)
+    × IsDecided block.Global (codes "ip") None
+    × IsDecided block.Global (codes "shutdown") None
+unfolding decisive_row global global_forms global_refused global_ignored words_of
+global_lines = (refl, refl, refl, refl, refl, refl, refl, refl, refl, refl, refl, refl, refl)
+
+pub interface_lines :
+    IsDecided block.Interface (codes " ip address 10.0.0.1 255.0.0.0") (Some (Form form.IpAddress))
+    × IsDecided block.Interface (codes " ip address dhcp") (Some Refused)
+    × IsDecided block.Interface (codes " shutdown") (Some (Form form.Shutdown))
+    × IsDecided block.Interface (codes " no shutdown") (Some (Form form.NoShutdown))
+    × IsDecided block.Interface (codes " no keepalive") (Some Ignored)
+    × IsDecided block.Interface (codes " ip ospf cost 10") (Some (Later form.OspfCost))
+    × IsDecided block.Interface (codes " ip ospf priority 3") (Some Ignored)
+    × IsDecided block.Interface (codes " ip ospf authentication") (Some Refused)
+    × IsDecided block.Interface (codes " ip ospf 1 area 0") (Some (Later form.OspfArea))
+    × IsDecided block.Interface (codes " ip ospf network broadcast") (Some (Later form.OspfNetworkBroadcast))
+    × IsDecided block.Interface (codes " crypto map") (Some Refused)
+    × IsDecided block.Interface (codes " crypto") None
+unfolding decisive_row interface interface_forms interface_refused interface_ignored words_of
+interface_lines = (refl, refl, refl, refl, refl, refl, refl, refl, refl, refl, refl, refl)
+
+pub other_lines :
+    IsDecided block.Acl (codes " remark") (Some (Later form.Remark))
+    × IsDecided block.Acl (codes " dynamic X permit ip any any") (Some Refused)
+    × IsDecided block.RouteMap (codes " match ip address prefix-list X") (Some (Later form.MatchPrefixList))
+    × IsDecided block.RouteMap (codes " set metric-type internal") (Some Refused)
+    × IsDecided block.RouteMap (codes " set tag 3") (Some Ignored)
+    × IsDecided block.Ospf (codes " passive-interface default") (Some (Later form.PassiveInterfaceDefault))
+    × IsDecided block.Ospf (codes " redistribute rip") (Some Refused)
+    × IsDecided block.Bgp (codes " neighbor 10.0.0.1 activate") (Some (Later form.NeighborActivate))
+    × IsDecided block.Bgp (codes " neighbor 10.0.0.1 version 4") (Some Ignored)
+    × IsDecided block.Bgp (codes " neighbor 10.0.0.1") (Some Refused)
+    × IsDecided block.Bgp (codes " no bgp default ipv4-unicast") (Some Refused)
+    × IsDecided block.Bgp (codes " no synchronization") (Some Ignored)
+    × IsDecided block.Ignored (codes " anything at all") (Some Ignored)
+    × IsDecided block.Closed (codes " ip address 10.0.0.1 255.0.0.0") None
+unfolding decisive_row acl acl_forms acl_refused acl_ignored route_map route_map_forms route_map_refused route_map_ignored ospf ospf_forms ospf_refused ospf_ignored bgp bgp_forms bgp_refused bgp_ignored words_of
+other_lines = (refl, refl, refl, refl, refl, refl, refl, refl, refl, refl, refl, refl, refl, refl)
+
+-- forms of every block count, also those that are not read yet; openings that only ever refuse do not
+pub unopened_lines :
+    (unopened (words_of (codes "permit any")) ≡ OutOfPlace)
+    × (unopened (words_of (codes "hostname")) ≡ OutOfPlace)
+    × (unopened (words_of (codes "area 1 stub")) ≡ OutOfPlace)
+    × (unopened (words_of (codes "set origin")) ≡ OutOfPlace)
+    × (unopened (words_of (codes "neighbor 10.0.0.1 weight")) ≡ OutOfPlace)
+    × (unopened (words_of (codes "maximum-paths 2")) ≡ Unknown)
+    × (unopened (words_of (codes "address-family ipv4")) ≡ Unknown)
+    × (unopened (words_of (codes "version 15.7")) ≡ Unknown)
+unfolding global global_forms global_refused global_ignored interface interface_forms interface_refused interface_ignored acl acl_forms acl_refused acl_ignored route_map route_map_forms route_map_refused route_map_ignored ospf ospf_forms ospf_refused ospf_ignored bgp bgp_forms bgp_refused bgp_ignored words_of
+unopened_lines = (refl, refl, refl, refl, refl, refl, refl, refl)
+
+pub numbers :
+    (number_of (codes "007") ≡ Some 7)
+    × (number_of (codes "4294967295") ≡ Some 4294967295)
+    × (number_of (codes "4294967296") ≡ None)
+    × (number_of (codes "0000000001") ≡ Some 1)
+    × (number_of (codes "00000000001") ≡ None)
+    × (number_of (codes "-1") ≡ None)
+    × (number_of (codes "") ≡ None)
+    × (number_within 1 65535 (codes "0") ≡ None)
+    × (number_within 1 65535 (codes "65535") ≡ Some 65535)
+    × (number_within 1 65535 (codes "65536") ≡ None)
+numbers = (refl, refl, refl, refl, refl, refl, refl, refl, refl, refl)
+
+pub addresses :
+    (address_of (codes "10.0.0.1") ≡ Some 0x0a000001)
+    × (address_of (codes "010.000.0.001") ≡ Some 0x0a000001)
+    × (address_of (codes "10.0.0.256") ≡ None)
+    × (address_of (codes "10.0.0") ≡ None)
+    × (address_of (codes "10.0.0.1.") ≡ None)
+    × (mask_length_of (codes "255.255.254.0") ≡ Some 23)
+    × (mask_length_of (codes "0.0.0.0") ≡ Some 0)
+    × (mask_length_of (codes "255.0.255.0") ≡ None)
+    × (prefix_of (codes "10.1.2.3/08") ≡ Some (record { network = 0x0a000000; len = 8 }))
+    × (prefix_of (codes "10.1.2.3/32") ≡ Some (record { network = 0x0a010203; len = 32 }))
+    × (prefix_of (codes "10.1.2.3/33") ≡ None)
+    × (prefix_of (codes "10.1.2.3/8/8") ≡ None)
+    × (prefix_of (codes "10.1.2.3") ≡ None)
+unfolding mask_length
+addresses = (refl, refl, refl, refl, refl, refl, refl, refl, refl, refl, refl, refl, refl)

@@ -1,0 +1,66 @@
+-- The openings of a line with no indent.
+use Rattle.std.specs.Prelude.{List, [], ◌∷◌, ◌++◌, codes}
+use Rattle.rc_openings.specs.declared.form.Form.TheVariants.{Hostname, Interface, AccessList, StandardAccessList, ExtendedAccessList, PrefixList, CommunityList, StandardCommunityList, RouteMap, StaticRoute, RouterOspf, RouterBgp}
+use Rattle.rc_openings.specs.Opening.{Row, form, later, refused, ignored}
+
+-- with these begin the forms
+unfoldable pub global_forms : List Row
+global_forms =
+    form (codes "hostname") Hostname
+    ∷ form (codes "interface") Interface
+    ∷ later (codes "access-list") AccessList
+    ∷ later (codes "ip access-list standard") StandardAccessList
+    ∷ later (codes "ip access-list extended") ExtendedAccessList
+    ∷ later (codes "ip prefix-list") PrefixList
+    ∷ later (codes "ip community-list") CommunityList
+    ∷ later (codes "ip community-list standard") StandardCommunityList
+    ∷ later (codes "route-map") RouteMap
+    ∷ later (codes "ip route") StaticRoute
+    ∷ later (codes "router ospf") RouterOspf
+    ∷ later (codes "router bgp") RouterBgp
+    ∷ []
+
+-- with these begin lines whose meaning is not modelled
+unfoldable pub global_refused : List Row
+global_refused =
+    refused (codes "ip nat")
+    ∷ refused (codes "ip vrf")
+    ∷ refused (codes "vrf")
+    ∷ refused (codes "ip local")
+    ∷ refused (codes "ip default-network")
+    ∷ refused (codes "ip route vrf")
+    ∷ refused (codes "ip access-list")
+    ∷ refused (codes "ip community-list expanded")
+    ∷ refused (codes "router")
+    ∷ refused (codes "mpls")
+    ∷ refused (codes "track")
+    ∷ refused (codes "object-group")
+    ∷ refused (codes "time-range")
+    ∷ refused (codes "zone")
+    ∷ refused (codes "zone-pair")
+    ∷ refused (codes "ip inspect")
+    ∷ refused (codes "bridge")
+    ∷ refused (codes "no ip routing")
+    ∷ refused (codes "no ip classless")
+    ∷ []
+
+-- with these begin lines that do not matter
+unfoldable pub global_ignored : List Row
+global_ignored =
+    ignored (codes "") (codes "version service boot-start-marker boot-end-marker boot enable username line ntp sntp")
+    ++ ignored (codes "") (codes "snmp-server logging aaa clock memory memory-size mmi transceiver license redundancy archive")
+    ++ ignored (codes "") (codes "scheduler control-plane mgcp multilink tacacs tacacs-server radius radius-server alias")
+    ++ ignored (codes "") (codes "privilege cdp lldp spanning-tree vtp vlan crypto class-map policy-map parameter-map key ipv6")
+    ++ ignored (codes "") (codes "login security process exception parser file platform hw-module card controller voice")
+    ++ ignored (codes "") (codes "voice-card dial-peer diagnostic errdisable udld lacp port-channel mac arp call-home event flow")
+    ++ ignored (codes "") (codes "monitor subscriber kron netconf restconf wsma sdm switch transport no end exit")
+    ++ ignored (codes "") (codes "Building Current Using")
+    ++ ignored (codes "ip") (codes "cef http ssh scp ftp tftp domain domain-name domain-lookup name-server host forward-protocol")
+    ++ ignored (codes "ip") (codes "classless subnet-zero source-route tcp icmp options finger rcmd dhcp sla flow-export flow-cache")
+    ++ ignored (codes "ip") (codes "multicast-routing mroute pim radius tacacs bgp-community routing default-gateway as-path")
+    ++ ignored (codes "ip") (codes "extcommunity-list")
+    ++ ignored (codes "ip prefix-list *") (codes "description")
+    ++ ignored (codes "ip prefix-list") (codes "sequence-number")
+
+unfoldable pub global : List Row
+global = global_forms ++ global_refused ++ global_ignored

@@ -1,0 +1,13 @@
+pub mod Words
+pub mod Opening
+pub mod Apart
+pub mod GlobalOpenings
+pub mod InterfaceOpenings
+pub mod AclOpenings
+pub mod RouteMapOpenings
+pub mod OspfOpenings
+pub mod BgpOpenings
+pub mod Block
+pub mod Values
+pub mod Reading
+pub mod Examples

@@ -1,0 +1,82 @@
+-- Which opening decides a line.
+use Rattle.std.specs.Prelude.{◌≡◌, ℕ, ◌≤◌, Bool, true, false, ◌||◌, ◌&&◌, List, [], ◌∷◌, ◌++◌, length, nat_eq, nat_lt, if◌then◌else◌, codes, map, Contains, Option, Some, None}
+use Rattle.std.specs.Str.{bytes_eq}
+use Rattle.std.specs.List.{list_any}
+use Rattle.rc_openings.specs.declared.form.Form.{Form as FormKind}
+use Rattle.rc_openings.specs.declared.opening.Opening.{Opening}
+use Rattle.rc_openings.specs.declared.opening.Verdict.{Verdict}
+use Rattle.rc_openings.specs.declared.opening.Verdict.TheVariants.{Form, Later, Refused, Ignored}
+use Rattle.rc_openings.specs.Words.{words_of, is_blank}
+
+-- the words of an opening, and what it says of a line that begins with them
+pub record Row : Type 0 where
+  pub words : List (List ℕ)
+  pub verdict : Verdict
+
+-- what an opening of the program says
+abbrev pub row_of : Opening → Row
+row_of o = record { words = words_of o.text.now; verdict = o.verdict }
+
+-- the words with which a form begins
+abbrev pub form : List ℕ → FormKind → Row
+form text kind = record { words = words_of text; verdict = Form kind }
+
+-- the same of a form that is not read yet
+abbrev pub later : List ℕ → FormKind → Row
+later text kind = record { words = words_of text; verdict = Later kind }
+
+abbrev pub refused : List ℕ → Row
+refused text = record { words = words_of text; verdict = Refused }
+
+-- an opening for each word of a text, behind the words of a front
+abbrev pub ignored : List ℕ → List ℕ → List Row
+ignored front text = map (λ w. record { words = words_of front ++ w ∷ []; verdict = Ignored }) (words_of text)
+
+-- `*` stands for any one word
+abbrev pub stands_for : List ℕ → List ℕ → Bool
+stands_for token word = bytes_eq token (codes "*") || bytes_eq token word
+
+-- the line begins with the words of the opening
+abbrev pub begins_with : List (List ℕ) → List (List ℕ) → Bool
+begins_with line [] = true
+begins_with [] (t ∷ ts) = false
+begins_with (w ∷ ws) (t ∷ ts) = stands_for t w && begins_with ws ts
+
+-- the quick test: a text with the first byte b might begin with a word that stands for one with the first byte c
+abbrev pub could_begin : ℕ → ℕ → Bool
+could_begin b c = nat_eq b c || nat_eq b 42 || is_blank b
+
+-- of the rows with which the line begins, this one has the most words
+pub record IsDecisive (rows : List Row) (line : List (List ℕ)) (row : Row) : Type 0 where
+  pub member : Contains rows row
+  pub fits : begins_with line row.words ≡ true
+  pub most : (other : Row) → Contains rows other → begins_with line other.words ≡ true → length other.words ≤ length row.words
+
+abbrev pub NoneFits : List Row → List (List ℕ) → Type 0
+NoneFits rows line = (row : Row) → Contains rows row → begins_with line row.words ≡ false
+
+-- the decisive row, or none where none fits
+abbrev pub IsAnswer : List Row → List (List ℕ) → Option Row → Type 0
+IsAnswer rows line None = NoneFits rows line
+IsAnswer rows line (Some row) = IsDecisive rows line row
+
+-- the longer of a row and another one, if there is one
+abbrev pub longer : Row → Option Row → Row
+longer row None = row
+longer row (Some other) = if nat_lt (length row.words) (length other.words) then other else row
+
+-- the decisive row, computed
+unfoldable pub decisive_row : List Row → List (List ℕ) → Option Row
+decisive_row [] line = None
+decisive_row (row ∷ rows) line = if begins_with line row.words then Some (longer row (decisive_row rows line)) else decisive_row rows line
+
+-- a form, whether it is read already or not
+abbrev pub is_form_verdict : Verdict → Bool
+is_form_verdict (Form f) = true
+is_form_verdict (Later f) = true
+is_form_verdict Refused = false
+is_form_verdict Ignored = false
+
+-- the line begins with a form opening of these rows
+abbrev pub begins_form : List Row → List (List ℕ) → Bool
+begins_form rows line = list_any (λ r. is_form_verdict r.verdict && begins_with line r.words) rows

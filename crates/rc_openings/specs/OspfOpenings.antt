@@ -1,0 +1,43 @@
+-- The openings of a line under `router ospf`.
+use Rattle.std.specs.Prelude.{List, [], ◌∷◌, ◌++◌, codes}
+use Rattle.rc_openings.specs.declared.form.Form.TheVariants.{OspfRouterId, OspfNetwork, StubArea, PassiveInterface, NoPassiveInterface, PassiveInterfaceDefault, ReferenceBandwidth, OspfRedistributeConnected, OspfRedistributeStatic, OspfRedistributeBgp, DefaultInformationOriginate}
+use Rattle.rc_openings.specs.Opening.{Row, later, refused, ignored}
+
+-- with these begin the forms
+unfoldable pub ospf_forms : List Row
+ospf_forms =
+    later (codes "router-id") OspfRouterId
+    ∷ later (codes "network") OspfNetwork
+    ∷ later (codes "area * stub") StubArea
+    ∷ later (codes "passive-interface") PassiveInterface
+    ∷ later (codes "no passive-interface") NoPassiveInterface
+    ∷ later (codes "passive-interface default") PassiveInterfaceDefault
+    ∷ later (codes "auto-cost reference-bandwidth") ReferenceBandwidth
+    ∷ later (codes "redistribute connected") OspfRedistributeConnected
+    ∷ later (codes "redistribute static") OspfRedistributeStatic
+    ∷ later (codes "redistribute bgp") OspfRedistributeBgp
+    ∷ later (codes "default-information originate") DefaultInformationOriginate
+    ∷ []
+
+-- with these begin lines whose meaning is not modelled
+unfoldable pub ospf_refused : List Row
+ospf_refused =
+    refused (codes "area")
+    ∷ refused (codes "summary-address")
+    ∷ refused (codes "distance")
+    ∷ refused (codes "maximum-paths")
+    ∷ refused (codes "distribute-list")
+    ∷ refused (codes "neighbor")
+    ∷ refused (codes "max-metric")
+    ∷ refused (codes "default-metric")
+    ∷ refused (codes "redistribute")
+    ∷ refused (codes "default-information")
+    ∷ []
+
+-- with these begin lines that do not matter
+unfoldable pub ospf_ignored : List Row
+ospf_ignored =
+    ignored (codes "") (codes "log-adjacency-changes timers ispf nsf bfd max-lsa no exit")
+
+unfoldable pub ospf : List Row
+ospf = ospf_forms ++ ospf_refused ++ ospf_ignored

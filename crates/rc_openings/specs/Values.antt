@@ -1,0 +1,69 @@
+-- What a word says as a value.
+use Rattle.std.specs.Prelude.{ℕ, zero, suc, ◌+◌, ◌-◌, ◌*◌, ◌==◌, nat_lt, nat_le, ◌&&◌, if◌then◌else◌, List, [], ◌∷◌, length, Option, Some, None}
+use Rattle.std.specs.List.{slice_split}
+use Rattle.std.specs.Option.{option_and_then}
+use Rattle.std.specs.Char.{is_ascii_digit}
+use Rattle.rc_base.specs.Addr.{mask}
+use Rattle.rc_base.specs.Prefix.{Cidr, prefix_at}
+
+-- the number that decimal digits write, after those that made n
+abbrev pub digits_from : ℕ → List ℕ → Option ℕ
+digits_from n [] = Some n
+digits_from n (d ∷ ds) = if is_ascii_digit d then digits_from (10 * n + (d - 48)) ds else None
+
+abbrev pub at_most : ℕ → Option ℕ → Option ℕ
+at_most limit None = None
+at_most limit (Some n) = if nat_le n limit then Some n else None
+
+-- one to so many digits, whose number is at most the limit
+abbrev pub digits_up_to : ℕ → ℕ → List ℕ → Option ℕ
+digits_up_to most limit word = if nat_lt 0 (length word) && nat_le (length word) most then at_most limit (digits_from 0 word) else None
+
+-- one to ten digits, whose number fits 32 bits
+abbrev pub number_of : List ℕ → Option ℕ
+number_of word = digits_up_to 10 4294967295 word
+
+-- a number of a range, ends included
+abbrev pub number_within : ℕ → ℕ → List ℕ → Option ℕ
+number_within low high word = option_and_then (λ n. if nat_le low n && nat_le n high then Some n else None) (number_of word)
+
+-- one to three digits, at most 255
+abbrev pub octet : List ℕ → Option ℕ
+octet word = digits_up_to 3 255 word
+
+abbrev pub address_of_octets : Option ℕ → Option ℕ → Option ℕ → Option ℕ → Option ℕ
+address_of_octets (Some a) (Some b) (Some c) (Some d) = Some (((a * 256 + b) * 256 + c) * 256 + d)
+address_of_octets _ _ _ _ = None
+
+abbrev pub address_of_parts : List (List ℕ) → Option ℕ
+address_of_parts (a ∷ b ∷ c ∷ d ∷ []) = address_of_octets (octet a) (octet b) (octet c) (octet d)
+address_of_parts _ = None
+
+-- four octets with dots between them
+abbrev pub address_of : List ℕ → Option ℕ
+address_of word = address_of_parts (slice_split (λ b. b == 46) word)
+
+-- the greatest length up to n whose mask this is
+abbrev pub length_up_to : ℕ → ℕ → Option ℕ
+length_up_to zero m = if mask 0 == m then Some 0 else None
+length_up_to (suc n) m = if mask (suc n) == m then Some (suc n) else length_up_to n m
+
+-- the length of a mask whose ones are a front
+unfoldable pub mask_length : ℕ → Option ℕ
+mask_length m = length_up_to 32 m
+
+-- the length of the mask that a word is
+abbrev pub mask_length_of : List ℕ → Option ℕ
+mask_length_of word = option_and_then mask_length (address_of word)
+
+abbrev pub prefix_from : Option ℕ → Option ℕ → Option Cidr
+prefix_from (Some a) (Some len) = Some (prefix_at a len)
+prefix_from _ _ = None
+
+abbrev pub prefix_of_parts : List (List ℕ) → Option Cidr
+prefix_of_parts (a ∷ len ∷ []) = prefix_from (address_of a) (number_within 0 32 len)
+prefix_of_parts _ = None
+
+-- an address, a slash and a length: the prefix of this length that holds the address
+abbrev pub prefix_of : List ℕ → Option Cidr
+prefix_of word = prefix_of_parts (slice_split (λ b. b == 47) word)

@@ -1,0 +1,31 @@
+//! The words of a line, the openings that decide what it is, and the values that its words write.
+//!
+//! It stands on `rc_base`. The layer above may know that of the openings of its block with which a line begins, the
+//! one with most words decides it, that no two openings decide one line, and what each word is as a number, an
+//! address, a prefix or a mask; `FormRows` and `said_by` of its specs say what a line means, given the rows of its
+//! forms. No call here takes memory.
+#![tactic(auto)]
+
+mod acl;
+mod bgp;
+mod block;
+mod decide;
+mod form;
+mod global;
+mod interface;
+mod opening;
+mod ospf;
+mod reading;
+mod route_map;
+#[cfg(test)]
+mod tests;
+mod values;
+mod words;
+
+pub use block::{Block, form_has_front, front_decides, is_form, one_opening_decides};
+pub use decide::decisive;
+pub use form::Form;
+pub use opening::{Opening, Verdict};
+pub use reading::{LineRefusal, judged, unopened};
+pub use values::{number_in, word_addr, word_mask, word_prefix, word_u32};
+pub use words::Words;

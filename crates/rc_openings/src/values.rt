@@ -1,0 +1,178 @@
+//! The values that words write.
+ghost use Rattle.std.specs.Prelude.{◌≡◌, ◌==◌, ◌≤◌, [], ◌∷◌, Some, None, IfSome, MatchOption};
+ghost use Rattle.std.specs.List.{slice_split, position};
+ghost use Rattle.rc_base.specs.Addr.{mask};
+ghost use Rattle.rc_openings.specs.Values.{digits_from, at_most, digits_up_to, number_of, number_within, octet, address_of, mask_length, mask_length_of, prefix_of};
+
+use rc_base::{Addr, Prefix, mask_of};
+
+/// The number of these digits, where it is at most the limit.
+fn digits_value(digits: &[u8], limit: u32) -> Option<u32>
+    ensures small { IfSome result (λ n. n ≤ limit) }
+    ensures value { result ≡ at_most limit (digits_from 0 digits.now) }
+{
+    let mut value = 0u64;
+    for digit in digits {
+        if !digit.is_ascii_digit() {
+            return None;
+        }
+        value = 10 * value + u64::from(*digit - b'0');
+        if value > u64::from(limit) {
+            return None;
+        }
+    }
+    Some(value as u32)
+}
+
+/// The same of one to so many digits.
+fn short_value(digits: &[u8], most: usize, limit: u32) -> Option<u32>
+    ensures small { IfSome result (λ n. n ≤ limit) }
+    ensures value { result ≡ digits_up_to most limit digits.now }
+{
+    if digits.is_empty() || digits.len() > most {
+        return None;
+    }
+    digits_value(digits, limit)
+}
+
+/// The number that a word is: one to ten decimal digits, which may begin with zeros, of a number below 2^32.
+pub fn word_u32(word: &[u8]) -> Option<u32>
+    ensures { result ≡ number_of word.now }
+{
+    short_value(word, 10, u32::MAX)
+}
+
+/// The number that a word is, where it is from `low` to `high`.
+pub fn number_in(low: u32, high: u32, word: &[u8]) -> Option<u32>
+    ensures within { IfSome result (λ n. (low ≤ n) × (n ≤ high)) }
+    ensures value { result ≡ number_within low high word.now }
+{
+    match word_u32(word) {
+        Some(value) if low <= value && value <= high => Some(value),
+        _ => None,
+    }
+}
+
+fn octet_value(digits: &[u8]) -> Option<u32>
+    ensures value { result ≡ octet digits.now }
+    ensures small { IfSome result (λ n. n ≤ 255) }
+{
+    short_value(digits, 3, 255)
+}
+
+fn mark_at(word: &[u8], mark: u8) -> Option<usize>
+    ensures { result ≡ position (λ b. b == mark) word.now }
+{
+    word.iter().position(|b| *b == mark)
+}
+
+/// What stands before the first such byte, and after it.
+fn before_mark(word: &[u8], mark: u8) -> Option<(&[u8], &[u8])>
+    ensures { MatchOption result (slice_split (λ b. b == mark) word.now ≡ word.now ∷ [])
+        (λ parts. slice_split (λ b. b == mark) word.now ≡ parts.0.now ∷ slice_split (λ b. b == mark) parts.1.now) }
+{
+    match mark_at(word, mark) {
+        Some(end) => Some((&word[..end], &word[end + 1..])),
+        None => None,
+    }
+}
+
+/// The four parts of a word between dots.
+fn four_parts(word: &[u8]) -> Option<(&[u8], &[u8], &[u8], &[u8])>
+    ensures { MatchOption result (address_of word.now ≡ None)
+        (λ p. slice_split (λ b. b == 46) word.now ≡ p.0.now ∷ p.1.now ∷ p.2.now ∷ p.3.now ∷ []) }
+{
+    let Some((first, rest)) = before_mark(word, b'.') else {
+        return None;
+    };
+    let Some((second, rest)) = before_mark(rest, b'.') else {
+        return None;
+    };
+    let Some((third, fourth)) = before_mark(rest, b'.') else {
+        return None;
+    };
+    match before_mark(fourth, b'.') {
+        None => Some((first, second, third, fourth)),
+        Some(_) => None,
+    }
+}
+
+/// The address that a word is: four decimal parts of one to three digits, each at most 255, with dots between them.
+pub fn word_addr(word: &[u8]) -> Option<Addr>
+    ensures { result ≡ address_of word.now }
+{
+    let Some((first, second, third, fourth)) = four_parts(word) else {
+        return None;
+    };
+    match (
+        octet_value(first),
+        octet_value(second),
+        octet_value(third),
+        octet_value(fourth),
+    ) {
+        (Some(a), Some(b), Some(c), Some(d)) => {
+            Some(Addr::new(((a * 256 + b) * 256 + c) * 256 + d))
+        }
+        _ => None,
+    }
+}
+
+fn has_length(addr: Addr, len: u8) -> bool
+    requires { len ≤ 32 }
+    ensures { result ≡ (mask len == addr) }
+{
+    mask_of(len).bits() == addr.bits()
+}
+
+/// The length of a mask, where its ones are a front.
+#[tactic(auto, unfolding(crate::specs::Values::mask_length))]
+fn length_of(addr: Addr) -> Option<u8>
+    ensures short { IfSome result (λ n. n ≤ 32) }
+    ensures value { result ≡ mask_length addr }
+{
+    let mut len = 32;
+    while !has_length(addr, len) {
+        if len == 0 {
+            return None;
+        }
+        len -= 1;
+    }
+    Some(len)
+}
+
+/// The length, from 0 to 32, of the mask that a word is: an address whose ones are a front.
+pub fn word_mask(word: &[u8]) -> Option<u8>
+    ensures short { IfSome result (λ n. n ≤ 32) }
+    ensures value { result ≡ mask_length_of word.now }
+{
+    match word_addr(word) {
+        Some(addr) => length_of(addr),
+        None => None,
+    }
+}
+
+/// The two parts of a word between slashes.
+fn two_parts(word: &[u8]) -> Option<(&[u8], &[u8])>
+    ensures { MatchOption result (prefix_of word.now ≡ None) (λ p. slice_split (λ b. b == 47) word.now ≡ p.0.now ∷ p.1.now ∷ []) }
+{
+    let Some((first, second)) = before_mark(word, b'/') else {
+        return None;
+    };
+    match before_mark(second, b'/') {
+        None => Some((first, second)),
+        Some(_) => None,
+    }
+}
+
+/// The prefix that a word is: an address, a slash and a length from 0 to 32. Its host bits are cleared.
+pub fn word_prefix(word: &[u8]) -> Option<Prefix>
+    ensures { result ≡ prefix_of word.now }
+{
+    let Some((addr, len)) = two_parts(word) else {
+        return None;
+    };
+    match (word_addr(addr), number_in(0, 32, len)) {
+        (Some(addr), Some(len)) => Prefix::new(addr, len as u8),
+        _ => None,
+    }
+}

@@ -1,0 +1,85 @@
+//! The words of a line.
+ghost use Rattle.std.specs.Prelude.{◌≡◌, ◌≤◌, false, List, [], ◌∷◌, length, drop, MatchOption};
+ghost use Rattle.std.specs.List.{position_or_len};
+ghost use Rattle.rc_openings.specs.Words.{words_of, words_left, first_byte, is_blank as blank, starts_blank};
+
+/// A cursor over the words of a text: what stands between blanks, which are space and tab.
+///
+/// It takes no memory, and a copy of it goes over the same words again.
+#[derive(Clone, Copy)]
+pub struct Words<'a> {
+    text: &'a [u8],
+}
+
+pub(crate) fn is_blank(byte: u8) -> bool
+    ensures { result ≡ blank byte }
+{
+    byte == b' ' || byte == b'\t'
+}
+
+/// The text without the blanks at its front.
+fn skip_blanks(text: &[u8]) -> &[u8]
+    ensures same { words_of result.now ≡ words_of text.entry.now }
+    ensures front { starts_blank result.now ≡ false }
+{
+    let mut rest = text;
+    while let [first, tail @ ..] = rest {
+        if !is_blank(*first) {
+            break;
+        }
+        rest = tail;
+    }
+    rest
+}
+
+/// How many bytes stand before the first blank.
+fn word_len(text: &[u8]) -> usize
+    ensures within { result ≤ length text.now }
+    ensures place { result ≡ position_or_len blank text.now }
+{
+    for (i, byte) in text.iter().enumerate() {
+        if is_blank(*byte) {
+            return i;
+        }
+    }
+    text.len()
+}
+
+impl<'a> Words<'a> {
+    /// The words of a text.
+    pub fn new(text: &'a [u8]) -> Words<'a>
+        ensures { words_left result ≡ words_of text.entry.now }
+    {
+        Words { text }
+    }
+
+    /// The next word, which is taken off.
+    pub fn next_word(&mut self) -> Option<&'a [u8]>
+        ensures { MatchOption result ((words_left self.old ≡ []) × (words_left self.new ≡ [])) (λ word. words_left self.old ≡ word.now ∷ words_left self.new) }
+    {
+        let text = skip_blanks(self.text);
+        let end = word_len(text);
+        self.text = &text[end..];
+        if end == 0 { None } else { Some(&text[..end]) }
+    }
+
+    /// The words behind the first few.
+    pub fn skip(mut self, count: usize) -> Words<'a>
+        ensures { words_left result ≡ drop count (words_left self.entry) }
+    {
+        for _ in 0..count {
+            let _ = self.next_word();
+        }
+        self
+    }
+
+    /// The first byte of the next word, or 0 where there is none.
+    pub(crate) fn first_byte(self) -> u8
+        ensures { result ≡ first_byte (words_left self.entry) }
+    {
+        match skip_blanks(self.text) {
+            [first, ..] => *first,
+            [] => 0,
+        }
+    }
+}
