@@ -10,6 +10,3 @@ mod refusal;
 
 pub use building::build;
 pub use refusal::{BuildError, NetCause, NetRefusal};
-
-#[cfg(test)]
-mod tests;
