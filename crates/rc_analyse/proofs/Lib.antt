@@ -1,5 +1,5 @@
-mod Fronts
-mod Refused
-mod Puts
+mod Listed
 mod FileFronts
-mod Configs
+mod ReadLaws
+mod Puts
+mod TextLaws

@@ -1,17 +1,17 @@
 -- What is answered to words and files: a status and a text.
-use Rattle.std.specs.Prelude.{◌≡◌, ◌⊎◌, ℕ, List, map, filter, flat_map, Option, Result, Ok, Err, IsPermutation, IsSorted}
-use Rattle.std.specs.Ordering.{nat_cmp}
-use Rattle.std.specs.Cmp.Lexicographic.{slice_cmp}
-use Rattle.rc_outside.specs.Folder.{File, is_config}
+use Rattle.std.specs.Prelude.{◌≡◌, ◌⊎◌, ℕ, List, map, filter, Option, Result, Ok, Err}
+use Rattle.rc_outside.specs.Folder.{File}
 use Rattle.rc_outside.specs.Sink.{appended, AppendsFront}
-use Rattle.rc_analyse.specs.Net.{FileRefusal, AreNamesInOrder, net_of}
+use Rattle.rc_config.specs.declared.network.Network.{Network}
+use Rattle.rc_network.specs.declared.refusal.NetRefusal.{NetRefusal}
+use Rattle.rc_analyse.specs.Net.{IsNet}
+use Rattle.rc_analyse.specs.Lines.{bytes_in}
 use Rattle.rc_analyse.specs.Texts.{text_of, usage_text}
 use Rattle.rc_analyse.specs.declared.answer.Answer.{Answer}
-use Rattle.rc_analyse.specs.declared.config.Config.{Config}
 use Rattle.rc_analyse.specs.declared.status.Status.{Status}
 use Rattle.rc_analyse.specs.declared.status.Status.TheVariants.{Done, Refused, Usage, Source, Sink, Memory}
 
-abbrev pub status_of : Result (Option Config) FileRefusal → Status
+abbrev pub status_of : Result Network NetRefusal → Status
 status_of (Ok net) = Done
 status_of (Err refused) = Refused
 
@@ -22,9 +22,9 @@ Writes status text Source old new = Unit {0}
 Writes status text Memory old new = Unit {0}
 Writes status text answer old new = (answer ≡ status) × (new ≡ appended old text)
 
--- what the files of a folder give, their names taken in byte order
+-- what the files of a folder give
 abbrev pub IsWritten : List ℕ → List File → Status → Option (List ℕ) → Option (List ℕ) → Type 0
-IsWritten dir files answer old new = (names : List (List ℕ)) × AreNamesInOrder dir files names × Writes (status_of (net_of dir files names)) (text_of (net_of dir files names)) answer old new
+IsWritten dir files answer old new = (net : Result Network NetRefusal) × IsNet dir files net × Writes (status_of net) (text_of net) answer old new
 
 -- the answer to the files of a folder; where reading or memory failed nothing is said here
 abbrev pub IsAnswer : List ℕ → List File → Status → Option (List ℕ) → Option (List ℕ) → Type 0
@@ -40,7 +40,7 @@ IsSilent _ = ⊥
 
 -- the text is written whole with its status, unless memory runs out
 abbrev pub IsComplete : List ℕ → List File → Status → Option (List ℕ) → Option (List ℕ) → Type 0
-IsComplete dir files answer old new = (answer ≡ Memory) ⊎ ((names : List (List ℕ)) × AreNamesInOrder dir files names × (answer ≡ status_of (net_of dir files names)) × (new ≡ appended old (text_of (net_of dir files names))))
+IsComplete dir files answer old new = (answer ≡ Memory) ⊎ ((net : Result Network NetRefusal) × IsNet dir files net × (answer ≡ status_of net) × (new ≡ appended old (text_of net)))
 
 -- the statuses of a network
 abbrev pub IsOfNet : Status → Type 0
@@ -55,26 +55,19 @@ HasText Refused = Unit {0}
 HasText Usage = Unit {0}
 HasText _ = ⊥
 
--- those of the names that are of configurations, in byte order
-pub record AreConfigs (names configs : List (List ℕ)) : Type 0 where
-  pub sorted : List (List ℕ)
-  pub same : IsPermutation names sorted
-  pub in_order : IsSorted (slice_cmp nat_cmp) sorted
-  pub are : configs ≡ filter is_config sorted
-
 abbrev pub text_in : Answer → List ℕ
-text_in answer = flat_map (λ line. line.items) answer.lines.items
+text_in answer = bytes_in answer.lines.items
 
 -- the answer's status and lines are those of the network
-pub record IsFor (net : Result (Option Config) FileRefusal) (answer : Answer) : Type 0 where
+pub record IsFor (net : Result Network NetRefusal) (answer : Answer) : Type 0 where
   pub status : answer.status ≡ status_of net
   pub text : text_in answer ≡ text_of net
 
 -- the answer to the files of a folder
 pub record Answers (dir : List ℕ) (files : List File) (answer : Answer) : Type 0 where
-  pub names : List (List ℕ)
-  pub in_order : AreNamesInOrder dir files names
-  pub is_for : IsFor (net_of dir files names) answer
+  pub net : Result Network NetRefusal
+  pub is : IsNet dir files net
+  pub is_for : IsFor net answer
 
 -- the answer to words that are not taken
 pub record IsUsage (answer : Answer) : Type 0 where

@@ -1,13 +1,7 @@
--- The numbers of statuses and refusals. Nothing is decided by them.
+-- The numbers of statuses. Nothing is decided by them.
 use Rattle.std.specs.Prelude.{ℕ}
-use Rattle.rc_analyse.specs.declared.refusal.Cause.{Cause}
-use Rattle.rc_analyse.specs.declared.refusal.Cause.TheVariants.{Unsupported, NoHostName}
 use Rattle.rc_analyse.specs.declared.status.Status.{Status}
 use Rattle.rc_analyse.specs.declared.status.Status.TheVariants.{Done, Refused, Usage, Source, Sink, Memory}
-
-abbrev pub cause_code : Cause → ℕ
-cause_code Unsupported = 2
-cause_code NoHostName = 6
 
 abbrev pub status_code : Status → ℕ
 status_code Done = 0

@@ -1,7 +1,6 @@
 pub mod Words
-pub mod Grammar
-pub mod Reading
 pub mod Codes
 pub mod Net
+pub mod Lines
 pub mod Texts
 pub mod Answer

@@ -1,135 +1,60 @@
 //! The answer to words over a folder. Nothing is written here.
-ghost use Rattle.std.specs.Prelude.{◌≡◌, List, ℕ, [], ◌∷◌, Some, None, Ok, Err, IsTrue, IfOk, IfSome, IsSome, IfNone, map, option_copied, MatchOption};
+ghost use Rattle.std.specs.Prelude.{◌≡◌, List, ℕ, Some, None, Ok, Err, IsTrue, IfOk, IfSome, IfNone, map, option_copied};
 ghost use Rattle.rc_outside.specs.Causes.{HasCause};
-ghost use Rattle.rc_outside.specs.Folder.{is_config, bytes_at};
 ghost use Rattle.rc_analyse.specs.Answer.{IsFor, Answers, IsUsage, IsOfNet, HasText};
-ghost use Rattle.rc_analyse.specs.Net.{in_file};
-ghost use Rattle.rc_analyse.specs.Reading.{config_of};
 ghost use Rattle.rc_analyse.specs.Words.{dir_of, is_folder};
 
 use crate::Status;
 use crate::answer::Answer;
-use crate::config::Config;
-use crate::listing::{config_names, read_config};
-use crate::refusal::{Cause, Refusal};
-use crate::texts::{outcome_text, refused_text, route_text, router_text};
-use rc_base::FileName;
+use crate::loading::read_network;
+use crate::texts::{network_lines, refused_text};
+use rc_config::Network;
+use rc_network::NetRefusal;
 use rc_outside::{Folder, SourceError};
 use std::alloc::{AllocError, Global};
 
-fn empty_answer(alloc: Global) -> Result<Answer, AllocError>
-    ensures { IfOk result (IsFor (Ok None)) }
+fn refused_answer(alloc: Global, refusal: &NetRefusal) -> Result<Answer, AllocError>
+    ensures { IfOk result (IsFor (Err refusal.now)) }
 {
     let mut lines = Vec::new(alloc);
-    lines.push(outcome_text(alloc, &None)?)?;
-    Ok(Answer {
-        status: Status::Done,
-        lines,
-    })
-}
-
-fn refused_answer(alloc: Global, file: &str, refusal: &Refusal) -> Result<Answer, AllocError>
-    ensures { IfOk result (IsFor (Err (record { file = file.now; refusal = refusal.now }))) }
-{
-    let mut lines = Vec::new(alloc);
-    lines.push(refused_text(alloc, file, refusal)?)?;
+    lines.push(refused_text(alloc, refusal)?)?;
     Ok(Answer {
         status: Status::Refused,
         lines,
     })
 }
 
-fn config_answer(alloc: Global, config: &Config) -> Result<Answer, AllocError>
-    ensures { IfOk result (IsFor (Ok (Some config.now))) }
+fn network_answer(alloc: Global, net: &Network) -> Result<Answer, AllocError>
+    ensures { IfOk result (IsFor (Ok net.now)) }
 {
-    let mut lines = Vec::new(alloc);
-    lines.push(outcome_text(alloc, &config.connected)?)?;
-    lines.push(router_text(alloc, &config.host)?)?;
-    if let Some(connected) = &config.connected {
-        lines.push(route_text(alloc, connected)?)?;
-    }
+    let lines = network_lines(alloc, net)?;
     Ok(Answer {
         status: Status::Done,
         lines,
     })
 }
 
-fn said_answer(
-    alloc: Global,
-    file: &str,
-    said: Result<Config, Refusal>,
-) -> Result<Answer, AllocError>
-    ensures { IfOk result (IsFor (in_file file.now said)) }
+fn net_answer(alloc: Global, net: &Result<Network, NetRefusal>) -> Result<Answer, AllocError>
+    ensures { IfOk result (IsFor net.now) }
 {
-    match said {
-        Ok(config) => config_answer(alloc, &config),
-        Err(refusal) => refused_answer(alloc, file, &refusal),
-    }
-}
-
-fn first_of(configs: &[FileName]) -> Option<(&FileName, &[FileName])>
-    ensures { MatchOption result (configs.now ≡ []) (λ p. configs.now ≡ p.0.now ∷ p.1.now) }
-{
-    match configs {
-        [] => None,
-        [first, rest @ ..] => Some((first, rest)),
-    }
-}
-
-fn file_answer<F: Folder>(
-    alloc: Global,
-    dir: &str,
-    name: &str,
-    folder: &mut F,
-) -> Result<Answer, SourceError>
-    requires allowed { IsTrue (F.allows folder.old dir.now) }
-    requires config { IsTrue (is_config name.now) }
-    requires there { IfSome (F.told folder.old) (λ files. IsSome (bytes_at dir.now name.now files)) }
-    ensures answer { IfOk result (λ a. IfSome (F.told folder.old) (λ files. IfSome (bytes_at dir.now name.now files) (λ bytes. IsFor (in_file name.now (config_of bytes)) a))) }
-    ensures of_net { IfOk result (λ a. IsOfNet a.status) }
-    ensures cause { HasCause (F.faults folder.old) (F.faults folder.new) result }
-{
-    match read_config(alloc, dir, name, folder) {
-        Ok(said) => match said_answer(alloc, name, said) {
-            Ok(answer) => Ok(answer),
-            Err(_) => Err(SourceError::Memory),
-        },
-        Err(error) => Err(error),
+    match net {
+        Ok(net) => network_answer(alloc, net),
+        Err(refusal) => refused_answer(alloc, refusal),
     }
 }
 
 /// The answer to the files in a folder.
-pub(crate) fn folder_answer<F: Folder>(
-    alloc: Global,
-    dir: &str,
-    folder: &mut F,
-) -> Result<Answer, SourceError>
+fn folder_answer<F: Folder>(alloc: Global, dir: &str, folder: &mut F) -> Result<Answer, SourceError>
     requires { IsTrue (F.allows folder.old dir.now) }
     ensures answer { IfOk result (λ a. IfSome (F.told folder.old) (λ files. Answers dir.now files a)) }
     ensures of_net { IfOk result (λ a. IsOfNet a.status) }
     ensures cause { HasCause (F.faults folder.old) (F.faults folder.new) result }
 {
-    let configs = match config_names(alloc, dir, folder) {
-        Ok(configs) => configs,
+    let net = match read_network(alloc, dir, folder) {
+        Ok(net) => net,
         Err(error) => return Err(error),
     };
-    let Some((first, rest)) = first_of(configs.as_slice()) else {
-        match empty_answer(alloc) {
-            Ok(answer) => return Ok(answer),
-            Err(_) => return Err(SourceError::Memory),
-        }
-    };
-    let Some((second, _)) = first_of(rest) else {
-        match file_answer(alloc, dir, first.as_str(), folder) {
-            Ok(answer) => return Ok(answer),
-            Err(error) => return Err(error),
-        }
-    };
-    let refusal = Refusal {
-        line: 0,
-        cause: Cause::Unsupported,
-    };
-    match refused_answer(alloc, second.as_str(), &refusal) {
+    match net_answer(alloc, &net) {
         Ok(answer) => Ok(answer),
         Err(_) => Err(SourceError::Memory),
     }

@@ -1,16 +1,11 @@
-//! The configurations of a folder, and their bytes.
-ghost use Rattle.std.specs.Prelude.{◌≡◌, List, ℕ, filter, IsTrue, IsSome, IfOk, IfSome, IsPermutation, IsSorted};
+//! The configurations of a folder.
+ghost use Rattle.std.specs.Prelude.{◌≡◌, List, ℕ, filter, All, IsTrue, IsSome, IfOk, IfSome, IsPermutation, IsSorted};
 ghost use Rattle.std.specs.Ordering.{nat_cmp};
 ghost use Rattle.std.specs.Cmp.Lexicographic.{slice_cmp};
 ghost use Rattle.rc_outside.specs.Causes.{HasCause};
 ghost use Rattle.rc_outside.specs.Folder.{is_config, bytes_at, names_in};
-ghost use Rattle.rc_analyse.specs.Answer.{AreConfigs};
-ghost use Rattle.rc_analyse.specs.Net.{HasOneListing};
-ghost use Rattle.rc_analyse.specs.Reading.{config_of};
+ghost use Rattle.rc_analyse.specs.Net.{AreConfigs, HasOneListing};
 
-use crate::config::Config;
-use crate::reading::{MOST_BYTES, read_file};
-use crate::refusal::Refusal;
 use rc_base::FileName;
 use rc_outside::{Folder, Names, SourceError};
 use std::alloc::{AllocError, Global};
@@ -60,6 +55,8 @@ pub(crate) fn config_names<F: Folder>(
     requires { IsTrue (F.allows folder.old dir.now) }
     ensures names { IfOk result (λ configs. (names : List (List ℕ)) × AreConfigs names configs.items
         × IfSome (F.told folder.old) (λ files. IsPermutation (names_in dir.now files) names)) }
+    ensures configs { IfOk result (λ configs. All (λ n. IsTrue (is_config n)) configs.items) }
+    ensures there { IfOk result (λ configs. IfSome (F.told folder.old) (λ files. All (λ n. IsSome (bytes_at dir.now n files)) configs.items)) }
     ensures same_files { F.told folder.new ≡ F.told folder.old }
     ensures same_allowed { F.allows folder.new ≡ F.allows folder.old }
     ensures cause { HasCause (F.faults folder.old) (F.faults folder.new) result }
@@ -71,24 +68,5 @@ pub(crate) fn config_names<F: Folder>(
     match in_order(alloc, names) {
         Ok(configs) => Ok(configs),
         Err(_) => Err(SourceError::Memory),
-    }
-}
-
-/// What a configuration says, or its first refusal.
-pub(crate) fn read_config<F: Folder>(
-    alloc: Global,
-    dir: &str,
-    name: &str,
-    folder: &mut F,
-) -> Result<Result<Config, Refusal>, SourceError>
-    requires allowed { IsTrue (F.allows folder.old dir.now) }
-    requires config { IsTrue (is_config name.now) }
-    requires there { IfSome (F.told folder.old) (λ files. IsSome (bytes_at dir.now name.now files)) }
-    ensures config { IfOk result (λ said. IfSome (F.told folder.old) (λ files. IfSome (bytes_at dir.now name.now files) (λ bytes. said ≡ config_of bytes))) }
-    ensures cause { HasCause (F.faults folder.old) (F.faults folder.new) result }
-{
-    match folder.read(alloc, dir, name, MOST_BYTES) {
-        Ok(bytes) => Ok(read_file(bytes.as_slice())),
-        Err(error) => Err(error),
     }
 }

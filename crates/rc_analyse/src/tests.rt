@@ -99,7 +99,7 @@ fn check_bytes<R: Threads + Sync + AllocGlobal + Abort>(
 }
 
 #[test]
-fn folders_of_none_one_and_two_files(rt: HostRuntime) -> Result<(), Fail> {
+fn folders_of_files(rt: HostRuntime) -> Result<(), Fail> {
     check_files(&rt, &[], Status::Done, "outcome fixed 1\n")?;
     check_files(
         &rt,
@@ -111,151 +111,133 @@ fn folders_of_none_one_and_two_files(rt: HostRuntime) -> Result<(), Fail> {
         &rt,
         &[("b.cfg", BASE), ("a.cfg", BASE)],
         Status::Refused,
-        "refused b.cfg:0: 2\n",
+        "refused b.cfg:1: 8\n",
     )?;
     check_files(
         &rt,
-        &[("a.cfg", BASE), ("c.cfg", BASE), ("B.cfg", BASE)],
+        &[
+            ("B.cfg", "hostname X\nfrobnicate\n"),
+            ("a.cfg", "hostname X\nfrobnicate\n"),
+        ],
         Status::Refused,
-        "refused a.cfg:0: 2\n",
+        "refused B.cfg:2: 1\n",
+    )?;
+    check_files(
+        &rt,
+        &[
+            ("a.cfg", "hostname R2\n"),
+            ("b.cfg", "hostname R2\n"),
+            ("c.cfg", "x\n"),
+        ],
+        Status::Refused,
+        "refused c.cfg:1: 1\n",
     )?;
     Ok(())
 }
 
 #[test]
-fn a_file_says_each_form_once(rt: HostRuntime) -> Result<(), Fail> {
-    check_done(&rt, BASE, CONNECTED)?;
+fn routers_stand_by_host_name(rt: HostRuntime) -> Result<(), Fail> {
+    check_files(
+        &rt,
+        &[
+            ("a.cfg", "hostname R2\n"),
+            ("b.cfg", BASE),
+            ("c.cfg", "hostname R10\n"),
+        ],
+        Status::Done,
+        "outcome fixed 2\nrouter R1\n10.0.0.0/24 connected 0/0 dev GigabitEthernet0/0\nrouter R10\nrouter R2\n",
+    )?;
+    Ok(())
+}
+
+#[test]
+fn connected_routes(rt: HostRuntime) -> Result<(), Fail> {
     check_done(&rt, "hostname R1\ninterface Foo1\n", NOT_CONNECTED)?;
-    check_refused(&rt, "", "refused a.cfg:0: 6\n")?;
-    check_refused(&rt, "interface Serial0\n", "refused a.cfg:0: 6\n")?;
-    check_refused(&rt, "hostname R1\nhostname R1\n", "refused a.cfg:2: 2\n")?;
-    check_refused(
-        &rt,
-        "interface Serial0\ninterface Serial0\n",
-        "refused a.cfg:2: 2\n",
-    )?;
-    check_refused(
-        &rt,
-        "hostname R1\ninterface Serial0\n ip address 1.1.1.1 255.0.0.0\n ip address 1.1.1.1 255.0.0.0\n",
-        "refused a.cfg:4: 2\n",
-    )?;
-    check_refused(
-        &rt,
-        "hostname R1\ninterface GigabitEthernet0/0\n ip address 10.0.0.1 255.255.255.0\n shutdown\n",
-        "refused a.cfg:4: 2\n",
-    )?;
-    Ok(())
-}
-
-#[test]
-fn lines_and_blocks(rt: HostRuntime) -> Result<(), Fail> {
     check_done(
         &rt,
-        "!\r\n\r\n \t \ninterface GigabitEthernet0/0\r\n!x\n\t ip\taddress  10.0.0.1 255.255.255.0 \r\nhostname R1",
-        CONNECTED,
+        "hostname R1\r\ninterface GigabitEthernet0/0\r\n ip address 10.0.0.1 255.255.255.0\r\n shutdown\r\nbanner motd #\r\ninterface x\r\n#\r\n",
+        NOT_CONNECTED,
+    )?;
+    check_done(
+        &rt,
+        "hostname R1\ninterface Serial0\n ip address 10.2.0.1 255.255.0.0\n ip address 10.1.2.3 255.255.255.0 secondary\ninterface Serial1\n ip address 10.1.2.4 255.255.255.0\n ip address 10.1.0.9 255.255.0.0\ninterface Serial0\n ip address 10.1.2.9 255.255.255.0 secondary\n",
+        "outcome fixed 2\nrouter R1\n10.1.0.0/16 connected 0/0 dev Serial1\n10.1.2.0/24 connected 0/0 dev Serial0\n10.2.0.0/16 connected 0/0 dev Serial0\n",
+    )?;
+    check_done(
+        &rt,
+        "hostname R1\ninterface Vlan1\n ip address 10.1.2.1 255.255.255.0\ninterface Vlan2\n ip address 10.1.2.2 255.255.255.0\n",
+        "outcome fixed 2\nrouter R1\n10.1.2.0/24 connected 0/0 dev Vlan1 dev Vlan2\n",
+    )?;
+    check_done(
+        &rt,
+        "hostname R1\ninterface Serial0\n shutdown\ninterface Serial0.7\n ip address 10.1.2.1 255.255.255.0\n",
+        NOT_CONNECTED,
+    )?;
+    Ok(())
+}
+
+#[test]
+fn the_least_line_is_refused(rt: HostRuntime) -> Result<(), Fail> {
+    check_refused(&rt, "", "refused a.cfg:0: 6\n")?;
+    check_refused(&rt, "interface Serial0\n", "refused a.cfg:0: 6\n")?;
+    check_refused(&rt, "hostname R1\nhostname R1\n", "refused a.cfg:2: 3\n")?;
+    check_refused(
+        &rt,
+        "hostname R1\ninterface GigabitEthernet0/0\n ip address 10.0.0.1 255.255.255.0\n!\n!\n!\n!\n!\n!\n!\n!\n ip nat inside\n",
+        "refused a.cfg:12: 2\n",
+    )?;
+    check_refused(
+        &rt,
+        "hostname R1\ninterface GigabitEthernet0/0\n ip address 10.0.0.1",
+        "refused a.cfg:3: 3\n",
     )?;
     check_refused(
         &rt,
         "interface Serial0\nhostname R1\n ip address 10.0.0.1 255.255.255.0\n",
-        "refused a.cfg:3: 2\n",
+        "refused a.cfg:3: 4\n",
     )?;
-    check_refused(&rt, " hostname R1\n", "refused a.cfg:1: 2\n")?;
+    check_refused(&rt, " hostname R1\n", "refused a.cfg:1: 4\n")?;
     check_refused(
         &rt,
-        "hostname R1\nip address 10.0.0.1 255.255.255.0\n",
-        "refused a.cfg:2: 2\n",
+        "hostname R1\nbanner motd #\nx\n",
+        "refused a.cfg:2: 7\n",
     )?;
-    check_refused(
-        &rt,
-        "interface Serial0\n interface Serial1\n",
-        "refused a.cfg:2: 2\n",
-    )?;
-    Ok(())
-}
-
-fn check_address<R: Threads + Sync + AllocGlobal + Abort>(
-    rt: &R,
-    line: &str,
-) -> Result<(), AllocError> {
-    let text = format!(in rt.alloc(); "hostname R1\ninterface Serial0\n {line}\n")?;
-    check_refused(rt, text.as_str(), "refused a.cfg:3: 2\n")
-}
-
-#[test]
-fn addresses_and_masks(rt: HostRuntime) -> Result<(), Fail> {
-    check_done(
-        &rt,
-        "hostname R1\ninterface Serial0/1\n ip address 10.201.003.255 255.255.252.0\n",
-        "outcome fixed 2\nrouter R1\n10.201.0.0/22 connected 0/0 dev Serial0/1\n",
-    )?;
-    check_done(
-        &rt,
-        "hostname R1\ninterface Loopback0\n ip address 255.255.255.255 255.255.255.255\n",
-        "outcome fixed 2\nrouter R1\n255.255.255.255/32 connected 0/0 dev Loopback0\n",
-    )?;
-    check_address(&rt, "ip address 10.0.0.1 0.0.0.0")?;
-    check_address(&rt, "ip address 10.0.0.1 255.0.255.0")?;
-    check_address(&rt, "ip address 10.0.0.256 255.0.0.0")?;
-    check_address(&rt, "ip address 10.0.0.0001 255.0.0.0")?;
-    check_address(&rt, "ip address 10.0.0 255.0.0.0")?;
-    check_address(&rt, "ip address 10.0.0.1")?;
-    check_address(&rt, "ip address 10.0.0.1 255.0.0.0 secondary")?;
-    check_address(&rt, "ip address +10.0.0.1 255.0.0.0")?;
     check_refused(
         &rt,
         "hostname R1\ninterface Tunnel0\n ip address 10.0.0.1 255.0.0.0\n",
         "refused a.cfg:3: 2\n",
     )?;
-    Ok(())
-}
-
-#[test]
-fn names(rt: HostRuntime) -> Result<(), Fail> {
-    check_done(
-        &rt,
-        "hostname a.B-c_9\n",
-        "outcome fixed 1\nrouter a.B-c_9\n",
-    )?;
-    check_refused(&rt, "hostname R/1\n", "refused a.cfg:1: 2\n")?;
-    check_refused(&rt, "hostname R 1\n", "refused a.cfg:1: 2\n")?;
-    check_refused(&rt, "hostname\n", "refused a.cfg:1: 2\n")?;
-    check_refused(&rt, "interface 0\n", "refused a.cfg:1: 2\n")?;
-    check_done(
-        &rt,
-        "hostname a23456789b23456789c23456789d23456789e23456789f23456789g23456789\n",
-        "outcome fixed 1\nrouter a23456789b23456789c23456789d23456789e23456789f23456789g23456789\n",
-    )?;
     check_refused(
         &rt,
         "hostname a23456789b23456789c23456789d23456789e23456789f23456789g23456789x\n",
-        "refused a.cfg:1: 2\n",
+        "refused a.cfg:1: 3\n",
     )?;
     Ok(())
 }
 
 #[test]
 fn hostile_bytes(rt: HostRuntime) -> Result<(), Fail> {
-    check_bytes(&rt, b"\x00", Status::Refused, "refused a.cfg:1: 2\n")?;
-    check_bytes(&rt, b"\n\xff", Status::Refused, "refused a.cfg:2: 2\n")?;
-    check_bytes(&rt, b"\r", Status::Refused, "refused a.cfg:1: 2\n")?;
+    check_bytes(&rt, b"\x00", Status::Refused, "refused a.cfg:1: 1\n")?;
+    check_bytes(&rt, b"\n\xff", Status::Refused, "refused a.cfg:2: 1\n")?;
+    check_bytes(&rt, b"\r", Status::Refused, "refused a.cfg:1: 1\n")?;
     check_bytes(&rt, b"\r\n", Status::Refused, "refused a.cfg:0: 6\n")?;
     check_bytes(
         &rt,
         b"hostname R1\r",
         Status::Refused,
-        "refused a.cfg:1: 2\n",
+        "refused a.cfg:1: 3\n",
     )?;
     check_bytes(
         &rt,
         b"hostname R\xc3\xa9\n",
         Status::Refused,
-        "refused a.cfg:1: 2\n",
+        "refused a.cfg:1: 3\n",
     )?;
     check_bytes(
         &rt,
         b"hostname R1\x00\n",
         Status::Refused,
-        "refused a.cfg:1: 2\n",
+        "refused a.cfg:1: 3\n",
     )?;
     Ok(())
 }
@@ -263,8 +245,8 @@ fn hostile_bytes(rt: HostRuntime) -> Result<(), Fail> {
 #[test]
 fn a_file_at_the_limit(rt: HostRuntime) -> Result<(), Fail> {
     let mut bytes = Vec::from_slice(rt.alloc(), b"hostname R1\n")?;
-    for _ in 12..1_048_576 {
-        bytes.push(b'!')?;
+    for _ in 0..524_282 {
+        bytes.extend_from_slice(b"!\n")?;
     }
     check_bytes(&rt, bytes.as_slice(), Status::Done, NOT_CONNECTED)?;
     bytes.push(b'!')?;
@@ -272,8 +254,36 @@ fn a_file_at_the_limit(rt: HostRuntime) -> Result<(), Fail> {
         &rt,
         bytes.as_slice(),
         Status::Refused,
-        "refused a.cfg:0: 2\n",
+        "refused a.cfg:0: 11\n",
     )?;
+    Ok(())
+}
+
+/// The answer to a folder of so many files.
+fn many_files<R: Threads + Sync + AllocGlobal>(
+    rt: &R,
+    count: u32,
+) -> Result<(Status, MemSink), AllocError> {
+    let alloc = rt.alloc();
+    let mut held = Vec::new(alloc);
+    for number in 0..count {
+        let name = format!(in alloc; "{number}.cfg")?;
+        let text = format!(in alloc; "hostname r{number}\n")?;
+        held.push(file_of(alloc, "d", name.as_str(), text.as_str().as_bytes())?)?;
+    }
+    let mut folder = MemFolder::new(held, Vec::new(alloc));
+    let mut out = MemSink::new(alloc, 65_536, Vec::new(alloc))?;
+    let status = run(rt, &["routes", "d"], &mut folder, &mut out, &OpenGate);
+    Ok((status, out))
+}
+
+#[test]
+fn many_configurations(rt: HostRuntime) -> Result<(), Fail> {
+    let (most, _) = many_files(&rt, 512)?;
+    assert_eq!(rt; most, Status::Done);
+    let (over, out) = many_files(&rt, 513)?;
+    assert_eq!(rt; over, Status::Refused);
+    assert_eq!(rt; out.bytes.as_slice(), b"refused folder: 10\n".as_slice());
     Ok(())
 }
 

@@ -1,0 +1,155 @@
+//! The models of the configurations of a folder, and their network.
+ghost use Rattle.std.specs.Prelude.{◌≡◌, ◌≤◌, All, List, ℕ, Ok, Err, IsTrue, IsSome, IfOk, IfSome, OnErr, length};
+ghost use Rattle.rc_outside.specs.Causes.{HasCause};
+ghost use Rattle.rc_outside.specs.Folder.{is_config, bytes_at};
+ghost use Rattle.rc_config.specs.Lawful.{IsLawfulFile};
+ghost use Rattle.rc_analyse.specs.Net.{model_of, models_of, bytes_in, IsNet};
+
+use crate::listing::config_names;
+use rc_base::{FileName, Items};
+use rc_config::{Network, RouterText};
+use rc_grammar::{ReadError, read_file};
+use rc_network::{BuildError, NetCause, NetRefusal, build};
+use rc_outside::{Folder, SourceError};
+use std::alloc::{AllocError, Global};
+use std::collections::VecDeque;
+
+/// The most bytes of a file.
+const MOST_BYTES: usize = 1_048_576;
+
+/// The most configurations of a folder.
+const MOST_FILES: usize = 512;
+
+fn in_file(alloc: Global, name: &str, line: u64, cause: NetCause) -> Result<NetRefusal, AllocError>
+    ensures { IfOk result (λ refusal. refusal ≡ NetRefusal.InFile name.now line cause) }
+{
+    let file = FileName::new(String::from_str(alloc, name)?);
+    Ok(NetRefusal::InFile(file, line, cause))
+}
+
+fn refused(
+    alloc: Global,
+    name: &str,
+    line: u64,
+    cause: NetCause,
+) -> Result<Result<RouterText, NetRefusal>, AllocError>
+    ensures { IfOk result (λ said. said ≡ Err (NetRefusal.InFile name.now line cause)) }
+{
+    match in_file(alloc, name, line, cause) {
+        Ok(refusal) => Ok(Err(refusal)),
+        Err(error) => Err(error),
+    }
+}
+
+/// The model of a file's bytes, or its first refusal.
+#[tactic(auto, unfolding(crate::specs::Net::model_of))]
+fn parsed(
+    alloc: Global,
+    name: &str,
+    bytes: &[u8],
+) -> Result<Result<RouterText, NetRefusal>, AllocError>
+    ensures model { IfOk result (λ said. said ≡ model_of name.now bytes.now) }
+    ensures lawful { IfOk result (λ said. IfOk said IsLawfulFile) }
+{
+    if bytes.len() > MOST_BYTES {
+        return refused(alloc, name, 0, NetCause::FileTooLong);
+    }
+    match read_file(alloc, bytes) {
+        Ok(model) => Ok(Ok(model)),
+        Err(ReadError::Refused(refusal)) => {
+            refused(alloc, name, refusal.line, NetCause::File(refusal.cause))
+        }
+        Err(ReadError::Memory) => Err(AllocError),
+    }
+}
+
+fn read_model<F: Folder>(
+    alloc: Global,
+    dir: &str,
+    name: &str,
+    folder: &mut F,
+) -> Result<Result<RouterText, NetRefusal>, SourceError>
+    requires allowed { IsTrue (F.allows folder.old dir.now) }
+    requires config { IsTrue (is_config name.now) }
+    requires there { IfSome (F.told folder.old) (λ files. IsSome (bytes_at dir.now name.now files)) }
+    ensures model { IfOk result (λ said. IfSome (F.told folder.old) (λ files. IfSome (bytes_at dir.now name.now files) (λ bytes. said ≡ model_of name.now bytes))) }
+    ensures lawful { IfOk result (λ said. IfOk said IsLawfulFile) }
+    ensures same_files { F.told folder.new ≡ F.told folder.old }
+    ensures same_allowed { F.allows folder.new ≡ F.allows folder.old }
+    ensures cause { HasCause (F.faults folder.old) (F.faults folder.new) result }
+{
+    let bytes = match folder.read(alloc, dir, name, MOST_BYTES) {
+        Ok(bytes) => bytes,
+        Err(error) => return Err(error),
+    };
+    match parsed(alloc, name, bytes.as_slice()) {
+        Ok(said) => Ok(said),
+        Err(_) => Err(SourceError::Memory),
+    }
+}
+
+/// The models of the configurations, in their order, or the first refusal.
+fn read_models<F: Folder>(
+    alloc: Global,
+    dir: &str,
+    configs: Vec<FileName>,
+    folder: &mut F,
+) -> Result<Result<Items<(FileName, RouterText)>, NetRefusal>, SourceError>
+    requires allowed { IsTrue (F.allows folder.old dir.now) }
+    requires configs { All (λ n. IsTrue (is_config n)) configs.items }
+    requires there { IfSome (F.told folder.old) (λ files. All (λ n. IsSome (bytes_at dir.now n files)) configs.items) }
+    ensures models { IfOk result (λ said. IfSome (F.told folder.old) (λ files. said ≡ models_of (bytes_in dir.now files) configs.items)) }
+    ensures lawful { IfOk result (λ said. IfOk said (λ models. All (λ m. IsLawfulFile m.1) models)) }
+    ensures few { IfOk result (λ said. IfOk said (λ models. length models ≡ length configs.items)) }
+    ensures cause { HasCause (F.faults folder.old) (F.faults folder.new) result }
+{
+    let mut models = Items::new(alloc);
+    let mut left = VecDeque::from(configs);
+    while let Some(name) = left.pop_front() {
+        let said = match read_model(alloc, dir, name.as_str(), folder) {
+            Ok(said) => said,
+            Err(error) => return Err(error),
+        };
+        let model = match said {
+            Ok(model) => model,
+            Err(refusal) => return Ok(Err(refusal)),
+        };
+        match models.push((name, model)) {
+            Ok(()) => {}
+            Err(_) => return Err(SourceError::Memory),
+        }
+    }
+    Ok(Ok(models))
+}
+
+/// The network of the files of a folder, or their first refusal.
+pub(crate) fn read_network<F: Folder>(
+    alloc: Global,
+    dir: &str,
+    folder: &mut F,
+) -> Result<Result<Network, NetRefusal>, SourceError>
+    requires { IsTrue (F.allows folder.old dir.now) }
+    ensures net { IfOk result (λ net. IfSome (F.told folder.old) (λ files. IsNet dir.now files net)) }
+    ensures cause { HasCause (F.faults folder.old) (F.faults folder.new) result }
+{
+    let configs = match config_names(alloc, dir, folder) {
+        Ok(configs) => configs,
+        Err(error) => return Err(error),
+    };
+    if configs.len() > MOST_FILES {
+        return Ok(Err(NetRefusal::TooManyFiles));
+    }
+    let said = match read_models(alloc, dir, configs, folder) {
+        Ok(said) => said,
+        Err(error) => return Err(error),
+    };
+    let models = match said {
+        Ok(models) => models.into_vec(),
+        Err(refusal) => return Ok(Err(refusal)),
+    };
+    match build(alloc, models) {
+        Ok(net) => Ok(Ok(net)),
+        Err(BuildError::Refused(refusal)) => Ok(Err(refusal)),
+        Err(BuildError::Memory) => Err(SourceError::Memory),
+    }
+}

@@ -1,0 +1,3 @@
+pub mod Connected
+pub mod ByPrefix
+pub mod Rows
