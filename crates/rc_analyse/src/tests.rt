@@ -12,6 +12,53 @@ const BASE: &str =
 const CONNECTED: &str =
     "outcome fixed 2\nrouter R1\n10.0.0.0/24 connected 0/0 dev GigabitEthernet0/0\n";
 
+/// What a router prints.
+const RUNNING: &str = "Building configuration...
+
+Current configuration : 1492 bytes
+!
+version 15.7
+service timestamps debug datetime msec
+no service password-encryption
+!
+hostname R1
+!
+boot-start-marker
+boot-end-marker
+!
+enable secret 5 $1$abcd
+no aaa new-model
+ip cef
+no ipv6 cef
+crypto pki certificate chain self
+ certificate self-signed 01
+  30820240 308201A9
+  \tquit
+username admin privilege 15 secret 5 $1$abcd
+!
+interface Embedded-Service-Engine0/0
+ no ip address
+ shutdown
+!
+interface GigabitEthernet0/0
+ description LAN
+ ip address 10.0.0.1 255.255.255.0
+ duplex auto
+ speed auto
+!
+ip forward-protocol nd
+no ip http server
+banner motd ^C
+interface text in a banner
+^C
+line con 0
+line vty 0 4
+ login
+ transport input ssh
+!
+end
+";
+
 const NOT_CONNECTED: &str = "outcome fixed 1\nrouter R1\n";
 
 const USAGE: &str = "usage: netcheck routes DIR [--router R]
@@ -153,6 +200,7 @@ fn routers_stand_by_host_name(rt: HostRuntime) -> Result<(), Fail> {
 #[test]
 fn connected_routes(rt: HostRuntime) -> Result<(), Fail> {
     check_done(&rt, "hostname R1\ninterface Foo1\n", NOT_CONNECTED)?;
+    check_done(&rt, RUNNING, CONNECTED)?;
     check_done(
         &rt,
         "hostname R1\r\ninterface GigabitEthernet0/0\r\n ip address 10.0.0.1 255.255.255.0\r\n shutdown\r\nbanner motd #\r\ninterface x\r\n#\r\n",
