@@ -2,4 +2,5 @@ mod Listed
 mod FileFronts
 mod ReadLaws
 mod Puts
-mod TextLaws
+mod RouteLaws
+mod AnswerLaws

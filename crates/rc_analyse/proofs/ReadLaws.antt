@@ -1,15 +1,15 @@
 -- Models that are read one by one.
-use Rattle.std.proofs.Common.{◌≡◌, ℕ, ◌+◌, ◌<◌, ◌≤◌, Bool, true, false, List, [], ◌∷◌, ◌++◌, length, filter, nat_lt, Option, Some, None, Result, Ok, Err, IfSome, IsSome, IsTrue, All, unwrap_or, IsPermutation, refl, sym, ap, ◌∙◌, subst, append_assoc, append-nil, arith}
+use Rattle.std.proofs.Common.{◌≡◌, ℕ, ◌<◌, ◌≤◌, true, false, List, [], ◌∷◌, ◌++◌, length, nat_lt, Option, Some, None, Result, Ok, Err, IfSome, IsSome, All, unwrap_or, IsPermutation, refl, sym, ap, ◌∙◌, subst, append_assoc, append-nil, arith}
 use Rattle.std.proofs.lemmas.Bool.Decides.{nat_tests}
 use Rattle.std.proofs.lemmas.List.Elements.{All-from_recursion, recursion_from_All}
 use Rattle.std.proofs.lemmas.List.Sorted.{IsPermutation-trans}
-use Rattle.rc_outside.specs.Folder.{File, names_in, bytes_at, is_config}
+use Rattle.rc_outside.specs.Folder.{File, names_in, bytes_at}
 use Rattle.rc_config.specs.declared.network.Network.{Network}
 use Rattle.rc_config.specs.declared.router_text.RouterText.{RouterText}
-use Rattle.rc_network.specs.Build.{Model, IsBuilt}
+use Rattle.rc_network.specs.Build.{Model}
 use Rattle.rc_network.specs.declared.refusal.NetRefusal.{NetRefusal}
 use Rattle.rc_network.specs.declared.refusal.NetRefusal.TheVariants.{TooManyFiles}
-use Rattle.rc_analyse.specs.Net.{AreConfigs, AreNamesInOrder, model_of, onto, models_of, bytes_in, IsNetOf, IsNetOfModels, IsNetOfFew, IsNetOfConfigs, IsNet}
+use Rattle.rc_analyse.specs.Net.{AreConfigs, model_of, onto, models_of, bytes_in, IsNetOf, IsNetOfFew, IsNetOfConfigs, IsNet}
 
 abbrev Read : Type 0
 Read = Result (List Model) NetRefusal

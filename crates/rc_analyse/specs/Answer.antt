@@ -1,75 +1,61 @@
 -- What is answered to words and files: a status and a text.
-use Rattle.std.specs.Prelude.{◌≡◌, ◌⊎◌, ℕ, List, map, filter, Option, Result, Ok, Err}
+use Rattle.std.specs.Prelude.{◌≡◌, ◌⊎◌, ℕ, List, Option, Ok, Err}
 use Rattle.rc_outside.specs.Folder.{File}
 use Rattle.rc_outside.specs.Sink.{appended, AppendsFront}
-use Rattle.rc_config.specs.declared.network.Network.{Network}
-use Rattle.rc_network.specs.declared.refusal.NetRefusal.{NetRefusal}
+use Rattle.rc_rounds.specs.Rounds.{IsOutcome}
+use Rattle.rc_rounds.specs.declared.outcome.Outcome.{Outcome}
+use Rattle.rc_rounds.specs.declared.outcome.Outcome.TheVariants as ended
+use Rattle.rc_words.specs.declared.request.Ask.TheVariants.{Routes}
+use Rattle.rc_words.specs.declared.request.Limits.{Limits}
+use Rattle.rc_words.specs.declared.request.Request.{Request}
 use Rattle.rc_analyse.specs.Net.{IsNet}
-use Rattle.rc_analyse.specs.Lines.{bytes_in}
-use Rattle.rc_analyse.specs.Texts.{text_of, usage_text}
-use Rattle.rc_analyse.specs.declared.answer.Answer.{Answer}
+use Rattle.rc_analyse.specs.Texts.{refused_line, outcome_text}
+use Rattle.rc_analyse.specs.declared.findings.Findings.{Findings}
+use Rattle.rc_analyse.specs.declared.findings.Findings.TheVariants as found
 use Rattle.rc_analyse.specs.declared.status.Status.{Status}
-use Rattle.rc_analyse.specs.declared.status.Status.TheVariants.{Done, Refused, Usage, Source, Sink, Memory}
+use Rattle.rc_analyse.specs.declared.status.Status.TheVariants.{Done, Refused, Repeats, Limit, Source, Sink, Memory}
 
-abbrev pub status_of : Result Network NetRefusal → Status
-status_of (Ok net) = Done
-status_of (Err refused) = Refused
+-- the folder that is asked about
+abbrev pub dir_of : Request → List ℕ
+dir_of r = elim r.ask [ Routes dir ↦ dir ]
 
--- The text is written and its status answered, or a front of it where the sink failed. Of the other answers nothing is said here.
-abbrev pub Writes : Status → List ℕ → Status → Option (List ℕ) → Option (List ℕ) → Type 0
-Writes status text Sink old new = AppendsFront old new text
-Writes status text Source old new = Unit {0}
-Writes status text Memory old new = Unit {0}
-Writes status text answer old new = (answer ≡ status) × (new ≡ appended old text)
+-- The files of a folder give a refusal of their network, or the network and its outcome within the limit of rounds. The
+-- number of workers is no part of it.
+abbrev pub AreFindings : List ℕ → List File → Limits → Findings → Type 0
+AreFindings dir files limits (found.Refused refusal) = IsNet dir files (Err refusal)
+AreFindings dir files limits (found.Ended net outcome) = IsNet dir files (Ok net) × IsOutcome net limits.rounds outcome
 
--- what the files of a folder give
-abbrev pub IsWritten : List ℕ → List File → Status → Option (List ℕ) → Option (List ℕ) → Type 0
-IsWritten dir files answer old new = (net : Result Network NetRefusal) × IsNet dir files net × Writes (status_of net) (text_of net) answer old new
+abbrev pub status_after : Outcome → Status
+status_after (ended.Fixed k state) = Done
+status_after (ended.Repeats i k) = Repeats
+status_after (ended.Limit n) = Limit
 
--- the answer to the files of a folder; where reading or memory failed nothing is said here
-abbrev pub IsAnswer : List ℕ → List File → Status → Option (List ℕ) → Option (List ℕ) → Type 0
-IsAnswer dir files Source old new = Unit {0}
-IsAnswer dir files Memory old new = Unit {0}
-IsAnswer dir files answer old new = IsWritten dir files answer old new
+abbrev pub status_of : Findings → Status
+status_of (found.Refused refusal) = Refused
+status_of (found.Ended net outcome) = status_after outcome
 
--- nothing is written where reading or memory failed
+abbrev pub text_of : Findings → List ℕ
+text_of (found.Refused refusal) = refused_line refusal
+text_of (found.Ended net outcome) = outcome_text net outcome
+
+-- The text is written and its status answered; or a front of it, where the sink failed; or nothing, where memory ran out.
+abbrev pub IsPut : Status → List ℕ → Status → Option (List ℕ) → Option (List ℕ) → Type 0
+IsPut status text answer old new = ((answer ≡ status) × (new ≡ appended old text)) ⊎ ((answer ≡ Sink) × AppendsFront old new text) ⊎ ((answer ≡ Memory) × (new ≡ old))
+
+-- What the files of a folder give is put; or nothing is written, where reading failed or memory ran out.
+abbrev pub IsAnswer : List ℕ → List File → Limits → Status → Option (List ℕ) → Option (List ℕ) → Type 0
+IsAnswer dir files limits answer old new = ((f : Findings) × AreFindings dir files limits f × IsPut (status_of f) (text_of f) answer old new) ⊎ ((answer ≡ Source) × (new ≡ old)) ⊎ ((answer ≡ Memory) × (new ≡ old))
+
+-- the statuses with which nothing is written
 abbrev pub IsSilent : Status → Type 0
 IsSilent Source = Unit {0}
 IsSilent Memory = Unit {0}
 IsSilent _ = ⊥
 
 -- the text is written whole with its status, unless memory runs out
-abbrev pub IsComplete : List ℕ → List File → Status → Option (List ℕ) → Option (List ℕ) → Type 0
-IsComplete dir files answer old new = (answer ≡ Memory) ⊎ ((net : Result Network NetRefusal) × IsNet dir files net × (answer ≡ status_of net) × (new ≡ appended old (text_of net)))
+abbrev pub IsComplete : List ℕ → List File → Limits → Status → Option (List ℕ) → Option (List ℕ) → Type 0
+IsComplete dir files limits answer old new = (answer ≡ Memory) ⊎ ((f : Findings) × AreFindings dir files limits f × (answer ≡ status_of f) × (new ≡ appended old (text_of f)))
 
--- the statuses of a network
-abbrev pub IsOfNet : Status → Type 0
-IsOfNet Done = Unit {0}
-IsOfNet Refused = Unit {0}
-IsOfNet _ = ⊥
-
--- the statuses that come with a text of their own
-abbrev pub HasText : Status → Type 0
-HasText Done = Unit {0}
-HasText Refused = Unit {0}
-HasText Usage = Unit {0}
-HasText _ = ⊥
-
-abbrev pub text_in : Answer → List ℕ
-text_in answer = bytes_in answer.lines.items
-
--- the answer's status and lines are those of the network
-pub record IsFor (net : Result Network NetRefusal) (answer : Answer) : Type 0 where
-  pub status : answer.status ≡ status_of net
-  pub text : text_in answer ≡ text_of net
-
--- the answer to the files of a folder
-pub record Answers (dir : List ℕ) (files : List File) (answer : Answer) : Type 0 where
-  pub net : Result Network NetRefusal
-  pub is : IsNet dir files net
-  pub is_for : IsFor net answer
-
--- the answer to words that are not taken
-pub record IsUsage (answer : Answer) : Type 0 where
-  pub status : answer.status ≡ Usage
-  pub text : text_in answer ≡ usage_text
+-- without a fault of the folder or the sink
+pub record IsCompleteWithout (source sink : Type 0) (dir : List ℕ) (files : List File) (limits : Limits) (answer : Status) (old new : Option (List ℕ)) : Type 0 where
+  pub whole : ¬ source → ¬ sink → IsComplete dir files limits answer old new

@@ -1,5 +1,5 @@
 -- The network of the files of a folder, or their first refusal.
-use Rattle.std.specs.Prelude.{◌≡◌, ℕ, Bool, true, false, List, [], ◌∷◌, length, filter, nat_lt, if◌then◌else◌, Option, Some, None, Result, Ok, Err, unwrap_or, IsPermutation, IsSorted}
+use Rattle.std.specs.Prelude.{◌≡◌, ℕ, Bool, true, false, List, [], ◌∷◌, length, filter, nat_lt, if◌then◌else◌, Some, None, Result, Ok, Err, unwrap_or, IsPermutation, IsSorted}
 use Rattle.std.specs.Ordering.{nat_cmp}
 use Rattle.std.specs.Cmp.Lexicographic.{slice_cmp}
 use Rattle.rc_outside.specs.Folder.{File, names_in, bytes_at, is_config}

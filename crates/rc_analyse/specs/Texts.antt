@@ -1,16 +1,15 @@
--- The lines of text that are written.
-use Rattle.std.specs.Prelude.{ℕ, Bool, List, [], ◌++◌, codes, decimal, flat_map, slice_get, Option, Some, None, Result, Ok, Err, if◌then◌else◌}
-use Rattle.std.specs.List.{list_any}
+-- The texts that are written.
+use Rattle.std.specs.Prelude.{ℕ, List, [], ◌++◌, codes, decimal, flat_map, slice_get}
 use Rattle.std.specs.Option.{option_map_or}
-use Rattle.rc_base.specs.Prefix.{prefix_text}
-use Rattle.rc_config.specs.declared.interface.Interface.{Interface}
 use Rattle.rc_config.specs.declared.network.Network.{Network}
-use Rattle.rc_config.specs.declared.router_text.RouterText.{RouterText}
-use Rattle.rc_connected.specs.Connected.{connected, has_connected}
-use Rattle.rc_connected.specs.declared.route.ConnectedRoute.{ConnectedRoute}
+use Rattle.rc_config.specs.Members.{router_ids}
 use Rattle.rc_network.specs.Codes.{net_code}
 use Rattle.rc_network.specs.declared.refusal.NetRefusal.{NetRefusal}
 use Rattle.rc_network.specs.declared.refusal.NetRefusal.TheVariants.{InFile, TooManyFiles}
+use Rattle.rc_report.specs.RouteText.{routes_text}
+use Rattle.rc_rounds.specs.declared.outcome.Outcome.{Outcome}
+use Rattle.rc_rounds.specs.declared.outcome.Outcome.TheVariants.{Fixed, Repeats, Limit}
+use Rattle.rc_route.specs.declared.state.RouterState.{RouterState}
 
 unfoldable pub usage_text : List ℕ
 usage_text = codes "usage: netcheck routes DIR [--router R]\n"
@@ -23,38 +22,25 @@ unfoldable pub refused_line : NetRefusal → List ℕ
 refused_line TooManyFiles = codes "refused folder: 10\n"
 refused_line (InFile file line cause) = codes "refused " ++ file ++ codes ":" ++ decimal line ++ codes ": " ++ decimal (net_code cause) ++ codes "\n"
 
--- The tables hold the connected routes from the first round on, so where there is one the second round is the first that changes nothing.
-abbrev pub outcome_line : Bool → List ℕ
-outcome_line some_route = if some_route then codes "outcome fixed 2\n" else codes "outcome fixed 1\n"
+-- the first line of an answer that is no refusal
+unfoldable pub outcome_line : Outcome → List ℕ
+outcome_line (Fixed k state) = codes "outcome fixed " ++ decimal k ++ codes "\n"
+outcome_line (Repeats i k) = codes "outcome repeats " ++ decimal i ++ codes " " ++ decimal k ++ codes "\n"
+outcome_line (Limit n) = codes "outcome limit " ++ decimal n ++ codes "\n"
 
-unfoldable pub router_line : List ℕ → List ℕ
-router_line name = codes "router " ++ name ++ codes "\n"
+-- the routes of a router in a state
+abbrev pub routes_in : Network → List RouterState → ℕ → List ℕ
+routes_in net state r = option_map_or (λ (s : RouterState). routes_text net r s.table) (slice_get state r) []
 
--- the name of the interface at a place
-abbrev pub name_at : List (List ℕ × Interface) → ℕ → List ℕ
-name_at entries place = option_map_or (λ e. e.0) (slice_get entries place) []
+-- each router and its routes, in byte order of host names
+unfoldable pub all_routes : Network → List RouterState → List ℕ
+all_routes net state = flat_map (routes_in net state) (router_ids net)
 
-abbrev pub hop_text : List (List ℕ × Interface) → ℕ → List ℕ
-hop_text entries place = codes " dev " ++ name_at entries place
+-- only at a fixed point are there routes to tell
+abbrev pub routes_after : Network → Outcome → List ℕ
+routes_after net (Fixed k state) = all_routes net state
+routes_after net (Repeats i k) = []
+routes_after net (Limit n) = []
 
--- a connected route: the prefix, the source, distance and metric, and its interfaces as hops
-unfoldable pub route_line : List (List ℕ × Interface) → ConnectedRoute → List ℕ
-route_line entries route = prefix_text route.prefix ++ codes " connected 0/0" ++ flat_map (hop_text entries) route.interfaces ++ codes "\n"
-
-unfoldable pub routes_text : RouterText → List ℕ
-routes_text file = flat_map (route_line file.interfaces) (connected file.interfaces)
-
--- a router and its routes
-abbrev pub router_text : List ℕ × RouterText → List ℕ
-router_text entry = router_line entry.0 ++ routes_text entry.1
-
-abbrev pub has_route : List ℕ × RouterText → Bool
-has_route entry = has_connected entry.1.interfaces
-
--- the routers stand in byte order of host names
-abbrev pub network_text : Network → List ℕ
-network_text net = outcome_line (list_any has_route net.routers) ++ flat_map router_text net.routers
-
-abbrev pub text_of : Result Network NetRefusal → List ℕ
-text_of (Ok net) = network_text net
-text_of (Err refusal) = refused_line refusal
+abbrev pub outcome_text : Network → Outcome → List ℕ
+outcome_text net outcome = outcome_line outcome ++ routes_after net outcome

@@ -1,135 +1,95 @@
-//! The answer to words over a folder. Nothing is written here.
-ghost use Rattle.std.specs.Prelude.{◌≡◌, List, ℕ, Some, None, Ok, Err, IsTrue, IfOk, IfSome, IfNone, map, option_copied};
-ghost use Rattle.rc_outside.specs.Causes.{HasCause};
-ghost use Rattle.rc_analyse.specs.Answer.{IsFor, Answers, IsUsage, IsOfNet, HasText};
-ghost use Rattle.rc_analyse.specs.Words.{dir_of, is_folder};
+//! What the words ask for is found and written.
+ghost use Rattle.std.specs.Prelude.{◌≡◌, ◌≢◌, ◌<◌, IsTrue, IfSome};
+ghost use Rattle.rc_outside.specs.Causes.{Rose};
+ghost use Rattle.rc_words.specs.Request.{AreInRange};
+ghost use Rattle.rc_analyse.specs.Texts.{usage_text};
+ghost use Rattle.rc_analyse.specs.Answer.{IsPut, IsAnswer, IsCompleteWithout, IsSilent, status_of, status_after, text_of};
 
 use crate::Status;
-use crate::answer::Answer;
-use crate::loading::read_network;
-use crate::texts::{network_lines, refused_text};
-use rc_config::Network;
-use rc_network::NetRefusal;
-use rc_outside::{Folder, SourceError};
-use std::alloc::{AllocError, Global};
+use crate::findings::{Findings, analyse_folder};
+use crate::writing::{put_findings, put_usage};
+use rc_outside::{Folder, Gate, Sink, SourceError};
+use rc_report::Buffer;
+use rc_rounds::Outcome;
+use rc_words::Limits;
+use std::alloc::{AllocGlobal, Global};
+use std::thread::Threads;
 
-fn refused_answer(alloc: Global, refusal: &NetRefusal) -> Result<Answer, AllocError>
-    ensures { IfOk result (IsFor (Err refusal.now)) }
+/// Answers words that are not taken.
+pub(crate) fn answer_usage<S: Sink>(alloc: Global, out: &mut S) -> Status
+    ensures put { IsPut Status.Usage usage_text result (S.told out.old) (S.told out.new) }
+    ensures sink_only { result ≡ Status.Sink → Rose (S.faults out.old) (S.faults out.new) }
+    ensures sink_always { S.faults out.old < S.faults out.new → result ≡ Status.Sink }
 {
-    let mut lines = Vec::new(alloc);
-    lines.push(refused_text(alloc, refusal)?)?;
-    Ok(Answer {
-        status: Status::Refused,
-        lines,
-    })
-}
-
-fn network_answer(alloc: Global, net: &Network) -> Result<Answer, AllocError>
-    ensures { IfOk result (IsFor (Ok net.now)) }
-{
-    let lines = network_lines(alloc, net)?;
-    Ok(Answer {
-        status: Status::Done,
-        lines,
-    })
-}
-
-fn net_answer(alloc: Global, net: &Result<Network, NetRefusal>) -> Result<Answer, AllocError>
-    ensures { IfOk result (IsFor net.now) }
-{
-    match net {
-        Ok(net) => network_answer(alloc, net),
-        Err(refusal) => refused_answer(alloc, refusal),
-    }
-}
-
-/// The answer to the files in a folder.
-fn folder_answer<F: Folder>(alloc: Global, dir: &str, folder: &mut F) -> Result<Answer, SourceError>
-    requires { IsTrue (F.allows folder.old dir.now) }
-    ensures answer { IfOk result (λ a. IfSome (F.told folder.old) (λ files. Answers dir.now files a)) }
-    ensures of_net { IfOk result (λ a. IsOfNet a.status) }
-    ensures cause { HasCause (F.faults folder.old) (F.faults folder.new) result }
-{
-    let net = match read_network(alloc, dir, folder) {
-        Ok(net) => net,
-        Err(error) => return Err(error),
+    let mut line = match Buffer::new(alloc) {
+        Ok(line) => line,
+        Err(_) => return Status::Memory,
     };
-    match net_answer(alloc, &net) {
-        Ok(answer) => Ok(answer),
-        Err(_) => Err(SourceError::Memory),
+    match put_usage(out, &mut line) {
+        Ok(()) => Status::Usage,
+        Err(_) => Status::Sink,
     }
 }
 
-#[tactic(auto, unfolding(crate::specs::Texts::usage_text))]
-fn usage_answer(alloc: Global) -> Result<Answer, AllocError>
-    ensures { IfOk result IsUsage }
+fn status_after(outcome: &Outcome) -> Status
+    ensures { result ≡ status_after outcome.now }
 {
-    let mut lines = Vec::new(alloc);
-    lines.push(Vec::from_slice(alloc, b"usage: netcheck routes DIR [--router R]\n")?)?;
-    lines.push(Vec::from_slice(
-        alloc,
-        b"       netcheck trace DIR --from PLACE --dst A [--src A] [--proto N] [--sport N] [--dport N]\n",
-    )?)?;
-    lines.push(Vec::from_slice(
-        alloc,
-        b"       netcheck reach DIR --from PLACE [--end KIND] [--examples N]\n",
-    )?)?;
-    lines.push(Vec::from_slice(alloc, b"       netcheck sample N\n")?)?;
-    lines.push(Vec::from_slice(alloc, b"options: --rounds N --workers N --nodes N\n")?)?;
-    Ok(Answer {
-        status: Status::Usage,
-        lines,
-    })
-}
-
-fn is_folder_text(dir: &str) -> bool
-    ensures { result ≡ is_folder dir.now }
-{
-    match dir.as_bytes() {
-        [first, ..] => *first != b'-',
-        [] => false,
+    match outcome {
+        Outcome::Fixed(_, _) => Status::Done,
+        Outcome::Repeats(_, _) => Status::Repeats,
+        Outcome::Limit(_) => Status::Limit,
     }
 }
 
-/// The DIR of `routes DIR`, where the words are these.
-fn folder_word<'a>(words: &[&'a str]) -> Option<&'a str>
-    ensures { option_copied result ≡ dir_of (map (λ w. w.now) words.now) }
+fn status_of(found: &Findings) -> Status
+    ensures { result ≡ status_of found.now }
 {
-    match words {
-        [command, dir] => {
-            let command: &str = command;
-            let dir: &'a str = dir;
-            if command == "routes" && is_folder_text(dir) {
-                Some(dir)
-            } else {
-                None
-            }
-        }
-        _ => None,
+    match found {
+        Findings::Refused(_) => Status::Refused,
+        Findings::Ended(_, outcome) => status_after(outcome),
     }
 }
 
-/// The answer to words, which the words alone or the files of a folder give.
-pub(crate) fn answer_to<F: Folder>(
-    alloc: Global,
-    words: &[&str],
+/// Answers what the files of a folder give. All of its memory is taken before the first line is put.
+fn answer_findings<S: Sink>(alloc: Global, found: &Findings, out: &mut S) -> Status
+    ensures put { IsPut (status_of found.now) (text_of found.now) result (S.told out.old) (S.told out.new) }
+    ensures sink_only { result ≡ Status.Sink → Rose (S.faults out.old) (S.faults out.new) }
+    ensures sink_always { S.faults out.old < S.faults out.new → result ≡ Status.Sink }
+{
+    let mut line = match Buffer::new(alloc) {
+        Ok(line) => line,
+        Err(_) => return Status::Memory,
+    };
+    match put_findings(out, &mut line, found) {
+        Ok(()) => status_of(found),
+        Err(_) => Status::Sink,
+    }
+}
+
+/// Answers over the files of a folder, within these limits.
+#[tactic(auto, using(crate::proofs::AnswerLaws::complete_where_told))]
+pub(crate) fn answer_folder<R: Threads + Sync + AllocGlobal, F: Folder, S: Sink, G: Gate>(
+    rt: &R,
+    dir: &str,
+    limits: &Limits,
     folder: &mut F,
-) -> Result<Answer, SourceError>
-    requires { IfSome (dir_of (map (λ w. w.now) words.now)) (λ dir. IsTrue (F.allows folder.old dir)) }
-    ensures usage { IfOk result (λ a. IfNone (dir_of (map (λ w. w.now) words.now)) (IsUsage a)) }
-    ensures answer { IfOk result (λ a. IfSome (dir_of (map (λ w. w.now) words.now)) (λ dir. IfSome (F.told folder.old) (λ files. Answers dir files a))) }
-    ensures of_net { IfOk result (λ a. IfSome (dir_of (map (λ w. w.now) words.now)) (λ dir. IsOfNet a.status)) }
-    ensures has_text { IfOk result (λ a. HasText a.status) }
-    ensures cause { HasCause (F.faults folder.old) (F.faults folder.new) result }
+    out: &mut S,
+    gate: &G,
+) -> Status
+    requires allowed { IsTrue (F.allows folder.old dir.now) }
+    requires limits { AreInRange limits.now }
+    ensures answer { IfSome (F.told folder.old) (λ files. IsAnswer dir.now files limits.now result (S.told out.old) (S.told out.new)) }
+    ensures complete { IfSome (F.told folder.old) (λ files. IsCompleteWithout (Rose (F.faults folder.old) (F.faults folder.new)) (Rose (S.faults out.old) (S.faults out.new)) dir.now files limits.now result (S.told out.old) (S.told out.new)) }
+    ensures never_usage { result ≢ Status.Usage }
+    ensures silent { IsSilent result → S.told out.new ≡ S.told out.old }
+    ensures source_only { result ≡ Status.Source → Rose (F.faults folder.old) (F.faults folder.new) }
+    ensures source_always { F.faults folder.old < F.faults folder.new → result ≡ Status.Source }
+    ensures sink_only { result ≡ Status.Sink → Rose (S.faults out.old) (S.faults out.new) }
+    ensures sink_always { S.faults out.old < S.faults out.new → result ≡ Status.Sink }
 {
-    match folder_word(words) {
-        Some(dir) => match folder_answer(alloc, dir, folder) {
-            Ok(answer) => Ok(answer),
-            Err(error) => Err(error),
-        },
-        None => match usage_answer(alloc) {
-            Ok(answer) => Ok(answer),
-            Err(_) => Err(SourceError::Memory),
-        },
+    match analyse_folder(rt, dir, limits, folder, gate) {
+        Ok(found) => answer_findings(rt.alloc(), &found, out),
+        Err(SourceError::Failed) => Status::Source,
+        Err(SourceError::Memory) => Status::Memory,
     }
 }

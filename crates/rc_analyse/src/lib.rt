@@ -1,19 +1,20 @@
 //! The analyser: the words of a command line and a folder in, a text to a sink and a status out.
 //!
-//! It stands on the outside (folders, sinks, gates), on files as models, on their network and on connected routes. The
-//! layer above knows `run`, whose clauses are the product's headline, and the number of each status.
+//! It stands on the words, on the outside (folders, sinks, gates), on files as models and their network, on the rounds of
+//! tables, and on texts to a sink. The layer above knows `run`, whose clauses are the product's headline, and each status.
 #![tactic(auto)]
 
-mod answer;
 mod answering;
+mod findings;
 mod listing;
 mod loading;
-mod put;
 mod runs;
 mod status;
-mod texts;
+mod writing;
 
+pub use findings::Findings;
 pub use listing::one_listing;
+pub use rc_words::{Ask, FolderText, Limits, Request, WordsFault, request_of_words};
 pub use runs::run;
 pub use status::Status;
 

@@ -2,7 +2,7 @@
 ghost use Rattle.std.specs.Prelude.{◌≡◌, ◌≤◌, All, List, ℕ, Ok, Err, IsTrue, IsSome, IfOk, IfSome, OnErr, length};
 ghost use Rattle.rc_outside.specs.Causes.{HasCause};
 ghost use Rattle.rc_outside.specs.Folder.{is_config, bytes_at};
-ghost use Rattle.rc_config.specs.Lawful.{IsLawfulFile};
+ghost use Rattle.rc_config.specs.Lawful.{IsLawful, IsLawfulFile};
 ghost use Rattle.rc_analyse.specs.Net.{model_of, models_of, bytes_in, IsNet};
 
 use crate::listing::config_names;
@@ -130,6 +130,7 @@ pub(crate) fn read_network<F: Folder>(
 ) -> Result<Result<Network, NetRefusal>, SourceError>
     requires { IsTrue (F.allows folder.old dir.now) }
     ensures net { IfOk result (λ net. IfSome (F.told folder.old) (λ files. IsNet dir.now files net)) }
+    ensures lawful { IfOk result (λ net. IfOk net IsLawful) }
     ensures cause { HasCause (F.faults folder.old) (F.faults folder.new) result }
 {
     let configs = match config_names(alloc, dir, folder) {

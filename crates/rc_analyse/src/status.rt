@@ -4,12 +4,16 @@ ghost use Rattle.std.specs.Prelude.{◌≡◌};
 /// How a run ends.
 #[derive(Clone, Copy, Debug, PartialEq, Eq)]
 pub enum Status {
-    /// The whole text is written.
+    /// The tables reached a fixed point; the whole text is written.
     Done,
     /// A file is refused; the refusal's line is written.
     Refused,
     /// The words aren't taken; the usage text is written.
     Usage,
+    /// The tables repeat without a fixed point; the outcome's line is written.
+    Repeats,
+    /// The limit of rounds was reached; the outcome's line is written.
+    Limit,
     /// The folder failed; nothing is written.
     Source,
     /// The sink failed; a front of the text is written.
@@ -21,7 +25,7 @@ pub enum Status {
 impl Status {
     ghost use Rattle.rc_analyse.specs.Codes.{status_code};
 
-    /// The exit status of the process: 0, 1, 2, 6, 7 or 8.
+    /// The exit status of the process: 0 to 4, 6, 7 or 8.
     pub fn code(self) -> u8
         ensures { result ≡ status_code self }
     {
@@ -29,6 +33,8 @@ impl Status {
             Status::Done => 0,
             Status::Refused => 1,
             Status::Usage => 2,
+            Status::Repeats => 3,
+            Status::Limit => 4,
             Status::Source => 6,
             Status::Sink => 7,
             Status::Memory => 8,

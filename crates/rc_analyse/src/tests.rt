@@ -350,11 +350,44 @@ fn words_that_are_not_taken(rt: HostRuntime) -> Result<(), Fail> {
     check_usage(&rt, &[])?;
     check_usage(&rt, &["routes"])?;
     check_usage(&rt, &["routes", "-d"])?;
-    check_usage(&rt, &["routes", ""])?;
     check_usage(&rt, &["Routes", "d"])?;
     check_usage(&rt, &["routes", "d", "d"])?;
     check_usage(&rt, &["trace", "d"])?;
     check_usage(&rt, &["--help"])?;
+    check_usage(&rt, &["routes", "d", "--rounds", "0"])?;
+    check_usage(&rt, &["routes", "d", "--rounds", "100001"])?;
+    check_usage(&rt, &["routes", "d", "--workers", "65"])?;
+    check_usage(&rt, &["routes", "d", "--nodes", "15"])?;
+    check_usage(&rt, &["routes", "d", "--rounds"])?;
+    check_usage(&rt, &["routes", "d", "--rounds", "7", "--rounds", "7"])?;
+    check_usage(&rt, &["routes", "d", "--router", "R1"])?;
+    Ok(())
+}
+
+fn check_words<R: Threads + Sync + AllocGlobal + Abort>(
+    rt: &R,
+    words: &[&str],
+    status: Status,
+    text: &str,
+) -> Result<(), AllocError> {
+    let (found, out) = answered(rt, words, &[("a.cfg", BASE)], Vec::new(rt.alloc()))?;
+    assert_eq!(rt; found, status, "{text}");
+    assert_eq!(rt; out.bytes.as_slice(), text.as_bytes());
+    Ok(())
+}
+
+#[test]
+fn options_of_routes(rt: HostRuntime) -> Result<(), Fail> {
+    let most = &["routes", "d", "--rounds", "100000", "--workers", "64"];
+    check_words(&rt, most, Status::Done, CONNECTED)?;
+    let least = &["routes", "d", "--nodes", "16", "--workers", "1"];
+    check_words(&rt, least, Status::Done, CONNECTED)?;
+    let before = &["routes", "--rounds=2", "d"];
+    check_words(&rt, before, Status::Done, CONNECTED)?;
+    let short = &["routes", "d", "--rounds", "1"];
+    check_words(&rt, short, Status::Limit, "outcome limit 1\n")?;
+    let nowhere = &["routes", ""];
+    check_words(&rt, nowhere, Status::Done, "outcome fixed 1\n")?;
     Ok(())
 }
 

@@ -1,5 +1,5 @@
 //! A list that contracts see as a list.
-ghost use Rattle.std.specs.Prelude.{◌≡◌, [], ◌∷◌, ◌++◌, ◌↔◌, IsTrue, OnOk, OnErr, length};
+ghost use Rattle.std.specs.Prelude.{◌≡◌, [], ◌∷◌, ◌++◌, ◌↔◌, IsTrue, IfOk, OnOk, OnErr, length};
 ghost use Rattle.std.specs.Cmp.Lexicographic.{pointwise, lists_per, lists_equiv};
 
 use std::alloc::{AllocError, Global};
@@ -74,6 +74,16 @@ impl<T: Drop> Items<T> {
     {
         self.items.push(item)?;
         Ok(())
+    }
+}
+
+impl<T: Copy> Items<T> {
+    /// The list again, in memory of its own.
+    pub fn copy(&self, alloc: Global) -> Result<Items<T>, AllocError>
+        ensures { IfOk result (λ items. items ≡ self.now) }
+    {
+        let items = Vec::from_slice(alloc, self.items.as_slice())?;
+        Ok(Items { items })
     }
 }
 

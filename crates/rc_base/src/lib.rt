@@ -11,6 +11,7 @@ mod file_name;
 mod header;
 mod items;
 mod name;
+mod origin;
 mod place;
 mod prefix;
 
@@ -20,6 +21,7 @@ pub use file_name::FileName;
 pub use header::Header;
 pub use items::Items;
 pub use name::Name;
+pub use origin::Origin;
 pub use place::{IfId, Pos, RouterId};
 pub use prefix::Prefix;
 

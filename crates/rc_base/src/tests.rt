@@ -73,6 +73,7 @@ fn lists_and_places(rt: HostRuntime) -> Result<(), Fail> {
     assert_eq!(rt; items.len(), 1);
     let same = Items::from_vec(items.into_vec());
     assert_eq!(rt; same.as_slice(), [RouterId::at(7)].as_slice());
+    assert!(rt; same.copy(rt.alloc())? == same);
     assert!(rt; Pos::Own(RouterId::at(0)) != Pos::Own(RouterId::at(1)));
     let upper = FileName::new(String::from_str(rt.alloc(), "B.cfg")?);
     let lower = FileName::new(String::from_str(rt.alloc(), "a.cfg")?);

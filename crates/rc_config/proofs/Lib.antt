@@ -1,3 +1,4 @@
 pub mod NamedLaws
 mod LawfulLaws
 pub mod OrderLaws
+pub mod DownLaws

@@ -1,6 +1,5 @@
 -- Names in byte order.
-use Rattle.std.proofs.Common.{refl, ◌≡◌, ◌∙◌, ◌<◌, suc, get_or, length, arith, ℕ, Bool, true, false, List, [], ◌∷◌, ap}
-use Rattle.std.specs.Cmp.{IsTotalOrder}
+use Rattle.std.proofs.Common.{refl, ◌≡◌, ◌∙◌, ◌<◌, suc, get_or, length, arith, ℕ, true, false, List, [], ◌∷◌, ap}
 use Rattle.std.specs.Cmp.Lexicographic.{bytes_decides, slice_cmp, nat_list_cmp_total}
 use Rattle.std.specs.FinMap.{slice_cmp-IsAntisymmetric, nat_cmp-IsAntisymmetric}
 use Rattle.std.specs.List.{AllByRecursion, IsDistinct}

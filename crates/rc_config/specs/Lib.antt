@@ -7,3 +7,5 @@ pub mod Members
 pub mod Lawful
 pub mod Rows
 pub mod Place
+pub mod Down
+pub mod DownRows

@@ -7,6 +7,7 @@
 
 mod command;
 mod context;
+mod down;
 mod if_type;
 mod interface;
 mod named;

@@ -115,6 +115,18 @@ impl Reading {
         }
     }
 
+    /// After a line whose opening is passed over: no more than the open block changes. Most lines are such, and the model
+    /// is not touched for them.
+    fn passed(self, at: &Place) -> Reading
+        ensures { result ≡ record self { place = open_after at.now Command.Passed } }
+    {
+        let Reading { file, place: _ } = self;
+        Reading {
+            file,
+            place: place_after(at, &Command::Passed),
+        }
+    }
+
     fn with_text(self, line: &Line) -> Result<Reading, ReadError>
         ensures step { Gives result (with_text self line.now) }
         ensures lawful { IfOk result (λ r. HasLawfulInterfaces self.file → HasLawfulInterfaces r.file) }
@@ -126,6 +138,7 @@ impl Reading {
         let at = place_of(&self.place, line);
         let said = line_command(line, &at, &self.file);
         match said {
+            Ok(Command::Passed) => Ok(self.passed(&at)),
             Ok(command) => self.with_command(line, &at, command),
             Err(refusal) => Err(refused(line, FileCause::Line(refusal))),
         }

@@ -1,5 +1,5 @@
 -- One more row, and which row is then decisive.
-use Rattle.std.proofs.Common.{◌≡◌, ℕ, ◌<◌, ◌≤◌, inl, inr, true, ◌&&◌, refl, List, [], ◌∷◌, ◌++◌, ◌+◌, length, map, take, get_or, arith, sym, ap, Option}
+use Rattle.std.proofs.Common.{◌≡◌, ℕ, ◌<◌, ◌≤◌, inl, inr, true, ◌&&◌, refl, List, [], ◌∷◌, ◌++◌, append_assoc, ◌+◌, length, map, take, get_or, arith, sym, ap, Option}
 use Rattle.std.specs.Prelude.{Contains}
 use Rattle.std.proofs.lemmas.List.Elements.{Contains-push_cases, Contains-push, Contains-append_left}
 use Rattle.std.specs.Option.{option_map}
@@ -37,11 +37,11 @@ decisive_kept rows line row best was le = record {
 }
 
 -- a loop's step over the openings
-pub answer_more : (os : List Opening) (i : ℕ) (d : Opening) (line : List (List ℕ)) (was now : Option Opening) → i < length os
-    → IsAnswer (map row_of (take i os)) line (option_map row_of was)
+pub answer_more : (rows : List Row) (os : List Opening) (i : ℕ) (d : Opening) (line : List (List ℕ)) (was now : Option Opening) → i < length os
+    → IsAnswer (rows ++ map row_of (take i os)) line (option_map row_of was)
     → ((rows : List Row) → IsAnswer rows line (option_map row_of was) → IsAnswer (rows ++ row_of (get_or os i d) ∷ []) line (option_map row_of now))
-    → IsAnswer (map row_of (take (i + 1) os)) line (option_map row_of now)
-answer_more os i d line was now lt before step = rw (map_more row_of os i d lt) (step (map row_of (take i os)) before)
+    → IsAnswer (rows ++ map row_of (take (i + 1) os)) line (option_map row_of now)
+answer_more rows os i d line was now lt before step = rw (map_more row_of os i d lt, ← (append_assoc rows (map row_of (take i os)) (row_of (get_or os i d) ∷ []))) (step (rows ++ map row_of (take i os)) before)
 
 -- a form opening that the line begins with settles the answer
 pub form_found : (os : List Opening) (i : ℕ) (d : Opening) (line : List (List ℕ)) → i < length os → is_form_verdict (get_or os i d).verdict ≡ true

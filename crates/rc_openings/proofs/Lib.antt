@@ -1,4 +1,6 @@
 mod WordsLemmas
+mod PartLemmas
+mod GroupLemmas
 mod DecisiveLemmas
 mod ValueLemmas
 pub mod ApartLemmas

@@ -1,13 +1,11 @@
 -- The words of a text that begins with a word.
-use Rattle.std.proofs.Common.{◌≡◌, ℕ, suc, ◌<◌, ◌≤◌, ◌+◌, ◌-◌, Bool, true, false, ◌||◌, cond, not, List, [], ◌∷◌, length, take, drop, arith, refl, sym, ◌∙◌, ap, subst, add-one, get_or, zero, length-drop, Option, Some, None, Bor, MatchOption, is_some}
+use Rattle.std.proofs.Common.{◌≡◌, ℕ, suc, ◌<◌, ◌≤◌, ◌+◌, ◌-◌, Bool, true, false, cond, not, List, [], ◌∷◌, length, take, drop, arith, refl, sym, ◌∙◌, ap, subst, add-one, get_or, zero, length-drop, Option, Some, None, Bor, MatchOption, is_some}
 use Rattle.std.proofs.lemmas.Bool.{false≢true}
 use Rattle.std.proofs.Math.Seq.{take-length}
 use Rattle.std.specs.List.{position_or_len, slice_split, filter, onto_first}
 use Rattle.std.proofs.Math.Nat.{add_comm}
 use Rattle.std.proofs.lemmas.List.{take_all}
 use Rattle.rc_openings.specs.Words.{words_of, is_blank, has_bytes, starts_blank, first_byte}
-use Rattle.rc_openings.specs.Opening.{begins_with, could_begin}
-use Rattle.std.specs.Prelude.{nat_eq}
 
 abbrev the_nil : List (List ℕ)
 the_nil = []
@@ -104,21 +102,3 @@ pub first_byte_none : (s : List ℕ) → length s ≡ 0 → first_byte (words_of
 unfolding words_of
 first_byte_none [] e = refl
 first_byte_none (b ∷ bs) e = absurd (omega arith)
-
-neither : (x y : Bool) → (x || y) ≡ false → (x ≡ false) × (y ≡ false)
-neither true y h = absurd (false≢true (sym h))
-neither false y h = (refl, h)
-
--- a line whose first byte is another one doesn't begin with these words
-pub cannot_begin : (s : List ℕ) (first : ℕ) (line : List (List ℕ)) → 1 ≤ length s → could_begin (get_or s 0 0) first ≡ false → first_byte line ≡ first → begins_with line (words_of s) ≡ false
-cannot_begin [] first line l h here = absurd (omega arith)
-cannot_begin (c ∷ cs) first line l h here =
-    let both = neither (nat_eq c first || nat_eq c 42) (is_blank c) h in
-    let each = neither (nat_eq c first) (nat_eq c 42) both.0 in
-    rw (front_word c cs both.1) (by each.0 each.1 line here)
-  where
-    by : nat_eq c first ≡ false → nat_eq c 42 ≡ false → (line : List (List ℕ)) → first_byte line ≡ first
-        → begins_with line ((c ∷ take (position_or_len is_blank cs) cs) ∷ words_of (drop (position_or_len is_blank cs) cs)) ≡ false
-    by differ star [] here = refl
-    by differ star ([] ∷ ws) here = rw star refl
-    by differ star ((b ∷ bs) ∷ ws) here = rw (star, here, differ) refl

@@ -7,6 +7,7 @@ pub mod AclOpenings
 pub mod RouteMapOpenings
 pub mod OspfOpenings
 pub mod BgpOpenings
+pub mod Groups
 pub mod Block
 pub mod Values
 pub mod Reading

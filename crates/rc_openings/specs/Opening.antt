@@ -6,7 +6,7 @@ use Rattle.rc_openings.specs.declared.form.Form.{Form as FormKind}
 use Rattle.rc_openings.specs.declared.opening.Opening.{Opening}
 use Rattle.rc_openings.specs.declared.opening.Verdict.{Verdict}
 use Rattle.rc_openings.specs.declared.opening.Verdict.TheVariants.{Form, Later, Refused, Ignored}
-use Rattle.rc_openings.specs.Words.{words_of, is_blank}
+use Rattle.rc_openings.specs.Words.{words_of}
 
 -- the words of an opening, and what it says of a line that begins with them
 pub record Row : Type 0 where
@@ -42,9 +42,12 @@ begins_with line [] = true
 begins_with [] (t ∷ ts) = false
 begins_with (w ∷ ws) (t ∷ ts) = stands_for t w && begins_with ws ts
 
--- the quick test: a text with the first byte b might begin with a word that stands for one with the first byte c
-abbrev pub could_begin : ℕ → ℕ → Bool
-could_begin b c = nat_eq b c || nat_eq b 42 || is_blank b
+-- the quick test: the texts of an opening and of a line are the same up to a byte within a word, and there they differ.
+-- No byte up to 32 is surely within a word, and none up to `*`, which is 42, surely stands for itself.
+abbrev pub parts_within_word : List ℕ → List ℕ → Bool
+parts_within_word [] line = false
+parts_within_word (a ∷ as') [] = false
+parts_within_word (a ∷ as') (b ∷ bs) = if nat_eq a b then parts_within_word as' bs else nat_lt 42 a && nat_lt 32 b
 
 -- of the rows with which the line begins, this one has the most words
 pub record IsDecisive (rows : List Row) (line : List (List ℕ)) (row : Row) : Type 0 where

@@ -28,3 +28,8 @@ abbrev pub first_byte : List (List ℕ) → ℕ
 first_byte ((b ∷ bs) ∷ ws) = b
 first_byte ([] ∷ ws) = 0
 first_byte [] = 0
+
+-- the first byte of the second word
+abbrev pub second_byte : List (List ℕ) → ℕ
+second_byte [] = 0
+second_byte (w ∷ ws) = first_byte ws

@@ -1,22 +1,14 @@
 //! The openings of a line under `ip access-list`, behind its sequence number.
-ghost use Rattle.std.specs.Prelude.{◌≡◌, map};
-ghost use Rattle.rc_openings.specs.Opening.{row_of};
+ghost use Rattle.rc_openings.specs.Groups.{IsTable};
 ghost use Rattle.rc_openings.specs.AclOpenings.{acl};
 
+use crate::table::{Group, Index, Table};
 use crate::{Form, Opening, Verdict};
 
-static OPENINGS: [Opening; 6] = [
-    Opening {
-        text: b"permit",
-        verdict: Verdict::Later(Form::Permit),
-    },
+static ONE_WORD: [Opening; 6] = [
     Opening {
         text: b"deny",
         verdict: Verdict::Later(Form::Deny),
-    },
-    Opening {
-        text: b"remark",
-        verdict: Verdict::Later(Form::Remark),
     },
     Opening {
         text: b"dynamic",
@@ -30,10 +22,47 @@ static OPENINGS: [Opening; 6] = [
         text: b"exit",
         verdict: Verdict::Ignored,
     },
+    Opening {
+        text: b"permit",
+        verdict: Verdict::Later(Form::Permit),
+    },
+    Opening {
+        text: b"remark",
+        verdict: Verdict::Later(Form::Remark),
+    },
 ];
 
-pub(crate) fn acl_openings() -> &'static [Opening]
-    ensures { map row_of result.now ≡ acl }
+static ONE_WORD_GROUPS: [Group; 4] = [
+    Group {
+        first: b'd',
+        count: 2,
+    },
+    Group {
+        first: b'e',
+        count: 2,
+    },
+    Group {
+        first: b'p',
+        count: 1,
+    },
+    Group {
+        first: b'r',
+        count: 1,
+    },
+];
+
+pub(crate) fn acl_table() -> Table
+    ensures { IsTable result acl }
 {
-    &OPENINGS
+    Table {
+        one_word: Index {
+            openings: &ONE_WORD,
+            groups: &ONE_WORD_GROUPS,
+        },
+        more_words: Index {
+            openings: &[],
+            groups: &[],
+        },
+        starred: &[],
+    }
 }

@@ -1,19 +1,191 @@
 //! The openings of a line under `router bgp`.
-ghost use Rattle.std.specs.Prelude.{◌≡◌, map};
-ghost use Rattle.rc_openings.specs.Opening.{row_of};
+ghost use Rattle.rc_openings.specs.Groups.{IsTable};
 ghost use Rattle.rc_openings.specs.BgpOpenings.{bgp};
 
+use crate::table::{Group, Index, Table};
 use crate::{Form, Opening, Verdict};
 
-static OPENINGS: [Opening; 43] = [
+static ONE_WORD: [Opening; 15] = [
     Opening {
-        text: b"bgp router-id",
-        verdict: Verdict::Later(Form::BgpRouterId),
+        text: b"aggregate-address",
+        verdict: Verdict::Refused,
+    },
+    Opening {
+        text: b"address-family",
+        verdict: Verdict::Refused,
+    },
+    Opening {
+        text: b"bgp",
+        verdict: Verdict::Refused,
+    },
+    Opening {
+        text: b"distance",
+        verdict: Verdict::Refused,
+    },
+    Opening {
+        text: b"default-information",
+        verdict: Verdict::Refused,
+    },
+    Opening {
+        text: b"default-metric",
+        verdict: Verdict::Refused,
+    },
+    Opening {
+        text: b"exit",
+        verdict: Verdict::Ignored,
+    },
+    Opening {
+        text: b"maximum-paths",
+        verdict: Verdict::Refused,
     },
     Opening {
         text: b"network",
         verdict: Verdict::Later(Form::BgpNetwork),
     },
+    Opening {
+        text: b"neighbor",
+        verdict: Verdict::Refused,
+    },
+    Opening {
+        text: b"no",
+        verdict: Verdict::Ignored,
+    },
+    Opening {
+        text: b"redistribute",
+        verdict: Verdict::Refused,
+    },
+    Opening {
+        text: b"template",
+        verdict: Verdict::Refused,
+    },
+    Opening {
+        text: b"table-map",
+        verdict: Verdict::Refused,
+    },
+    Opening {
+        text: b"timers",
+        verdict: Verdict::Ignored,
+    },
+];
+
+static ONE_WORD_GROUPS: [Group; 8] = [
+    Group {
+        first: b'a',
+        count: 2,
+    },
+    Group {
+        first: b'b',
+        count: 1,
+    },
+    Group {
+        first: b'd',
+        count: 3,
+    },
+    Group {
+        first: b'e',
+        count: 1,
+    },
+    Group {
+        first: b'm',
+        count: 1,
+    },
+    Group {
+        first: b'n',
+        count: 3,
+    },
+    Group {
+        first: b'r',
+        count: 1,
+    },
+    Group {
+        first: b't',
+        count: 3,
+    },
+];
+
+static MORE_WORDS: [Opening; 10] = [
+    Opening {
+        text: b"no bgp default ipv4-unicast",
+        verdict: Verdict::Refused,
+    },
+    Opening {
+        text: b"bgp bestpath compare-routerid",
+        verdict: Verdict::Ignored,
+    },
+    Opening {
+        text: b"redistribute connected",
+        verdict: Verdict::Later(Form::BgpRedistributeConnected),
+    },
+    Opening {
+        text: b"bgp deterministic-med",
+        verdict: Verdict::Ignored,
+    },
+    Opening {
+        text: b"bgp graceful-restart",
+        verdict: Verdict::Ignored,
+    },
+    Opening {
+        text: b"bgp log-neighbor-changes",
+        verdict: Verdict::Ignored,
+    },
+    Opening {
+        text: b"no neighbor",
+        verdict: Verdict::Refused,
+    },
+    Opening {
+        text: b"redistribute ospf",
+        verdict: Verdict::Later(Form::BgpRedistributeOspf),
+    },
+    Opening {
+        text: b"bgp router-id",
+        verdict: Verdict::Later(Form::BgpRouterId),
+    },
+    Opening {
+        text: b"redistribute static",
+        verdict: Verdict::Later(Form::BgpRedistributeStatic),
+    },
+];
+
+static MORE_WORDS_GROUPS: [Group; 9] = [
+    Group {
+        first: b'b',
+        count: 2,
+    },
+    Group {
+        first: b'c',
+        count: 1,
+    },
+    Group {
+        first: b'd',
+        count: 1,
+    },
+    Group {
+        first: b'g',
+        count: 1,
+    },
+    Group {
+        first: b'l',
+        count: 1,
+    },
+    Group {
+        first: b'n',
+        count: 1,
+    },
+    Group {
+        first: b'o',
+        count: 1,
+    },
+    Group {
+        first: b'r',
+        count: 1,
+    },
+    Group {
+        first: b's',
+        count: 1,
+    },
+];
+
+static STARRED: [Opening; 18] = [
     Opening {
         text: b"neighbor * remote-as",
         verdict: Verdict::Later(Form::NeighborRemoteAs),
@@ -59,98 +231,6 @@ static OPENINGS: [Opening; 43] = [
         verdict: Verdict::Later(Form::NeighborWeight),
     },
     Opening {
-        text: b"redistribute connected",
-        verdict: Verdict::Later(Form::BgpRedistributeConnected),
-    },
-    Opening {
-        text: b"redistribute static",
-        verdict: Verdict::Later(Form::BgpRedistributeStatic),
-    },
-    Opening {
-        text: b"redistribute ospf",
-        verdict: Verdict::Later(Form::BgpRedistributeOspf),
-    },
-    Opening {
-        text: b"bgp",
-        verdict: Verdict::Refused,
-    },
-    Opening {
-        text: b"neighbor",
-        verdict: Verdict::Refused,
-    },
-    Opening {
-        text: b"no neighbor",
-        verdict: Verdict::Refused,
-    },
-    Opening {
-        text: b"no bgp default ipv4-unicast",
-        verdict: Verdict::Refused,
-    },
-    Opening {
-        text: b"aggregate-address",
-        verdict: Verdict::Refused,
-    },
-    Opening {
-        text: b"address-family",
-        verdict: Verdict::Refused,
-    },
-    Opening {
-        text: b"maximum-paths",
-        verdict: Verdict::Refused,
-    },
-    Opening {
-        text: b"distance",
-        verdict: Verdict::Refused,
-    },
-    Opening {
-        text: b"default-information",
-        verdict: Verdict::Refused,
-    },
-    Opening {
-        text: b"default-metric",
-        verdict: Verdict::Refused,
-    },
-    Opening {
-        text: b"redistribute",
-        verdict: Verdict::Refused,
-    },
-    Opening {
-        text: b"template",
-        verdict: Verdict::Refused,
-    },
-    Opening {
-        text: b"table-map",
-        verdict: Verdict::Refused,
-    },
-    Opening {
-        text: b"bgp log-neighbor-changes",
-        verdict: Verdict::Ignored,
-    },
-    Opening {
-        text: b"bgp graceful-restart",
-        verdict: Verdict::Ignored,
-    },
-    Opening {
-        text: b"bgp deterministic-med",
-        verdict: Verdict::Ignored,
-    },
-    Opening {
-        text: b"bgp bestpath compare-routerid",
-        verdict: Verdict::Ignored,
-    },
-    Opening {
-        text: b"timers",
-        verdict: Verdict::Ignored,
-    },
-    Opening {
-        text: b"no",
-        verdict: Verdict::Ignored,
-    },
-    Opening {
-        text: b"exit",
-        verdict: Verdict::Ignored,
-    },
-    Opening {
         text: b"neighbor * description",
         verdict: Verdict::Ignored,
     },
@@ -180,8 +260,18 @@ static OPENINGS: [Opening; 43] = [
     },
 ];
 
-pub(crate) fn bgp_openings() -> &'static [Opening]
-    ensures { map row_of result.now ≡ bgp }
+pub(crate) fn bgp_table() -> Table
+    ensures { IsTable result bgp }
 {
-    &OPENINGS
+    Table {
+        one_word: Index {
+            openings: &ONE_WORD,
+            groups: &ONE_WORD_GROUPS,
+        },
+        more_words: Index {
+            openings: &MORE_WORDS,
+            groups: &MORE_WORDS_GROUPS,
+        },
+        starred: &STARRED,
+    }
 }

@@ -9,13 +9,13 @@ ghost use Rattle.rc_openings.specs.Block.{rows_of, begins_form_anywhere};
 ghost use Rattle.rc_openings.specs.declared.block.Block.{Block as BlockKind};
 ghost use Rattle.rc_openings.specs.declared.form.Form.{Form as FormKind};
 
-use crate::acl::acl_openings;
-use crate::bgp::bgp_openings;
-use crate::decide::{begins_form, decisive};
-use crate::global::global_openings;
-use crate::interface::interface_openings;
-use crate::ospf::ospf_openings;
-use crate::route_map::route_map_openings;
+use crate::acl::acl_table;
+use crate::bgp::bgp_table;
+use crate::decide::decisive;
+use crate::global::global_table;
+use crate::interface::interface_table;
+use crate::ospf::ospf_table;
+use crate::route_map::route_map_table;
 use crate::{Opening, Verdict, Words};
 
 /// The kind of block that a line stands in.
@@ -41,29 +41,29 @@ static ANY_LINE: [Opening; 1] = [Opening {
 }];
 
 impl Block {
-    /// The openings of a line in this block.
-    #[tactic(auto, unfolding(crate::specs::Words::words_of))]
-    pub fn openings(self) -> &'static [Opening]
-        ensures { map row_of result.now ≡ rows_of self }
-    {
-        match self {
-            Block::Closed => &[],
-            Block::Global => global_openings(),
-            Block::Interface => interface_openings(),
-            Block::Acl => acl_openings(),
-            Block::RouteMap => route_map_openings(),
-            Block::Ospf => ospf_openings(),
-            Block::Bgp => bgp_openings(),
-            Block::Ignored => &ANY_LINE,
-        }
-    }
-
     /// The opening that decides the line in this block, or `None` exactly where it begins with none of the block's.
     pub fn decide(self, line: Words) -> Option<Opening>
         ensures decisive { IsAnswer (rows_of self) (words_left line.entry) (option_map row_of result) }
         ensures computed { option_map row_of result ≡ decisive_row (rows_of self) (words_left line.entry) }
     {
-        decisive(self.openings(), line)
+        self.opening_of(line)
+    }
+
+    /// The opening with which the line begins that has most words.
+    #[tactic(auto, unfolding(crate::specs::Words::words_of))]
+    fn opening_of(self, line: Words) -> Option<Opening>
+        ensures { IsAnswer (rows_of self) (words_left line.entry) (option_map row_of result) }
+    {
+        match self {
+            Block::Closed => None,
+            Block::Global => global_table().decide(line),
+            Block::Interface => interface_table().decide(line),
+            Block::Acl => acl_table().decide(line),
+            Block::RouteMap => route_map_table().decide(line),
+            Block::Ospf => ospf_table().decide(line),
+            Block::Bgp => bgp_table().decide(line),
+            Block::Ignored => decisive(&ANY_LINE, line),
+        }
     }
 }
 
@@ -72,12 +72,12 @@ pub fn is_form(line: Words, from: usize) -> bool
     ensures { result ≡ begins_form_anywhere (drop from (words_left line.entry)) }
 {
     let words = line.skip(from);
-    begins_form(global_openings(), words)
-        || begins_form(interface_openings(), words)
-        || begins_form(acl_openings(), words)
-        || begins_form(route_map_openings(), words)
-        || begins_form(ospf_openings(), words)
-        || begins_form(bgp_openings(), words)
+    global_table().begins_form(words)
+        || interface_table().begins_form(words)
+        || acl_table().begins_form(words)
+        || route_map_table().begins_form(words)
+        || ospf_table().begins_form(words)
+        || bgp_table().begins_form(words)
 }
 
 /// No two openings of one block decide one line.

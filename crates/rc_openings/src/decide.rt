@@ -1,7 +1,7 @@
 //! The opening that decides a line.
 ghost use Rattle.std.specs.Prelude.{◌≡◌, List, [], ◌∷◌, ◌++◌, length, map, nat_lt};
 ghost use Rattle.std.specs.Option.{option_map};
-ghost use Rattle.rc_openings.specs.Words.{words_left, first_byte};
+ghost use Rattle.rc_openings.specs.Words.{words_left, words_of};
 ghost use Rattle.rc_openings.specs.Opening.{begins_with as begins, begins_form as begins_form_of, IsAnswer, Row, row_of};
 
 use crate::{Opening, Words};
@@ -31,22 +31,22 @@ fn is_longer(mut first: Words, mut second: Words) -> bool
     false
 }
 
-/// The decisive one of some openings and one more, for a line whose first byte is this one.
-fn better(best: Option<Opening>, opening: Opening, line: Words, first: u8) -> Option<Opening>
-    requires { first_byte (words_left line) ≡ first }
-    ensures { (rows : List Row) → IsAnswer rows (words_left line.entry) (option_map row_of best) → IsAnswer (rows ++ row_of opening ∷ []) (words_left line.entry) (option_map row_of result) }
+/// The decisive one of some openings and one more, for a line of this text.
+fn better(best: Option<Opening>, opening: &Opening, line: Words, text: &[u8]) -> Option<Opening>
+    requires { words_of text.now ≡ words_left line }
+    ensures { (rows : List Row) → IsAnswer rows (words_left line.entry) (option_map row_of best) → IsAnswer (rows ++ row_of opening.now ∷ []) (words_left line.entry) (option_map row_of result) }
 {
-    if !opening.may_begin(first) {
+    if !opening.may_begin(text) {
         return best;
     }
     if !begins_with(line, opening.words()) {
         return best;
     }
     match best {
-        None => Some(opening),
+        None => Some(*opening),
         Some(other) => {
             if is_longer(opening.words(), other.words()) {
-                Some(opening)
+                Some(*opening)
             } else {
                 best
             }
@@ -54,16 +54,27 @@ fn better(best: Option<Opening>, opening: Opening, line: Words, first: u8) -> Op
     }
 }
 
+/// The decisive one of some openings and these.
+pub(crate) fn decisive_from(
+    best: Option<Opening>,
+    openings: &[Opening],
+    line: Words,
+) -> Option<Opening>
+    ensures { (rows : List Row) → IsAnswer rows (words_left line.entry) (option_map row_of best) → IsAnswer (rows ++ map row_of openings.now) (words_left line.entry) (option_map row_of result) }
+{
+    let text = line.text();
+    let mut decided = best;
+    for opening in openings {
+        decided = better(decided, opening, line, text);
+    }
+    decided
+}
+
 /// Of the openings with which the line begins, the one with most words, or `None` exactly where it begins with none.
 pub fn decisive(openings: &[Opening], line: Words) -> Option<Opening>
     ensures { IsAnswer (map row_of openings.now) (words_left line.entry) (option_map row_of result) }
 {
-    let first = line.first_byte();
-    let mut best = None;
-    for opening in openings {
-        best = better(best, *opening, line, first);
-    }
-    best
+    decisive_from(None, openings, line)
 }
 
 /// Whether the line begins with one of the openings that begin a form.

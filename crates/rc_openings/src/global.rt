@@ -1,142 +1,46 @@
 //! The openings of a line with no indent.
-ghost use Rattle.std.specs.Prelude.{◌≡◌, map};
-ghost use Rattle.rc_openings.specs.Opening.{row_of};
+ghost use Rattle.rc_openings.specs.Groups.{IsTable};
 ghost use Rattle.rc_openings.specs.GlobalOpenings.{global};
 
+use crate::table::{Group, Index, Table};
 use crate::{Form, Opening, Verdict};
 
-static OPENINGS: [Opening; 147] = [
+static ONE_WORD: [Opening; 93] = [
     Opening {
-        text: b"hostname",
-        verdict: Verdict::Form(Form::Hostname),
+        text: b"Building",
+        verdict: Verdict::Ignored,
     },
     Opening {
-        text: b"interface",
-        verdict: Verdict::Form(Form::Interface),
+        text: b"Current",
+        verdict: Verdict::Ignored,
+    },
+    Opening {
+        text: b"Using",
+        verdict: Verdict::Ignored,
     },
     Opening {
         text: b"access-list",
         verdict: Verdict::Later(Form::AccessList),
     },
     Opening {
-        text: b"ip access-list standard",
-        verdict: Verdict::Later(Form::StandardAccessList),
+        text: b"aaa",
+        verdict: Verdict::Ignored,
     },
     Opening {
-        text: b"ip access-list extended",
-        verdict: Verdict::Later(Form::ExtendedAccessList),
+        text: b"archive",
+        verdict: Verdict::Ignored,
     },
     Opening {
-        text: b"ip prefix-list",
-        verdict: Verdict::Later(Form::PrefixList),
+        text: b"alias",
+        verdict: Verdict::Ignored,
     },
     Opening {
-        text: b"ip community-list",
-        verdict: Verdict::Later(Form::CommunityList),
-    },
-    Opening {
-        text: b"ip community-list standard",
-        verdict: Verdict::Later(Form::StandardCommunityList),
-    },
-    Opening {
-        text: b"route-map",
-        verdict: Verdict::Later(Form::RouteMap),
-    },
-    Opening {
-        text: b"ip route",
-        verdict: Verdict::Later(Form::StaticRoute),
-    },
-    Opening {
-        text: b"router ospf",
-        verdict: Verdict::Later(Form::RouterOspf),
-    },
-    Opening {
-        text: b"router bgp",
-        verdict: Verdict::Later(Form::RouterBgp),
-    },
-    Opening {
-        text: b"ip nat",
-        verdict: Verdict::Refused,
-    },
-    Opening {
-        text: b"ip vrf",
-        verdict: Verdict::Refused,
-    },
-    Opening {
-        text: b"vrf",
-        verdict: Verdict::Refused,
-    },
-    Opening {
-        text: b"ip local",
-        verdict: Verdict::Refused,
-    },
-    Opening {
-        text: b"ip default-network",
-        verdict: Verdict::Refused,
-    },
-    Opening {
-        text: b"ip route vrf",
-        verdict: Verdict::Refused,
-    },
-    Opening {
-        text: b"ip access-list",
-        verdict: Verdict::Refused,
-    },
-    Opening {
-        text: b"ip community-list expanded",
-        verdict: Verdict::Refused,
-    },
-    Opening {
-        text: b"router",
-        verdict: Verdict::Refused,
-    },
-    Opening {
-        text: b"mpls",
-        verdict: Verdict::Refused,
-    },
-    Opening {
-        text: b"track",
-        verdict: Verdict::Refused,
-    },
-    Opening {
-        text: b"object-group",
-        verdict: Verdict::Refused,
-    },
-    Opening {
-        text: b"time-range",
-        verdict: Verdict::Refused,
-    },
-    Opening {
-        text: b"zone",
-        verdict: Verdict::Refused,
-    },
-    Opening {
-        text: b"zone-pair",
-        verdict: Verdict::Refused,
-    },
-    Opening {
-        text: b"ip inspect",
-        verdict: Verdict::Refused,
+        text: b"arp",
+        verdict: Verdict::Ignored,
     },
     Opening {
         text: b"bridge",
         verdict: Verdict::Refused,
-    },
-    Opening {
-        text: b"no ip routing",
-        verdict: Verdict::Refused,
-    },
-    Opening {
-        text: b"no ip classless",
-        verdict: Verdict::Refused,
-    },
-    Opening {
-        text: b"version",
-        verdict: Verdict::Ignored,
-    },
-    Opening {
-        text: b"service",
-        verdict: Verdict::Ignored,
     },
     Opening {
         text: b"boot-start-marker",
@@ -151,11 +55,99 @@ static OPENINGS: [Opening; 147] = [
         verdict: Verdict::Ignored,
     },
     Opening {
+        text: b"clock",
+        verdict: Verdict::Ignored,
+    },
+    Opening {
+        text: b"control-plane",
+        verdict: Verdict::Ignored,
+    },
+    Opening {
+        text: b"cdp",
+        verdict: Verdict::Ignored,
+    },
+    Opening {
+        text: b"crypto",
+        verdict: Verdict::Ignored,
+    },
+    Opening {
+        text: b"class-map",
+        verdict: Verdict::Ignored,
+    },
+    Opening {
+        text: b"card",
+        verdict: Verdict::Ignored,
+    },
+    Opening {
+        text: b"controller",
+        verdict: Verdict::Ignored,
+    },
+    Opening {
+        text: b"call-home",
+        verdict: Verdict::Ignored,
+    },
+    Opening {
+        text: b"dial-peer",
+        verdict: Verdict::Ignored,
+    },
+    Opening {
+        text: b"diagnostic",
+        verdict: Verdict::Ignored,
+    },
+    Opening {
         text: b"enable",
         verdict: Verdict::Ignored,
     },
     Opening {
-        text: b"username",
+        text: b"exception",
+        verdict: Verdict::Ignored,
+    },
+    Opening {
+        text: b"errdisable",
+        verdict: Verdict::Ignored,
+    },
+    Opening {
+        text: b"event",
+        verdict: Verdict::Ignored,
+    },
+    Opening {
+        text: b"end",
+        verdict: Verdict::Ignored,
+    },
+    Opening {
+        text: b"exit",
+        verdict: Verdict::Ignored,
+    },
+    Opening {
+        text: b"file",
+        verdict: Verdict::Ignored,
+    },
+    Opening {
+        text: b"flow",
+        verdict: Verdict::Ignored,
+    },
+    Opening {
+        text: b"hostname",
+        verdict: Verdict::Form(Form::Hostname),
+    },
+    Opening {
+        text: b"hw-module",
+        verdict: Verdict::Ignored,
+    },
+    Opening {
+        text: b"interface",
+        verdict: Verdict::Form(Form::Interface),
+    },
+    Opening {
+        text: b"ipv6",
+        verdict: Verdict::Ignored,
+    },
+    Opening {
+        text: b"key",
+        verdict: Verdict::Ignored,
+    },
+    Opening {
+        text: b"kron",
         verdict: Verdict::Ignored,
     },
     Opening {
@@ -163,28 +155,28 @@ static OPENINGS: [Opening; 147] = [
         verdict: Verdict::Ignored,
     },
     Opening {
-        text: b"ntp",
-        verdict: Verdict::Ignored,
-    },
-    Opening {
-        text: b"sntp",
-        verdict: Verdict::Ignored,
-    },
-    Opening {
-        text: b"snmp-server",
-        verdict: Verdict::Ignored,
-    },
-    Opening {
         text: b"logging",
         verdict: Verdict::Ignored,
     },
     Opening {
-        text: b"aaa",
+        text: b"license",
         verdict: Verdict::Ignored,
     },
     Opening {
-        text: b"clock",
+        text: b"lldp",
         verdict: Verdict::Ignored,
+    },
+    Opening {
+        text: b"login",
+        verdict: Verdict::Ignored,
+    },
+    Opening {
+        text: b"lacp",
+        verdict: Verdict::Ignored,
+    },
+    Opening {
+        text: b"mpls",
+        verdict: Verdict::Refused,
     },
     Opening {
         text: b"memory",
@@ -199,30 +191,6 @@ static OPENINGS: [Opening; 147] = [
         verdict: Verdict::Ignored,
     },
     Opening {
-        text: b"transceiver",
-        verdict: Verdict::Ignored,
-    },
-    Opening {
-        text: b"license",
-        verdict: Verdict::Ignored,
-    },
-    Opening {
-        text: b"redundancy",
-        verdict: Verdict::Ignored,
-    },
-    Opening {
-        text: b"archive",
-        verdict: Verdict::Ignored,
-    },
-    Opening {
-        text: b"scheduler",
-        verdict: Verdict::Ignored,
-    },
-    Opening {
-        text: b"control-plane",
-        verdict: Verdict::Ignored,
-    },
-    Opening {
         text: b"mgcp",
         verdict: Verdict::Ignored,
     },
@@ -231,55 +199,31 @@ static OPENINGS: [Opening; 147] = [
         verdict: Verdict::Ignored,
     },
     Opening {
-        text: b"tacacs",
+        text: b"mac",
         verdict: Verdict::Ignored,
     },
     Opening {
-        text: b"tacacs-server",
+        text: b"monitor",
         verdict: Verdict::Ignored,
     },
     Opening {
-        text: b"radius",
+        text: b"ntp",
         verdict: Verdict::Ignored,
     },
     Opening {
-        text: b"radius-server",
+        text: b"netconf",
         verdict: Verdict::Ignored,
     },
     Opening {
-        text: b"alias",
+        text: b"no",
         verdict: Verdict::Ignored,
+    },
+    Opening {
+        text: b"object-group",
+        verdict: Verdict::Refused,
     },
     Opening {
         text: b"privilege",
-        verdict: Verdict::Ignored,
-    },
-    Opening {
-        text: b"cdp",
-        verdict: Verdict::Ignored,
-    },
-    Opening {
-        text: b"lldp",
-        verdict: Verdict::Ignored,
-    },
-    Opening {
-        text: b"spanning-tree",
-        verdict: Verdict::Ignored,
-    },
-    Opening {
-        text: b"vtp",
-        verdict: Verdict::Ignored,
-    },
-    Opening {
-        text: b"vlan",
-        verdict: Verdict::Ignored,
-    },
-    Opening {
-        text: b"crypto",
-        verdict: Verdict::Ignored,
-    },
-    Opening {
-        text: b"class-map",
         verdict: Verdict::Ignored,
     },
     Opening {
@@ -291,27 +235,7 @@ static OPENINGS: [Opening; 147] = [
         verdict: Verdict::Ignored,
     },
     Opening {
-        text: b"key",
-        verdict: Verdict::Ignored,
-    },
-    Opening {
-        text: b"ipv6",
-        verdict: Verdict::Ignored,
-    },
-    Opening {
-        text: b"login",
-        verdict: Verdict::Ignored,
-    },
-    Opening {
-        text: b"security",
-        verdict: Verdict::Ignored,
-    },
-    Opening {
         text: b"process",
-        verdict: Verdict::Ignored,
-    },
-    Opening {
-        text: b"exception",
         verdict: Verdict::Ignored,
     },
     Opening {
@@ -319,51 +243,7 @@ static OPENINGS: [Opening; 147] = [
         verdict: Verdict::Ignored,
     },
     Opening {
-        text: b"file",
-        verdict: Verdict::Ignored,
-    },
-    Opening {
         text: b"platform",
-        verdict: Verdict::Ignored,
-    },
-    Opening {
-        text: b"hw-module",
-        verdict: Verdict::Ignored,
-    },
-    Opening {
-        text: b"card",
-        verdict: Verdict::Ignored,
-    },
-    Opening {
-        text: b"controller",
-        verdict: Verdict::Ignored,
-    },
-    Opening {
-        text: b"voice",
-        verdict: Verdict::Ignored,
-    },
-    Opening {
-        text: b"voice-card",
-        verdict: Verdict::Ignored,
-    },
-    Opening {
-        text: b"dial-peer",
-        verdict: Verdict::Ignored,
-    },
-    Opening {
-        text: b"diagnostic",
-        verdict: Verdict::Ignored,
-    },
-    Opening {
-        text: b"errdisable",
-        verdict: Verdict::Ignored,
-    },
-    Opening {
-        text: b"udld",
-        verdict: Verdict::Ignored,
-    },
-    Opening {
-        text: b"lacp",
         verdict: Verdict::Ignored,
     },
     Opening {
@@ -371,39 +251,23 @@ static OPENINGS: [Opening; 147] = [
         verdict: Verdict::Ignored,
     },
     Opening {
-        text: b"mac",
+        text: b"route-map",
+        verdict: Verdict::Later(Form::RouteMap),
+    },
+    Opening {
+        text: b"router",
+        verdict: Verdict::Refused,
+    },
+    Opening {
+        text: b"redundancy",
         verdict: Verdict::Ignored,
     },
     Opening {
-        text: b"arp",
+        text: b"radius",
         verdict: Verdict::Ignored,
     },
     Opening {
-        text: b"call-home",
-        verdict: Verdict::Ignored,
-    },
-    Opening {
-        text: b"event",
-        verdict: Verdict::Ignored,
-    },
-    Opening {
-        text: b"flow",
-        verdict: Verdict::Ignored,
-    },
-    Opening {
-        text: b"monitor",
-        verdict: Verdict::Ignored,
-    },
-    Opening {
-        text: b"subscriber",
-        verdict: Verdict::Ignored,
-    },
-    Opening {
-        text: b"kron",
-        verdict: Verdict::Ignored,
-    },
-    Opening {
-        text: b"netconf",
+        text: b"radius-server",
         verdict: Verdict::Ignored,
     },
     Opening {
@@ -411,7 +275,31 @@ static OPENINGS: [Opening; 147] = [
         verdict: Verdict::Ignored,
     },
     Opening {
-        text: b"wsma",
+        text: b"service",
+        verdict: Verdict::Ignored,
+    },
+    Opening {
+        text: b"sntp",
+        verdict: Verdict::Ignored,
+    },
+    Opening {
+        text: b"snmp-server",
+        verdict: Verdict::Ignored,
+    },
+    Opening {
+        text: b"scheduler",
+        verdict: Verdict::Ignored,
+    },
+    Opening {
+        text: b"spanning-tree",
+        verdict: Verdict::Ignored,
+    },
+    Opening {
+        text: b"security",
+        verdict: Verdict::Ignored,
+    },
+    Opening {
+        text: b"subscriber",
         verdict: Verdict::Ignored,
     },
     Opening {
@@ -423,56 +311,222 @@ static OPENINGS: [Opening; 147] = [
         verdict: Verdict::Ignored,
     },
     Opening {
+        text: b"track",
+        verdict: Verdict::Refused,
+    },
+    Opening {
+        text: b"time-range",
+        verdict: Verdict::Refused,
+    },
+    Opening {
+        text: b"transceiver",
+        verdict: Verdict::Ignored,
+    },
+    Opening {
+        text: b"tacacs",
+        verdict: Verdict::Ignored,
+    },
+    Opening {
+        text: b"tacacs-server",
+        verdict: Verdict::Ignored,
+    },
+    Opening {
         text: b"transport",
         verdict: Verdict::Ignored,
     },
     Opening {
-        text: b"no",
+        text: b"username",
         verdict: Verdict::Ignored,
     },
     Opening {
-        text: b"end",
+        text: b"udld",
         verdict: Verdict::Ignored,
     },
     Opening {
-        text: b"exit",
+        text: b"vrf",
+        verdict: Verdict::Refused,
+    },
+    Opening {
+        text: b"version",
         verdict: Verdict::Ignored,
     },
     Opening {
-        text: b"Building",
+        text: b"vtp",
         verdict: Verdict::Ignored,
     },
     Opening {
-        text: b"Current",
+        text: b"vlan",
         verdict: Verdict::Ignored,
     },
     Opening {
-        text: b"Using",
+        text: b"voice",
         verdict: Verdict::Ignored,
+    },
+    Opening {
+        text: b"voice-card",
+        verdict: Verdict::Ignored,
+    },
+    Opening {
+        text: b"wsma",
+        verdict: Verdict::Ignored,
+    },
+    Opening {
+        text: b"zone",
+        verdict: Verdict::Refused,
+    },
+    Opening {
+        text: b"zone-pair",
+        verdict: Verdict::Refused,
+    },
+];
+
+static ONE_WORD_GROUPS: [Group; 24] = [
+    Group {
+        first: b'B',
+        count: 1,
+    },
+    Group {
+        first: b'C',
+        count: 1,
+    },
+    Group {
+        first: b'U',
+        count: 1,
+    },
+    Group {
+        first: b'a',
+        count: 5,
+    },
+    Group {
+        first: b'b',
+        count: 4,
+    },
+    Group {
+        first: b'c',
+        count: 8,
+    },
+    Group {
+        first: b'd',
+        count: 2,
+    },
+    Group {
+        first: b'e',
+        count: 6,
+    },
+    Group {
+        first: b'f',
+        count: 2,
+    },
+    Group {
+        first: b'h',
+        count: 2,
+    },
+    Group {
+        first: b'i',
+        count: 2,
+    },
+    Group {
+        first: b'k',
+        count: 2,
+    },
+    Group {
+        first: b'l',
+        count: 6,
+    },
+    Group {
+        first: b'm',
+        count: 8,
+    },
+    Group {
+        first: b'n',
+        count: 3,
+    },
+    Group {
+        first: b'o',
+        count: 1,
+    },
+    Group {
+        first: b'p',
+        count: 7,
+    },
+    Group {
+        first: b'r',
+        count: 6,
+    },
+    Group {
+        first: b's',
+        count: 9,
+    },
+    Group {
+        first: b't',
+        count: 6,
+    },
+    Group {
+        first: b'u',
+        count: 2,
+    },
+    Group {
+        first: b'v',
+        count: 6,
+    },
+    Group {
+        first: b'w',
+        count: 1,
+    },
+    Group {
+        first: b'z',
+        count: 2,
+    },
+];
+
+static MORE_WORDS: [Opening; 54] = [
+    Opening {
+        text: b"ip access-list standard",
+        verdict: Verdict::Later(Form::StandardAccessList),
+    },
+    Opening {
+        text: b"ip access-list extended",
+        verdict: Verdict::Later(Form::ExtendedAccessList),
+    },
+    Opening {
+        text: b"ip access-list",
+        verdict: Verdict::Refused,
+    },
+    Opening {
+        text: b"ip as-path",
+        verdict: Verdict::Ignored,
+    },
+    Opening {
+        text: b"router bgp",
+        verdict: Verdict::Later(Form::RouterBgp),
+    },
+    Opening {
+        text: b"ip bgp-community",
+        verdict: Verdict::Ignored,
+    },
+    Opening {
+        text: b"ip community-list",
+        verdict: Verdict::Later(Form::CommunityList),
+    },
+    Opening {
+        text: b"ip community-list standard",
+        verdict: Verdict::Later(Form::StandardCommunityList),
+    },
+    Opening {
+        text: b"ip community-list expanded",
+        verdict: Verdict::Refused,
     },
     Opening {
         text: b"ip cef",
         verdict: Verdict::Ignored,
     },
     Opening {
-        text: b"ip http",
+        text: b"ip classless",
         verdict: Verdict::Ignored,
     },
     Opening {
-        text: b"ip ssh",
-        verdict: Verdict::Ignored,
-    },
-    Opening {
-        text: b"ip scp",
-        verdict: Verdict::Ignored,
-    },
-    Opening {
-        text: b"ip ftp",
-        verdict: Verdict::Ignored,
-    },
-    Opening {
-        text: b"ip tftp",
-        verdict: Verdict::Ignored,
+        text: b"ip default-network",
+        verdict: Verdict::Refused,
     },
     Opening {
         text: b"ip domain",
@@ -487,11 +541,19 @@ static OPENINGS: [Opening; 147] = [
         verdict: Verdict::Ignored,
     },
     Opening {
-        text: b"ip name-server",
+        text: b"ip dhcp",
         verdict: Verdict::Ignored,
     },
     Opening {
-        text: b"ip host",
+        text: b"ip default-gateway",
+        verdict: Verdict::Ignored,
+    },
+    Opening {
+        text: b"ip extcommunity-list",
+        verdict: Verdict::Ignored,
+    },
+    Opening {
+        text: b"ip ftp",
         verdict: Verdict::Ignored,
     },
     Opening {
@@ -499,43 +561,7 @@ static OPENINGS: [Opening; 147] = [
         verdict: Verdict::Ignored,
     },
     Opening {
-        text: b"ip classless",
-        verdict: Verdict::Ignored,
-    },
-    Opening {
-        text: b"ip subnet-zero",
-        verdict: Verdict::Ignored,
-    },
-    Opening {
-        text: b"ip source-route",
-        verdict: Verdict::Ignored,
-    },
-    Opening {
-        text: b"ip tcp",
-        verdict: Verdict::Ignored,
-    },
-    Opening {
-        text: b"ip icmp",
-        verdict: Verdict::Ignored,
-    },
-    Opening {
-        text: b"ip options",
-        verdict: Verdict::Ignored,
-    },
-    Opening {
         text: b"ip finger",
-        verdict: Verdict::Ignored,
-    },
-    Opening {
-        text: b"ip rcmd",
-        verdict: Verdict::Ignored,
-    },
-    Opening {
-        text: b"ip dhcp",
-        verdict: Verdict::Ignored,
-    },
-    Opening {
-        text: b"ip sla",
         verdict: Verdict::Ignored,
     },
     Opening {
@@ -547,6 +573,34 @@ static OPENINGS: [Opening; 147] = [
         verdict: Verdict::Ignored,
     },
     Opening {
+        text: b"ip http",
+        verdict: Verdict::Ignored,
+    },
+    Opening {
+        text: b"ip host",
+        verdict: Verdict::Ignored,
+    },
+    Opening {
+        text: b"ip inspect",
+        verdict: Verdict::Refused,
+    },
+    Opening {
+        text: b"no ip routing",
+        verdict: Verdict::Refused,
+    },
+    Opening {
+        text: b"no ip classless",
+        verdict: Verdict::Refused,
+    },
+    Opening {
+        text: b"ip icmp",
+        verdict: Verdict::Ignored,
+    },
+    Opening {
+        text: b"ip local",
+        verdict: Verdict::Refused,
+    },
+    Opening {
         text: b"ip multicast-routing",
         verdict: Verdict::Ignored,
     },
@@ -555,35 +609,27 @@ static OPENINGS: [Opening; 147] = [
         verdict: Verdict::Ignored,
     },
     Opening {
+        text: b"ip nat",
+        verdict: Verdict::Refused,
+    },
+    Opening {
+        text: b"ip name-server",
+        verdict: Verdict::Ignored,
+    },
+    Opening {
+        text: b"router ospf",
+        verdict: Verdict::Later(Form::RouterOspf),
+    },
+    Opening {
+        text: b"ip options",
+        verdict: Verdict::Ignored,
+    },
+    Opening {
+        text: b"ip prefix-list",
+        verdict: Verdict::Later(Form::PrefixList),
+    },
+    Opening {
         text: b"ip pim",
-        verdict: Verdict::Ignored,
-    },
-    Opening {
-        text: b"ip radius",
-        verdict: Verdict::Ignored,
-    },
-    Opening {
-        text: b"ip tacacs",
-        verdict: Verdict::Ignored,
-    },
-    Opening {
-        text: b"ip bgp-community",
-        verdict: Verdict::Ignored,
-    },
-    Opening {
-        text: b"ip routing",
-        verdict: Verdict::Ignored,
-    },
-    Opening {
-        text: b"ip default-gateway",
-        verdict: Verdict::Ignored,
-    },
-    Opening {
-        text: b"ip as-path",
-        verdict: Verdict::Ignored,
-    },
-    Opening {
-        text: b"ip extcommunity-list",
         verdict: Verdict::Ignored,
     },
     Opening {
@@ -594,10 +640,147 @@ static OPENINGS: [Opening; 147] = [
         text: b"ip prefix-list sequence-number",
         verdict: Verdict::Ignored,
     },
+    Opening {
+        text: b"ip route",
+        verdict: Verdict::Later(Form::StaticRoute),
+    },
+    Opening {
+        text: b"ip route vrf",
+        verdict: Verdict::Refused,
+    },
+    Opening {
+        text: b"ip rcmd",
+        verdict: Verdict::Ignored,
+    },
+    Opening {
+        text: b"ip radius",
+        verdict: Verdict::Ignored,
+    },
+    Opening {
+        text: b"ip routing",
+        verdict: Verdict::Ignored,
+    },
+    Opening {
+        text: b"ip ssh",
+        verdict: Verdict::Ignored,
+    },
+    Opening {
+        text: b"ip scp",
+        verdict: Verdict::Ignored,
+    },
+    Opening {
+        text: b"ip subnet-zero",
+        verdict: Verdict::Ignored,
+    },
+    Opening {
+        text: b"ip source-route",
+        verdict: Verdict::Ignored,
+    },
+    Opening {
+        text: b"ip sla",
+        verdict: Verdict::Ignored,
+    },
+    Opening {
+        text: b"ip tftp",
+        verdict: Verdict::Ignored,
+    },
+    Opening {
+        text: b"ip tcp",
+        verdict: Verdict::Ignored,
+    },
+    Opening {
+        text: b"ip tacacs",
+        verdict: Verdict::Ignored,
+    },
+    Opening {
+        text: b"ip vrf",
+        verdict: Verdict::Refused,
+    },
 ];
 
-pub(crate) fn global_openings() -> &'static [Opening]
-    ensures { map row_of result.now ≡ global }
+static MORE_WORDS_GROUPS: [Group; 17] = [
+    Group {
+        first: b'a',
+        count: 4,
+    },
+    Group {
+        first: b'b',
+        count: 2,
+    },
+    Group {
+        first: b'c',
+        count: 5,
+    },
+    Group {
+        first: b'd',
+        count: 6,
+    },
+    Group {
+        first: b'e',
+        count: 1,
+    },
+    Group {
+        first: b'f',
+        count: 5,
+    },
+    Group {
+        first: b'h',
+        count: 2,
+    },
+    Group {
+        first: b'i',
+        count: 4,
+    },
+    Group {
+        first: b'l',
+        count: 1,
+    },
+    Group {
+        first: b'm',
+        count: 2,
+    },
+    Group {
+        first: b'n',
+        count: 2,
+    },
+    Group {
+        first: b'o',
+        count: 2,
+    },
+    Group {
+        first: b'p',
+        count: 4,
+    },
+    Group {
+        first: b'r',
+        count: 5,
+    },
+    Group {
+        first: b's',
+        count: 5,
+    },
+    Group {
+        first: b't',
+        count: 3,
+    },
+    Group {
+        first: b'v',
+        count: 1,
+    },
+];
+
+pub(crate) fn global_table() -> Table
+    ensures { IsTable result global }
 {
-    &OPENINGS
+    Table {
+        one_word: Index {
+            openings: &ONE_WORD,
+            groups: &ONE_WORD_GROUPS,
+        },
+        more_words: Index {
+            openings: &MORE_WORDS,
+            groups: &MORE_WORDS_GROUPS,
+        },
+        starred: &[],
+    }
 }

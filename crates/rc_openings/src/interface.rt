@@ -1,30 +1,368 @@
 //! The openings of a line under `interface`.
-ghost use Rattle.std.specs.Prelude.{◌≡◌, map};
-ghost use Rattle.rc_openings.specs.Opening.{row_of};
+ghost use Rattle.rc_openings.specs.Groups.{IsTable};
 ghost use Rattle.rc_openings.specs.InterfaceOpenings.{interface};
 
+use crate::table::{Group, Index, Table};
 use crate::{Form, Opening, Verdict};
 
-static OPENINGS: [Opening; 94] = [
+static ONE_WORD: [Opening; 52] = [
     Opening {
-        text: b"ip address",
-        verdict: Verdict::Form(Form::IpAddress),
+        text: b"arp",
+        verdict: Verdict::Ignored,
     },
     Opening {
-        text: b"shutdown",
-        verdict: Verdict::Form(Form::Shutdown),
-    },
-    Opening {
-        text: b"no shutdown",
-        verdict: Verdict::Form(Form::NoShutdown),
+        text: b"auto",
+        verdict: Verdict::Ignored,
     },
     Opening {
         text: b"bandwidth",
         verdict: Verdict::Form(Form::Bandwidth),
     },
     Opening {
+        text: b"bridge-group",
+        verdict: Verdict::Refused,
+    },
+    Opening {
+        text: b"backup",
+        verdict: Verdict::Refused,
+    },
+    Opening {
+        text: b"bfd",
+        verdict: Verdict::Ignored,
+    },
+    Opening {
+        text: b"clock",
+        verdict: Verdict::Ignored,
+    },
+    Opening {
+        text: b"cdp",
+        verdict: Verdict::Ignored,
+    },
+    Opening {
+        text: b"channel-group",
+        verdict: Verdict::Ignored,
+    },
+    Opening {
+        text: b"carrier-delay",
+        verdict: Verdict::Ignored,
+    },
+    Opening {
+        text: b"description",
+        verdict: Verdict::Ignored,
+    },
+    Opening {
+        text: b"duplex",
+        verdict: Verdict::Ignored,
+    },
+    Opening {
+        text: b"delay",
+        verdict: Verdict::Ignored,
+    },
+    Opening {
+        text: b"encapsulation",
+        verdict: Verdict::Ignored,
+    },
+    Opening {
+        text: b"exit",
+        verdict: Verdict::Ignored,
+    },
+    Opening {
+        text: b"fair-queue",
+        verdict: Verdict::Ignored,
+    },
+    Opening {
+        text: b"glbp",
+        verdict: Verdict::Refused,
+    },
+    Opening {
+        text: b"hold-queue",
+        verdict: Verdict::Ignored,
+    },
+    Opening {
+        text: b"ipv6",
+        verdict: Verdict::Ignored,
+    },
+    Opening {
+        text: b"keepalive",
+        verdict: Verdict::Ignored,
+    },
+    Opening {
+        text: b"lldp",
+        verdict: Verdict::Ignored,
+    },
+    Opening {
+        text: b"load-interval",
+        verdict: Verdict::Ignored,
+    },
+    Opening {
+        text: b"logging",
+        verdict: Verdict::Ignored,
+    },
+    Opening {
+        text: b"lacp",
+        verdict: Verdict::Ignored,
+    },
+    Opening {
+        text: b"mpls",
+        verdict: Verdict::Refused,
+    },
+    Opening {
+        text: b"media-type",
+        verdict: Verdict::Ignored,
+    },
+    Opening {
+        text: b"mtu",
+        verdict: Verdict::Ignored,
+    },
+    Opening {
+        text: b"max-reserved-bandwidth",
+        verdict: Verdict::Ignored,
+    },
+    Opening {
+        text: b"mls",
+        verdict: Verdict::Ignored,
+    },
+    Opening {
+        text: b"mop",
+        verdict: Verdict::Ignored,
+    },
+    Opening {
+        text: b"negotiation",
+        verdict: Verdict::Ignored,
+    },
+    Opening {
+        text: b"ntp",
+        verdict: Verdict::Ignored,
+    },
+    Opening {
+        text: b"no",
+        verdict: Verdict::Ignored,
+    },
+    Opening {
+        text: b"power",
+        verdict: Verdict::Ignored,
+    },
+    Opening {
+        text: b"ppp",
+        verdict: Verdict::Ignored,
+    },
+    Opening {
+        text: b"random-detect",
+        verdict: Verdict::Ignored,
+    },
+    Opening {
+        text: b"shutdown",
+        verdict: Verdict::Form(Form::Shutdown),
+    },
+    Opening {
+        text: b"standby",
+        verdict: Verdict::Refused,
+    },
+    Opening {
+        text: b"switchport",
+        verdict: Verdict::Refused,
+    },
+    Opening {
+        text: b"speed",
+        verdict: Verdict::Ignored,
+    },
+    Opening {
+        text: b"service-policy",
+        verdict: Verdict::Ignored,
+    },
+    Opening {
+        text: b"snmp",
+        verdict: Verdict::Ignored,
+    },
+    Opening {
+        text: b"spanning-tree",
+        verdict: Verdict::Ignored,
+    },
+    Opening {
+        text: b"storm-control",
+        verdict: Verdict::Ignored,
+    },
+    Opening {
+        text: b"serial",
+        verdict: Verdict::Ignored,
+    },
+    Opening {
+        text: b"tunnel",
+        verdict: Verdict::Refused,
+    },
+    Opening {
+        text: b"tx-ring-limit",
+        verdict: Verdict::Ignored,
+    },
+    Opening {
+        text: b"udld",
+        verdict: Verdict::Ignored,
+    },
+    Opening {
+        text: b"vrf",
+        verdict: Verdict::Refused,
+    },
+    Opening {
+        text: b"vrrp",
+        verdict: Verdict::Refused,
+    },
+    Opening {
+        text: b"xconnect",
+        verdict: Verdict::Refused,
+    },
+    Opening {
+        text: b"zone-member",
+        verdict: Verdict::Refused,
+    },
+];
+
+static ONE_WORD_GROUPS: [Group; 21] = [
+    Group {
+        first: b'a',
+        count: 2,
+    },
+    Group {
+        first: b'b',
+        count: 4,
+    },
+    Group {
+        first: b'c',
+        count: 4,
+    },
+    Group {
+        first: b'd',
+        count: 3,
+    },
+    Group {
+        first: b'e',
+        count: 2,
+    },
+    Group {
+        first: b'f',
+        count: 1,
+    },
+    Group {
+        first: b'g',
+        count: 1,
+    },
+    Group {
+        first: b'h',
+        count: 1,
+    },
+    Group {
+        first: b'i',
+        count: 1,
+    },
+    Group {
+        first: b'k',
+        count: 1,
+    },
+    Group {
+        first: b'l',
+        count: 4,
+    },
+    Group {
+        first: b'm',
+        count: 6,
+    },
+    Group {
+        first: b'n',
+        count: 3,
+    },
+    Group {
+        first: b'p',
+        count: 2,
+    },
+    Group {
+        first: b'r',
+        count: 1,
+    },
+    Group {
+        first: b's',
+        count: 9,
+    },
+    Group {
+        first: b't',
+        count: 2,
+    },
+    Group {
+        first: b'u',
+        count: 1,
+    },
+    Group {
+        first: b'v',
+        count: 2,
+    },
+    Group {
+        first: b'x',
+        count: 1,
+    },
+    Group {
+        first: b'z',
+        count: 1,
+    },
+];
+
+static MORE_WORDS: [Opening; 42] = [
+    Opening {
+        text: b"ip address",
+        verdict: Verdict::Form(Form::IpAddress),
+    },
+    Opening {
         text: b"ip access-group",
         verdict: Verdict::Later(Form::AccessGroup),
+    },
+    Opening {
+        text: b"ip address dhcp",
+        verdict: Verdict::Refused,
+    },
+    Opening {
+        text: b"ip address negotiated",
+        verdict: Verdict::Refused,
+    },
+    Opening {
+        text: b"ip accounting",
+        verdict: Verdict::Ignored,
+    },
+    Opening {
+        text: b"ip directed-broadcast",
+        verdict: Verdict::Ignored,
+    },
+    Opening {
+        text: b"ip flow",
+        verdict: Verdict::Ignored,
+    },
+    Opening {
+        text: b"ip helper-address",
+        verdict: Verdict::Ignored,
+    },
+    Opening {
+        text: b"ip inspect",
+        verdict: Verdict::Refused,
+    },
+    Opening {
+        text: b"ip igmp",
+        verdict: Verdict::Ignored,
+    },
+    Opening {
+        text: b"ip load-sharing",
+        verdict: Verdict::Ignored,
+    },
+    Opening {
+        text: b"crypto map",
+        verdict: Verdict::Refused,
+    },
+    Opening {
+        text: b"ip mtu",
+        verdict: Verdict::Ignored,
+    },
+    Opening {
+        text: b"ip nat",
+        verdict: Verdict::Refused,
+    },
+    Opening {
+        text: b"ip nbar",
+        verdict: Verdict::Ignored,
     },
     Opening {
         text: b"ip ospf cost",
@@ -55,308 +393,8 @@ static OPENINGS: [Opening; 94] = [
         verdict: Verdict::Later(Form::OspfArea),
     },
     Opening {
-        text: b"ip address dhcp",
-        verdict: Verdict::Refused,
-    },
-    Opening {
-        text: b"ip address negotiated",
-        verdict: Verdict::Refused,
-    },
-    Opening {
-        text: b"ip unnumbered",
-        verdict: Verdict::Refused,
-    },
-    Opening {
-        text: b"ip nat",
-        verdict: Verdict::Refused,
-    },
-    Opening {
-        text: b"ip policy",
-        verdict: Verdict::Refused,
-    },
-    Opening {
-        text: b"ip vrf",
-        verdict: Verdict::Refused,
-    },
-    Opening {
-        text: b"vrf",
-        verdict: Verdict::Refused,
-    },
-    Opening {
-        text: b"ip verify",
-        verdict: Verdict::Refused,
-    },
-    Opening {
-        text: b"ip inspect",
-        verdict: Verdict::Refused,
-    },
-    Opening {
-        text: b"zone-member",
-        verdict: Verdict::Refused,
-    },
-    Opening {
-        text: b"standby",
-        verdict: Verdict::Refused,
-    },
-    Opening {
-        text: b"vrrp",
-        verdict: Verdict::Refused,
-    },
-    Opening {
-        text: b"glbp",
-        verdict: Verdict::Refused,
-    },
-    Opening {
-        text: b"crypto map",
-        verdict: Verdict::Refused,
-    },
-    Opening {
-        text: b"switchport",
-        verdict: Verdict::Refused,
-    },
-    Opening {
-        text: b"tunnel",
-        verdict: Verdict::Refused,
-    },
-    Opening {
-        text: b"mpls",
-        verdict: Verdict::Refused,
-    },
-    Opening {
-        text: b"ip router",
-        verdict: Verdict::Refused,
-    },
-    Opening {
         text: b"ip ospf",
         verdict: Verdict::Refused,
-    },
-    Opening {
-        text: b"bridge-group",
-        verdict: Verdict::Refused,
-    },
-    Opening {
-        text: b"xconnect",
-        verdict: Verdict::Refused,
-    },
-    Opening {
-        text: b"backup",
-        verdict: Verdict::Refused,
-    },
-    Opening {
-        text: b"description",
-        verdict: Verdict::Ignored,
-    },
-    Opening {
-        text: b"duplex",
-        verdict: Verdict::Ignored,
-    },
-    Opening {
-        text: b"speed",
-        verdict: Verdict::Ignored,
-    },
-    Opening {
-        text: b"negotiation",
-        verdict: Verdict::Ignored,
-    },
-    Opening {
-        text: b"media-type",
-        verdict: Verdict::Ignored,
-    },
-    Opening {
-        text: b"encapsulation",
-        verdict: Verdict::Ignored,
-    },
-    Opening {
-        text: b"clock",
-        verdict: Verdict::Ignored,
-    },
-    Opening {
-        text: b"keepalive",
-        verdict: Verdict::Ignored,
-    },
-    Opening {
-        text: b"mtu",
-        verdict: Verdict::Ignored,
-    },
-    Opening {
-        text: b"ipv6",
-        verdict: Verdict::Ignored,
-    },
-    Opening {
-        text: b"cdp",
-        verdict: Verdict::Ignored,
-    },
-    Opening {
-        text: b"lldp",
-        verdict: Verdict::Ignored,
-    },
-    Opening {
-        text: b"load-interval",
-        verdict: Verdict::Ignored,
-    },
-    Opening {
-        text: b"service-policy",
-        verdict: Verdict::Ignored,
-    },
-    Opening {
-        text: b"channel-group",
-        verdict: Verdict::Ignored,
-    },
-    Opening {
-        text: b"arp",
-        verdict: Verdict::Ignored,
-    },
-    Opening {
-        text: b"logging",
-        verdict: Verdict::Ignored,
-    },
-    Opening {
-        text: b"snmp",
-        verdict: Verdict::Ignored,
-    },
-    Opening {
-        text: b"carrier-delay",
-        verdict: Verdict::Ignored,
-    },
-    Opening {
-        text: b"delay",
-        verdict: Verdict::Ignored,
-    },
-    Opening {
-        text: b"hold-queue",
-        verdict: Verdict::Ignored,
-    },
-    Opening {
-        text: b"tx-ring-limit",
-        verdict: Verdict::Ignored,
-    },
-    Opening {
-        text: b"fair-queue",
-        verdict: Verdict::Ignored,
-    },
-    Opening {
-        text: b"random-detect",
-        verdict: Verdict::Ignored,
-    },
-    Opening {
-        text: b"max-reserved-bandwidth",
-        verdict: Verdict::Ignored,
-    },
-    Opening {
-        text: b"spanning-tree",
-        verdict: Verdict::Ignored,
-    },
-    Opening {
-        text: b"storm-control",
-        verdict: Verdict::Ignored,
-    },
-    Opening {
-        text: b"udld",
-        verdict: Verdict::Ignored,
-    },
-    Opening {
-        text: b"power",
-        verdict: Verdict::Ignored,
-    },
-    Opening {
-        text: b"mls",
-        verdict: Verdict::Ignored,
-    },
-    Opening {
-        text: b"auto",
-        verdict: Verdict::Ignored,
-    },
-    Opening {
-        text: b"bfd",
-        verdict: Verdict::Ignored,
-    },
-    Opening {
-        text: b"ppp",
-        verdict: Verdict::Ignored,
-    },
-    Opening {
-        text: b"serial",
-        verdict: Verdict::Ignored,
-    },
-    Opening {
-        text: b"mop",
-        verdict: Verdict::Ignored,
-    },
-    Opening {
-        text: b"ntp",
-        verdict: Verdict::Ignored,
-    },
-    Opening {
-        text: b"lacp",
-        verdict: Verdict::Ignored,
-    },
-    Opening {
-        text: b"no",
-        verdict: Verdict::Ignored,
-    },
-    Opening {
-        text: b"exit",
-        verdict: Verdict::Ignored,
-    },
-    Opening {
-        text: b"ip mtu",
-        verdict: Verdict::Ignored,
-    },
-    Opening {
-        text: b"ip redirects",
-        verdict: Verdict::Ignored,
-    },
-    Opening {
-        text: b"ip unreachables",
-        verdict: Verdict::Ignored,
-    },
-    Opening {
-        text: b"ip proxy-arp",
-        verdict: Verdict::Ignored,
-    },
-    Opening {
-        text: b"ip tcp",
-        verdict: Verdict::Ignored,
-    },
-    Opening {
-        text: b"ip pim",
-        verdict: Verdict::Ignored,
-    },
-    Opening {
-        text: b"ip igmp",
-        verdict: Verdict::Ignored,
-    },
-    Opening {
-        text: b"ip flow",
-        verdict: Verdict::Ignored,
-    },
-    Opening {
-        text: b"ip route-cache",
-        verdict: Verdict::Ignored,
-    },
-    Opening {
-        text: b"ip helper-address",
-        verdict: Verdict::Ignored,
-    },
-    Opening {
-        text: b"ip nbar",
-        verdict: Verdict::Ignored,
-    },
-    Opening {
-        text: b"ip directed-broadcast",
-        verdict: Verdict::Ignored,
-    },
-    Opening {
-        text: b"ip virtual-reassembly",
-        verdict: Verdict::Ignored,
-    },
-    Opening {
-        text: b"ip accounting",
-        verdict: Verdict::Ignored,
-    },
-    Opening {
-        text: b"ip load-sharing",
-        verdict: Verdict::Ignored,
     },
     Opening {
         text: b"ip ospf priority",
@@ -382,10 +420,135 @@ static OPENINGS: [Opening; 94] = [
         text: b"ip ospf flood-reduction",
         verdict: Verdict::Ignored,
     },
+    Opening {
+        text: b"ip policy",
+        verdict: Verdict::Refused,
+    },
+    Opening {
+        text: b"ip proxy-arp",
+        verdict: Verdict::Ignored,
+    },
+    Opening {
+        text: b"ip pim",
+        verdict: Verdict::Ignored,
+    },
+    Opening {
+        text: b"ip router",
+        verdict: Verdict::Refused,
+    },
+    Opening {
+        text: b"ip redirects",
+        verdict: Verdict::Ignored,
+    },
+    Opening {
+        text: b"ip route-cache",
+        verdict: Verdict::Ignored,
+    },
+    Opening {
+        text: b"no shutdown",
+        verdict: Verdict::Form(Form::NoShutdown),
+    },
+    Opening {
+        text: b"ip tcp",
+        verdict: Verdict::Ignored,
+    },
+    Opening {
+        text: b"ip unnumbered",
+        verdict: Verdict::Refused,
+    },
+    Opening {
+        text: b"ip unreachables",
+        verdict: Verdict::Ignored,
+    },
+    Opening {
+        text: b"ip vrf",
+        verdict: Verdict::Refused,
+    },
+    Opening {
+        text: b"ip verify",
+        verdict: Verdict::Refused,
+    },
+    Opening {
+        text: b"ip virtual-reassembly",
+        verdict: Verdict::Ignored,
+    },
 ];
 
-pub(crate) fn interface_openings() -> &'static [Opening]
-    ensures { map row_of result.now ≡ interface }
+static MORE_WORDS_GROUPS: [Group; 15] = [
+    Group {
+        first: b'a',
+        count: 5,
+    },
+    Group {
+        first: b'd',
+        count: 1,
+    },
+    Group {
+        first: b'f',
+        count: 1,
+    },
+    Group {
+        first: b'h',
+        count: 1,
+    },
+    Group {
+        first: b'i',
+        count: 2,
+    },
+    Group {
+        first: b'l',
+        count: 1,
+    },
+    Group {
+        first: b'm',
+        count: 2,
+    },
+    Group {
+        first: b'n',
+        count: 2,
+    },
+    Group {
+        first: b'o',
+        count: 14,
+    },
+    Group {
+        first: b'p',
+        count: 3,
+    },
+    Group {
+        first: b'r',
+        count: 3,
+    },
+    Group {
+        first: b's',
+        count: 1,
+    },
+    Group {
+        first: b't',
+        count: 1,
+    },
+    Group {
+        first: b'u',
+        count: 2,
+    },
+    Group {
+        first: b'v',
+        count: 3,
+    },
+];
+
+pub(crate) fn interface_table() -> Table
+    ensures { IsTable result interface }
 {
-    &OPENINGS
+    Table {
+        one_word: Index {
+            openings: &ONE_WORD,
+            groups: &ONE_WORD_GROUPS,
+        },
+        more_words: Index {
+            openings: &MORE_WORDS,
+            groups: &MORE_WORDS_GROUPS,
+        },
+        starred: &[],
+    }
 }

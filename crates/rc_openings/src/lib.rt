@@ -17,6 +17,7 @@ mod opening;
 mod ospf;
 mod reading;
 mod route_map;
+mod table;
 #[cfg(test)]
 mod tests;
 mod values;

@@ -1,9 +1,8 @@
 //! An opening, and what it says of a line.
-ghost use Rattle.std.specs.Prelude.{◌≡◌, ℕ, List, false, length, drop};
-ghost use Rattle.rc_openings.specs.Words.{words_of, words_left, first_byte};
-ghost use Rattle.rc_openings.specs.Opening.{begins_with, could_begin, is_form_verdict};
+ghost use Rattle.std.specs.Prelude.{◌≡◌, false, length, drop};
+ghost use Rattle.rc_openings.specs.Words.{words_of, words_left};
+ghost use Rattle.rc_openings.specs.Opening.{begins_with, parts_within_word as parts_within, is_form_verdict};
 
-use crate::words::is_blank;
 use crate::{Form, Words};
 
 /// What an opening says of a line that it decides.
@@ -28,11 +27,24 @@ pub struct Opening {
     pub verdict: Verdict,
 }
 
-/// Whether a text with this first byte might begin with a word that stands for one with that first byte.
-fn could_be(byte: u8, first: u8) -> bool
-    ensures { result ≡ could_begin byte first }
+/// Whether the texts of an opening and of a line surely part within a word: at a byte of the opening that is behind the
+/// blanks and `*`, and one of the line that is behind the blanks.
+fn parts_within_word(opening: &[u8], line: &[u8]) -> bool
+    ensures { result ≡ parts_within opening.now line.now }
 {
-    byte == first || byte == b'*' || is_blank(byte)
+    let mut token = opening;
+    let mut word = line;
+    while let [byte, token_rest @ ..] = token {
+        let [other, word_rest @ ..] = word else {
+            return false;
+        };
+        if *byte != *other {
+            return *byte > b'*' && *other > b' ';
+        }
+        token = token_rest;
+        word = word_rest;
+    }
+    false
 }
 
 impl Opening {
@@ -62,13 +74,10 @@ impl Opening {
         matches!(self.verdict, Verdict::Form(_) | Verdict::Later(_))
     }
 
-    /// Whether a line whose first byte is this one might begin with it: the quick test that sets most openings aside.
-    pub(crate) fn may_begin(&self, first: u8) -> bool
-        ensures { result ≡ false → ((line : List (List ℕ)) → first_byte line ≡ first → begins_with line (words_of self.now.text.now) ≡ false) }
+    /// Whether a line with this text might begin with it: the quick test that sets most openings aside.
+    pub(crate) fn may_begin(&self, line: &[u8]) -> bool
+        ensures { result ≡ false → begins_with (words_of line.now) (words_of self.now.text.now) ≡ false }
     {
-        match self.text {
-            [byte, ..] => could_be(*byte, first),
-            [] => true,
-        }
+        !parts_within_word(self.text, line)
     }
 }

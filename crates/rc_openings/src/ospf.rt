@@ -1,69 +1,21 @@
 //! The openings of a line under `router ospf`.
-ghost use Rattle.std.specs.Prelude.{◌≡◌, map};
-ghost use Rattle.rc_openings.specs.Opening.{row_of};
+ghost use Rattle.rc_openings.specs.Groups.{IsTable};
 ghost use Rattle.rc_openings.specs.OspfOpenings.{ospf};
 
+use crate::table::{Group, Index, Table};
 use crate::{Form, Opening, Verdict};
 
-static OPENINGS: [Opening; 29] = [
-    Opening {
-        text: b"router-id",
-        verdict: Verdict::Later(Form::OspfRouterId),
-    },
-    Opening {
-        text: b"network",
-        verdict: Verdict::Later(Form::OspfNetwork),
-    },
-    Opening {
-        text: b"area * stub",
-        verdict: Verdict::Later(Form::StubArea),
-    },
-    Opening {
-        text: b"passive-interface",
-        verdict: Verdict::Later(Form::PassiveInterface),
-    },
-    Opening {
-        text: b"no passive-interface",
-        verdict: Verdict::Later(Form::NoPassiveInterface),
-    },
-    Opening {
-        text: b"passive-interface default",
-        verdict: Verdict::Later(Form::PassiveInterfaceDefault),
-    },
-    Opening {
-        text: b"auto-cost reference-bandwidth",
-        verdict: Verdict::Later(Form::ReferenceBandwidth),
-    },
-    Opening {
-        text: b"redistribute connected",
-        verdict: Verdict::Later(Form::OspfRedistributeConnected),
-    },
-    Opening {
-        text: b"redistribute static",
-        verdict: Verdict::Later(Form::OspfRedistributeStatic),
-    },
-    Opening {
-        text: b"redistribute bgp",
-        verdict: Verdict::Later(Form::OspfRedistributeBgp),
-    },
-    Opening {
-        text: b"default-information originate",
-        verdict: Verdict::Later(Form::DefaultInformationOriginate),
-    },
+static ONE_WORD: [Opening; 21] = [
     Opening {
         text: b"area",
         verdict: Verdict::Refused,
     },
     Opening {
-        text: b"summary-address",
-        verdict: Verdict::Refused,
+        text: b"bfd",
+        verdict: Verdict::Ignored,
     },
     Opening {
         text: b"distance",
-        verdict: Verdict::Refused,
-    },
-    Opening {
-        text: b"maximum-paths",
         verdict: Verdict::Refused,
     },
     Opening {
@@ -71,19 +23,7 @@ static OPENINGS: [Opening; 29] = [
         verdict: Verdict::Refused,
     },
     Opening {
-        text: b"neighbor",
-        verdict: Verdict::Refused,
-    },
-    Opening {
-        text: b"max-metric",
-        verdict: Verdict::Refused,
-    },
-    Opening {
         text: b"default-metric",
-        verdict: Verdict::Refused,
-    },
-    Opening {
-        text: b"redistribute",
         verdict: Verdict::Refused,
     },
     Opening {
@@ -91,11 +31,7 @@ static OPENINGS: [Opening; 29] = [
         verdict: Verdict::Refused,
     },
     Opening {
-        text: b"log-adjacency-changes",
-        verdict: Verdict::Ignored,
-    },
-    Opening {
-        text: b"timers",
+        text: b"exit",
         verdict: Verdict::Ignored,
     },
     Opening {
@@ -103,15 +39,31 @@ static OPENINGS: [Opening; 29] = [
         verdict: Verdict::Ignored,
     },
     Opening {
-        text: b"nsf",
+        text: b"log-adjacency-changes",
         verdict: Verdict::Ignored,
     },
     Opening {
-        text: b"bfd",
-        verdict: Verdict::Ignored,
+        text: b"maximum-paths",
+        verdict: Verdict::Refused,
+    },
+    Opening {
+        text: b"max-metric",
+        verdict: Verdict::Refused,
     },
     Opening {
         text: b"max-lsa",
+        verdict: Verdict::Ignored,
+    },
+    Opening {
+        text: b"network",
+        verdict: Verdict::Later(Form::OspfNetwork),
+    },
+    Opening {
+        text: b"neighbor",
+        verdict: Verdict::Refused,
+    },
+    Opening {
+        text: b"nsf",
         verdict: Verdict::Ignored,
     },
     Opening {
@@ -119,13 +71,157 @@ static OPENINGS: [Opening; 29] = [
         verdict: Verdict::Ignored,
     },
     Opening {
-        text: b"exit",
+        text: b"passive-interface",
+        verdict: Verdict::Later(Form::PassiveInterface),
+    },
+    Opening {
+        text: b"router-id",
+        verdict: Verdict::Later(Form::OspfRouterId),
+    },
+    Opening {
+        text: b"redistribute",
+        verdict: Verdict::Refused,
+    },
+    Opening {
+        text: b"summary-address",
+        verdict: Verdict::Refused,
+    },
+    Opening {
+        text: b"timers",
         verdict: Verdict::Ignored,
     },
 ];
 
-pub(crate) fn ospf_openings() -> &'static [Opening]
-    ensures { map row_of result.now ≡ ospf }
+static ONE_WORD_GROUPS: [Group; 12] = [
+    Group {
+        first: b'a',
+        count: 1,
+    },
+    Group {
+        first: b'b',
+        count: 1,
+    },
+    Group {
+        first: b'd',
+        count: 4,
+    },
+    Group {
+        first: b'e',
+        count: 1,
+    },
+    Group {
+        first: b'i',
+        count: 1,
+    },
+    Group {
+        first: b'l',
+        count: 1,
+    },
+    Group {
+        first: b'm',
+        count: 3,
+    },
+    Group {
+        first: b'n',
+        count: 4,
+    },
+    Group {
+        first: b'p',
+        count: 1,
+    },
+    Group {
+        first: b'r',
+        count: 2,
+    },
+    Group {
+        first: b's',
+        count: 1,
+    },
+    Group {
+        first: b't',
+        count: 1,
+    },
+];
+
+static MORE_WORDS: [Opening; 7] = [
+    Opening {
+        text: b"redistribute bgp",
+        verdict: Verdict::Later(Form::OspfRedistributeBgp),
+    },
+    Opening {
+        text: b"redistribute connected",
+        verdict: Verdict::Later(Form::OspfRedistributeConnected),
+    },
+    Opening {
+        text: b"passive-interface default",
+        verdict: Verdict::Later(Form::PassiveInterfaceDefault),
+    },
+    Opening {
+        text: b"default-information originate",
+        verdict: Verdict::Later(Form::DefaultInformationOriginate),
+    },
+    Opening {
+        text: b"no passive-interface",
+        verdict: Verdict::Later(Form::NoPassiveInterface),
+    },
+    Opening {
+        text: b"auto-cost reference-bandwidth",
+        verdict: Verdict::Later(Form::ReferenceBandwidth),
+    },
+    Opening {
+        text: b"redistribute static",
+        verdict: Verdict::Later(Form::OspfRedistributeStatic),
+    },
+];
+
+static MORE_WORDS_GROUPS: [Group; 7] = [
+    Group {
+        first: b'b',
+        count: 1,
+    },
+    Group {
+        first: b'c',
+        count: 1,
+    },
+    Group {
+        first: b'd',
+        count: 1,
+    },
+    Group {
+        first: b'o',
+        count: 1,
+    },
+    Group {
+        first: b'p',
+        count: 1,
+    },
+    Group {
+        first: b'r',
+        count: 1,
+    },
+    Group {
+        first: b's',
+        count: 1,
+    },
+];
+
+static STARRED: [Opening; 1] = [Opening {
+    text: b"area * stub",
+    verdict: Verdict::Later(Form::StubArea),
+}];
+
+pub(crate) fn ospf_table() -> Table
+    ensures { IsTable result ospf }
 {
-    &OPENINGS
+    Table {
+        one_word: Index {
+            openings: &ONE_WORD,
+            groups: &ONE_WORD_GROUPS,
+        },
+        more_words: Index {
+            openings: &MORE_WORDS,
+            groups: &MORE_WORDS_GROUPS,
+        },
+        starred: &STARRED,
+    }
 }

@@ -1,11 +1,69 @@
 //! The openings of a line under `route-map`.
-ghost use Rattle.std.specs.Prelude.{◌≡◌, map};
-ghost use Rattle.rc_openings.specs.Opening.{row_of};
+ghost use Rattle.rc_openings.specs.Groups.{IsTable};
 ghost use Rattle.rc_openings.specs.RouteMapOpenings.{route_map};
 
+use crate::table::{Group, Index, Table};
 use crate::{Form, Opening, Verdict};
 
-static OPENINGS: [Opening; 19] = [
+static ONE_WORD: [Opening; 5] = [
+    Opening {
+        text: b"continue",
+        verdict: Verdict::Refused,
+    },
+    Opening {
+        text: b"description",
+        verdict: Verdict::Ignored,
+    },
+    Opening {
+        text: b"exit",
+        verdict: Verdict::Ignored,
+    },
+    Opening {
+        text: b"match",
+        verdict: Verdict::Refused,
+    },
+    Opening {
+        text: b"set",
+        verdict: Verdict::Refused,
+    },
+];
+
+static ONE_WORD_GROUPS: [Group; 5] = [
+    Group {
+        first: b'c',
+        count: 1,
+    },
+    Group {
+        first: b'd',
+        count: 1,
+    },
+    Group {
+        first: b'e',
+        count: 1,
+    },
+    Group {
+        first: b'm',
+        count: 1,
+    },
+    Group {
+        first: b's',
+        count: 1,
+    },
+];
+
+static MORE_WORDS: [Opening; 14] = [
+    Opening {
+        text: b"set as-path prepend",
+        verdict: Verdict::Later(Form::PrependAsPath),
+    },
+    Opening {
+        text: b"match community",
+        verdict: Verdict::Later(Form::MatchCommunity),
+    },
+    Opening {
+        text: b"set community",
+        verdict: Verdict::Later(Form::SetCommunity),
+    },
     Opening {
         text: b"match ip address",
         verdict: Verdict::Later(Form::MatchAddress),
@@ -13,10 +71,6 @@ static OPENINGS: [Opening; 19] = [
     Opening {
         text: b"match ip address prefix-list",
         verdict: Verdict::Later(Form::MatchPrefixList),
-    },
-    Opening {
-        text: b"match community",
-        verdict: Verdict::Later(Form::MatchCommunity),
     },
     Opening {
         text: b"set local-preference",
@@ -35,10 +89,6 @@ static OPENINGS: [Opening; 19] = [
         verdict: Verdict::Later(Form::SetMetricType2),
     },
     Opening {
-        text: b"set weight",
-        verdict: Verdict::Later(Form::SetWeight),
-    },
-    Opening {
         text: b"set origin",
         verdict: Verdict::Later(Form::SetOrigin),
     },
@@ -51,41 +101,62 @@ static OPENINGS: [Opening; 19] = [
         verdict: Verdict::Later(Form::SetOriginIncomplete),
     },
     Opening {
-        text: b"set community",
-        verdict: Verdict::Later(Form::SetCommunity),
-    },
-    Opening {
-        text: b"set as-path prepend",
-        verdict: Verdict::Later(Form::PrependAsPath),
-    },
-    Opening {
-        text: b"match",
-        verdict: Verdict::Refused,
-    },
-    Opening {
-        text: b"set",
-        verdict: Verdict::Refused,
-    },
-    Opening {
-        text: b"continue",
-        verdict: Verdict::Refused,
-    },
-    Opening {
-        text: b"description",
-        verdict: Verdict::Ignored,
-    },
-    Opening {
         text: b"set tag",
         verdict: Verdict::Ignored,
     },
     Opening {
-        text: b"exit",
-        verdict: Verdict::Ignored,
+        text: b"set weight",
+        verdict: Verdict::Later(Form::SetWeight),
     },
 ];
 
-pub(crate) fn route_map_openings() -> &'static [Opening]
-    ensures { map row_of result.now ≡ route_map }
+static MORE_WORDS_GROUPS: [Group; 8] = [
+    Group {
+        first: b'a',
+        count: 1,
+    },
+    Group {
+        first: b'c',
+        count: 2,
+    },
+    Group {
+        first: b'i',
+        count: 2,
+    },
+    Group {
+        first: b'l',
+        count: 1,
+    },
+    Group {
+        first: b'm',
+        count: 3,
+    },
+    Group {
+        first: b'o',
+        count: 3,
+    },
+    Group {
+        first: b't',
+        count: 1,
+    },
+    Group {
+        first: b'w',
+        count: 1,
+    },
+];
+
+pub(crate) fn route_map_table() -> Table
+    ensures { IsTable result route_map }
 {
-    &OPENINGS
+    Table {
+        one_word: Index {
+            openings: &ONE_WORD,
+            groups: &ONE_WORD_GROUPS,
+        },
+        more_words: Index {
+            openings: &MORE_WORDS,
+            groups: &MORE_WORDS_GROUPS,
+        },
+        starred: &[],
+    }
 }

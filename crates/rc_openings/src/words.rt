@@ -1,7 +1,7 @@
 //! The words of a line.
 ghost use Rattle.std.specs.Prelude.{◌≡◌, ◌≤◌, false, List, [], ◌∷◌, length, drop, MatchOption};
 ghost use Rattle.std.specs.List.{position_or_len};
-ghost use Rattle.rc_openings.specs.Words.{words_of, words_left, first_byte, is_blank as blank, starts_blank};
+ghost use Rattle.rc_openings.specs.Words.{words_of, words_left, first_byte, second_byte, is_blank as blank, starts_blank};
 
 /// A cursor over the words of a text: what stands between blanks, which are space and tab.
 ///
@@ -11,7 +11,7 @@ pub struct Words<'a> {
     text: &'a [u8],
 }
 
-pub(crate) fn is_blank(byte: u8) -> bool
+fn is_blank(byte: u8) -> bool
     ensures { result ≡ blank byte }
 {
     byte == b' ' || byte == b'\t'
@@ -73,6 +73,13 @@ impl<'a> Words<'a> {
         self
     }
 
+    /// The text of the words that are left, from the first of them on.
+    pub(crate) fn text(self) -> &'a [u8]
+        ensures { words_of result.now ≡ words_left self.entry }
+    {
+        skip_blanks(self.text)
+    }
+
     /// The first byte of the next word, or 0 where there is none.
     pub(crate) fn first_byte(self) -> u8
         ensures { result ≡ first_byte (words_left self.entry) }
@@ -80,6 +87,16 @@ impl<'a> Words<'a> {
         match skip_blanks(self.text) {
             [first, ..] => *first,
             [] => 0,
+        }
+    }
+
+    /// The first byte of the word after the next, or 0 where there is none.
+    pub(crate) fn second_byte(mut self) -> u8
+        ensures { result ≡ second_byte (words_left self.entry) }
+    {
+        match self.next_word() {
+            Some(_) => self.first_byte(),
+            None => 0,
         }
     }
 }

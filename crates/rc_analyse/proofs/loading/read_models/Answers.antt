@@ -1,5 +1,5 @@
-use Rattle.std.proofs.Common.{◌≡◌, ◌∙◌, [], ◌∷◌, List, ℕ, length, ap, subst, arith, length-append, IfOk, Result}
-use Rattle.std.specs.Prelude.{All, IsTrue}
+use Rattle.std.proofs.Common.{◌∙◌, [], ◌∷◌, length, ap, subst, arith, length-append, IfOk, Result}
+use Rattle.std.specs.Prelude.{IsTrue}
 use Rattle.std.proofs.lemmas.List.Elements.{All-push}
 use Rattle.rc_outside.specs.Folder.{is_config}
 use Rattle.rc_config.specs.Lawful.{IsLawfulFile}

@@ -1,5 +1,4 @@
 use Rattle.std.proofs.Common.{refl, arith}
-use Rattle.rc_network.specs.declared.refusal.NetRefusal.TheVariants.{TooManyFiles}
 use Rattle.std.specs.Prelude.{Ok, Err}
 use Rattle.rc_analyse.proofs.ReadLaws.{is_net, too_many, net_of_read}
 use Rattle.rc_analyse.proofs.loading.read_network.Goals as goal

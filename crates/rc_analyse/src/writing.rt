@@ -1,0 +1,238 @@
+//! Texts go to the sink line by line.
+ghost use Rattle.std.specs.Prelude.{◌≡◌, ◌≤◌, ◌⊎◌, ◌<◌, flat_map, OnOk, OnErr};
+ghost use Rattle.rc_outside.specs.Causes.{Rose};
+ghost use Rattle.rc_outside.specs.Sink.{appended, AppendsFront};
+ghost use Rattle.rc_report.specs.Parts.{part_text};
+ghost use Rattle.rc_analyse.specs.Texts.{usage_text, refused_line, outcome_line, routes_in, all_routes, routes_after, outcome_text};
+ghost use Rattle.rc_analyse.specs.Answer.{text_of};
+
+use crate::Findings;
+use rc_base::{FileName, RouterId};
+use rc_config::Network;
+use rc_network::{NetCause, NetRefusal};
+use rc_outside::Sink;
+use rc_report::{Buffer, Part, SinkFault, put_line, put_routes};
+use rc_rounds::Outcome;
+use rc_route::State;
+
+/// Puts a line of bytes as they are.
+fn put_text<S: Sink>(out: &mut S, line: &mut Buffer, text: &[u8]) -> Result<(), SinkFault>
+    ensures ok { OnOk result (S.told out.new ≡ appended (S.told out.old) text.now) }
+    ensures err { OnErr result (AppendsFront (S.told out.old) (S.told out.new) text.now) }
+    ensures left { OnOk result (S.faults out.new ≡ S.faults out.old) }
+    ensures later { S.faults out.old ≤ S.faults out.new }
+    ensures cause { OnErr result (Rose (S.faults out.old) (S.faults out.new)) }
+{
+    put_line(out, line, &[Part::Text(text)])
+}
+
+/// The lines of the usage text.
+#[tactic(auto, unfolding(crate::specs::Texts::usage_text))]
+fn usage_lines() -> [&'static [u8]; 5]
+    ensures { flat_map (λ text. text.now) result ≡ usage_text }
+{
+    [
+        b"usage: netcheck routes DIR [--router R]\n",
+        b"       netcheck trace DIR --from PLACE --dst A [--src A] [--proto N] [--sport N] [--dport N]\n",
+        b"       netcheck reach DIR --from PLACE [--end KIND] [--examples N]\n",
+        b"       netcheck sample N\n",
+        b"options: --rounds N --workers N --nodes N\n",
+    ]
+}
+
+/// Puts the usage text.
+pub(crate) fn put_usage<S: Sink>(out: &mut S, line: &mut Buffer) -> Result<(), SinkFault>
+    ensures ok { OnOk result (S.told out.new ≡ appended (S.told out.old) usage_text) }
+    ensures err { OnErr result (AppendsFront (S.told out.old) (S.told out.new) usage_text) }
+    ensures left { OnOk result (S.faults out.new ≡ S.faults out.old) }
+    ensures later { S.faults out.old ≤ S.faults out.new }
+    ensures cause { OnErr result (Rose (S.faults out.old) (S.faults out.new)) }
+{
+    let lines = usage_lines();
+    for text in &lines {
+        match put_text(out, line, text) {
+            Ok(()) => {}
+            Err(fault) => return Err(fault),
+        }
+    }
+    Ok(())
+}
+
+/// The line of a refusal of a file.
+#[tactic(auto, unfolding(crate::specs::Texts::refused_line))]
+fn refusal_parts<'a>(file: &'a FileName, line: u64, cause: &NetCause) -> [Part<'a>; 7]
+    ensures { flat_map part_text result ≡ refused_line (NetRefusal.InFile file.now line cause.now) }
+{
+    [
+        Part::Text(b"refused "),
+        Part::Text(file.as_str().as_bytes()),
+        Part::Text(b":"),
+        Part::Number(line),
+        Part::Text(b": "),
+        Part::Number(u64::from(cause.code())),
+        Part::Text(b"\n"),
+    ]
+}
+
+/// Puts the line of a refusal.
+#[tactic(auto, unfolding(crate::specs::Texts::refused_line))]
+fn put_refusal<S: Sink>(
+    out: &mut S,
+    line: &mut Buffer,
+    refusal: &NetRefusal,
+) -> Result<(), SinkFault>
+    ensures ok { OnOk result (S.told out.new ≡ appended (S.told out.old) (refused_line refusal.now)) }
+    ensures err { OnErr result (AppendsFront (S.told out.old) (S.told out.new) (refused_line refusal.now)) }
+    ensures left { OnOk result (S.faults out.new ≡ S.faults out.old) }
+    ensures later { S.faults out.old ≤ S.faults out.new }
+    ensures cause { OnErr result (Rose (S.faults out.old) (S.faults out.new)) }
+{
+    match refusal {
+        NetRefusal::TooManyFiles => put_text(out, line, b"refused folder: 10\n"),
+        NetRefusal::InFile(file, number, cause) => {
+            let parts = refusal_parts(file, *number, cause);
+            put_line(out, line, &parts)
+        }
+    }
+}
+
+/// The line of an outcome.
+#[tactic(auto, unfolding(crate::specs::Texts::outcome_line))]
+fn outcome_parts(outcome: &Outcome) -> [Part<'static>; 5]
+    ensures { flat_map part_text result ≡ outcome_line outcome.now }
+{
+    match outcome {
+        Outcome::Fixed(round, _) => [
+            Part::Text(b"outcome fixed "),
+            Part::Number(u64::from(*round)),
+            Part::Text(b"\n"),
+            Part::Text(b""),
+            Part::Text(b""),
+        ],
+        Outcome::Repeats(first, again) => [
+            Part::Text(b"outcome repeats "),
+            Part::Number(u64::from(*first)),
+            Part::Text(b" "),
+            Part::Number(u64::from(*again)),
+            Part::Text(b"\n"),
+        ],
+        Outcome::Limit(rounds) => [
+            Part::Text(b"outcome limit "),
+            Part::Number(u64::from(*rounds)),
+            Part::Text(b"\n"),
+            Part::Text(b""),
+            Part::Text(b""),
+        ],
+    }
+}
+
+/// Puts the line of an outcome.
+fn put_outcome<S: Sink>(out: &mut S, line: &mut Buffer, outcome: &Outcome) -> Result<(), SinkFault>
+    ensures ok { OnOk result (S.told out.new ≡ appended (S.told out.old) (outcome_line outcome.now)) }
+    ensures err { OnErr result (AppendsFront (S.told out.old) (S.told out.new) (outcome_line outcome.now)) }
+    ensures left { OnOk result (S.faults out.new ≡ S.faults out.old) }
+    ensures later { S.faults out.old ≤ S.faults out.new }
+    ensures cause { OnErr result (Rose (S.faults out.old) (S.faults out.new)) }
+{
+    let parts = outcome_parts(outcome);
+    put_line(out, line, &parts)
+}
+
+/// Puts the routes of the router at a place, where the state has it.
+fn put_routes_at<S: Sink>(
+    out: &mut S,
+    line: &mut Buffer,
+    net: &Network,
+    state: &State,
+    place: usize,
+) -> Result<(), SinkFault>
+    ensures ok { OnOk result (S.told out.new ≡ appended (S.told out.old) (routes_in net.now state.now place)) }
+    ensures err { OnErr result (AppendsFront (S.told out.old) (S.told out.new) (routes_in net.now state.now place)) }
+    ensures left { OnOk result (S.faults out.new ≡ S.faults out.old) }
+    ensures later { S.faults out.old ≤ S.faults out.new }
+    ensures cause { OnErr result (Rose (S.faults out.old) (S.faults out.new)) }
+{
+    match state.as_slice().get(place) {
+        Some(known) => put_routes(out, line, net, RouterId::at(place), &known.table),
+        None => Ok(()),
+    }
+}
+
+/// Puts each router and its routes.
+fn put_all_routes<S: Sink>(
+    out: &mut S,
+    line: &mut Buffer,
+    net: &Network,
+    state: &State,
+) -> Result<(), SinkFault>
+    ensures ok { OnOk result (S.told out.new ≡ appended (S.told out.old) (all_routes net.now state.now)) }
+    ensures err { OnErr result (AppendsFront (S.told out.old) (S.told out.new) (all_routes net.now state.now)) }
+    ensures left { OnOk result (S.faults out.new ≡ S.faults out.old) }
+    ensures later { S.faults out.old ≤ S.faults out.new }
+    ensures cause { OnErr result (Rose (S.faults out.old) (S.faults out.new)) }
+{
+    for place in 0..net.routers.len() {
+        match put_routes_at(out, line, net, state, place) {
+            Ok(()) => {}
+            Err(fault) => return Err(fault),
+        }
+    }
+    Ok(())
+}
+
+/// Puts the routes after an outcome, which are those of its fixed point.
+fn put_routes_after<S: Sink>(
+    out: &mut S,
+    line: &mut Buffer,
+    net: &Network,
+    outcome: &Outcome,
+) -> Result<(), SinkFault>
+    ensures ok { OnOk result (S.told out.new ≡ appended (S.told out.old) (routes_after net.now outcome.now)) }
+    ensures err { OnErr result (AppendsFront (S.told out.old) (S.told out.new) (routes_after net.now outcome.now)) }
+    ensures left { OnOk result (S.faults out.new ≡ S.faults out.old) }
+    ensures later { S.faults out.old ≤ S.faults out.new }
+    ensures cause { OnErr result (Rose (S.faults out.old) (S.faults out.new)) }
+{
+    match outcome {
+        Outcome::Fixed(_, state) => put_all_routes(out, line, net, state),
+        Outcome::Repeats(_, _) => Ok(()),
+        Outcome::Limit(_) => Ok(()),
+    }
+}
+
+/// Puts an outcome and the routes after it.
+fn put_ended<S: Sink>(
+    out: &mut S,
+    line: &mut Buffer,
+    net: &Network,
+    outcome: &Outcome,
+) -> Result<(), SinkFault>
+    ensures ok { OnOk result (S.told out.new ≡ appended (S.told out.old) (outcome_text net.now outcome.now)) }
+    ensures err { OnErr result (AppendsFront (S.told out.old) (S.told out.new) (outcome_text net.now outcome.now)) }
+    ensures left { OnOk result (S.faults out.new ≡ S.faults out.old) }
+    ensures later { S.faults out.old ≤ S.faults out.new }
+    ensures cause { OnErr result (Rose (S.faults out.old) (S.faults out.new)) }
+{
+    match put_outcome(out, line, outcome) {
+        Ok(()) => put_routes_after(out, line, net, outcome),
+        Err(fault) => Err(fault),
+    }
+}
+
+/// Puts what the files of a folder give.
+pub(crate) fn put_findings<S: Sink>(
+    out: &mut S,
+    line: &mut Buffer,
+    found: &Findings,
+) -> Result<(), SinkFault>
+    ensures ok { OnOk result (S.told out.new ≡ appended (S.told out.old) (text_of found.now)) }
+    ensures err { OnErr result (AppendsFront (S.told out.old) (S.told out.new) (text_of found.now)) }
+    ensures left { OnOk result (S.faults out.new ≡ S.faults out.old) }
+    ensures later { S.faults out.old ≤ S.faults out.new }
+    ensures cause { OnErr result (Rose (S.faults out.old) (S.faults out.new)) }
+{
+    match found {
+        Findings::Refused(refusal) => put_refusal(out, line, refusal),
+        Findings::Ended(net, outcome) => put_ended(out, line, net, outcome),
+    }
+}

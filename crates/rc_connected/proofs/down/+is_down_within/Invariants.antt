@@ -1,4 +1,0 @@
-use Rattle.rc_connected.proofs.down.+is_down_within.Given as goal
-
-abbrev pub decreases-is_down_within : goal.decreases-is_down_within
-decreases-is_down_within l = l.names

@@ -1,3 +1,0 @@
-pub mod Connected
-pub mod ByPrefix
-pub mod Rows

@@ -1,0 +1,183 @@
+-- The openings that a line finds in a table are all with which it begins.
+use Rattle.std.proofs.Common.{◌≡◌, ℕ, suc, zero, ◌<◌, Bool, true, false, ◌||◌, ◌&&◌, cond, List, [], ◌∷◌, ◌++◌, length, map, take, drop, arith, refl, sym, ◌∙◌, inl, inr, Option, Some, None}
+use borrow.Author.Tests.{ltb-true}
+use Rattle.std.specs.Prelude.{nat_eq, nat_lt, Contains}
+use Rattle.std.specs.List.{filter, list_all, list_any}
+use Rattle.std.specs.Str.{bytes_eq}
+use Rattle.std.proofs.Math.Seq.{take-append_seam, drop-append_seam}
+use Rattle.std.proofs.lemmas.Bool.{and_parts, or_cases, false≢true, eqb-true, ne_eqb}
+use Rattle.std.proofs.lemmas.List.{take-map, drop-map}
+use Rattle.std.proofs.lemmas.List.Elements.{All-contains_itself, All-filter, All-contains, Contains-append_left, Contains-append_right, Contains-append_cases}
+use Rattle.std.proofs.lemmas.List.Folds.{list_any_at, list_any-append}
+use Rattle.rc_openings.specs.declared.opening.Opening.{Opening}
+use Rattle.rc_openings.specs.declared.table.Group.{Group}
+use Rattle.rc_openings.specs.declared.table.Index.{Index}
+use Rattle.rc_openings.specs.declared.table.Table.{Table}
+use Rattle.rc_openings.specs.Groups.{group_at, keyed, grouped, are_counted, is_placed, IsIndex, one_word, starred, more_words, is_of_three, IsTable}
+use Rattle.rc_openings.specs.Opening.{Row, row_of, stands_for, begins_with, begins_form, is_form_verdict, IsAnswer}
+use Rattle.rc_openings.specs.Words.{first_byte, second_byte}
+use Rattle.rc_openings.proofs.ApartLemmas.{at_element}
+
+-- what a filter leaves, and what it keeps
+from_filter : (p : Row → Bool) (rows : List Row) (r : Row) → Contains (filter p rows) r → Contains rows r
+from_filter p rows r h = All-contains (Contains rows) (filter p rows) r (All-filter p (Contains rows) rows (All-contains_itself rows)) h
+
+behind_first : (x : Row) (rows : List Row) (r : Row) → Contains rows r → Contains (x ∷ rows) r
+behind_first x rows r (k, lt, here) = (suc k, omega arith, here)
+
+to_filter : (p : Row → Bool) (rows : List Row) (r : Row) → p r ≡ true → Contains rows r → Contains (filter p rows) r
+to_filter p [] r e h = let lt : h.0 < 0 = h.1 in absurd (omega arith)
+to_filter p (x ∷ rows) r e (zero, lt, here) = rw (here, e) (zero, omega arith, refl)
+to_filter p (x ∷ rows) r e (suc k, lt, here) = by (p x) (to_filter p rows r e (k, omega arith, here))
+  where
+    by : (v : Bool) → Contains (filter p rows) r → Contains (cond v (x ∷ filter p rows) (filter p rows)) r
+    by true h = behind_first x (filter p rows) r h
+    by false h = h
+
+-- a byte of an opening that stands for itself is the line's, where the line begins with the opening
+first_agrees : (words line : List (List ℕ)) → nat_lt 42 (first_byte words) ≡ true → begins_with line words ≡ true → nat_eq (first_byte words) (first_byte line) ≡ true
+first_agrees [] line g h = absurd (false≢true g)
+first_agrees ([] ∷ ws) line g h = absurd (false≢true g)
+first_agrees ((c ∷ cs) ∷ ws) [] g h = absurd (false≢true h)
+first_agrees ((c ∷ cs) ∷ ws) ([] ∷ vs) g h = absurd (false≢true (rw (ne_eqb c 42 (λ e. let lt : 42 < c = ltb-true 42 c g in omega arith)) at h))
+first_agrees ((c ∷ cs) ∷ ws) ((d ∷ ds) ∷ vs) g h = same (bytes_eq cs []) (bytes_eq cs ds) (begins_with vs ws) (ne_eqb c 42 (λ e. let lt : 42 < c = ltb-true 42 c g in omega arith)) h
+  where
+    same : (x y z : Bool) → nat_eq c 42 ≡ false → (((nat_eq c 42 && x) || (nat_eq c d && y)) && z) ≡ true → nat_eq c d ≡ true
+    same x y z star h = (and_parts (nat_eq c d) y (and_parts (nat_eq c d && y) z (rw star at h)).0).0
+
+second_agrees : (words line : List (List ℕ)) → nat_lt 42 (second_byte words) ≡ true → begins_with line words ≡ true → nat_eq (second_byte words) (second_byte line) ≡ true
+second_agrees [] line g h = absurd (false≢true g)
+second_agrees (w ∷ ws) [] g h = absurd (false≢true h)
+second_agrees (w ∷ ws) (v ∷ vs) g h = first_agrees ws vs g (and_parts (stands_for w v) (begins_with vs ws) h).1
+
+-- the group of a line's key has all rows of an index with which the line begins
+in_group : (key : List (List ℕ) → ℕ) → ((words line : List (List ℕ)) → nat_lt 42 (key words) ≡ true → begins_with line words ≡ true → nat_eq (key words) (key line) ≡ true)
+    → (groups : List Group) (rows : List Row) (line : List (List ℕ)) (r : Row) → list_all (is_placed key groups) rows ≡ true → Contains rows r → begins_with line r.words ≡ true → Contains (keyed key (key line) rows) r
+in_group key agrees groups rows line r placed there fits =
+    let own = and_parts (nat_lt 42 (key r.words)) (list_any (λ g. nat_eq g.first (key r.words)) groups) (at_element (is_placed key groups) rows r placed there.0 there.1 there.2) in
+    to_filter (λ x. nat_eq (key x.words) (key line)) rows r (agrees r.words line own.0 fits) there
+
+-- what a line finds in a table
+abbrev pub found : List Row → List (List ℕ) → List Row
+found rows line = keyed first_byte (first_byte line) (one_word rows) ++ starred rows ++ keyed second_byte (second_byte line) (more_words rows)
+
+found_in : (rows : List Row) (line : List (List ℕ)) (r : Row) → Contains (found rows line) r → Contains rows r
+found_in rows line r h =
+    let ones = keyed first_byte (first_byte line) (one_word rows) in
+    let more = keyed second_byte (second_byte line) (more_words rows) in
+    elim (Contains-append_cases (ones ++ starred rows) more r h) [
+      | inl front ↦ elim (Contains-append_cases ones (starred rows) r front) [
+        | inl one ↦ from_filter (λ x. nat_eq (second_byte x.words) 0) rows r (from_filter (λ x. nat_eq (first_byte x.words) (first_byte line)) (one_word rows) r one)
+        | inr star ↦ from_filter (λ x. nat_eq (second_byte x.words) 42) rows r star
+      ]
+      | inr last ↦ from_filter (λ x. nat_lt 42 (second_byte x.words)) rows r (from_filter (λ x. nat_eq (second_byte x.words) (second_byte line)) (more_words rows) r last)
+    ]
+
+found_all : (table : Table) (rows : List Row) (line : List (List ℕ)) (r : Row) → IsTable table rows → Contains rows r → begins_with line r.words ≡ true → Contains (found rows line) r
+found_all table rows line r h there fits =
+    let ones = keyed first_byte (first_byte line) (one_word rows) in
+    let more = keyed second_byte (second_byte line) (more_words rows) in
+    let b = second_byte r.words in
+    elim (or_cases (nat_eq b 0 || nat_eq b 42) (nat_lt 42 b) (at_element is_of_three rows r h.three there.0 there.1 there.2)) [
+      | inl few ↦ elim (or_cases (nat_eq b 0) (nat_eq b 42) few) [
+        | inl none ↦
+            let one = in_group first_byte first_agrees table.one_word.groups.now (one_word rows) line r h.one_word.placed (to_filter (λ x. nat_eq (second_byte x.words) 0) rows r none there) fits in
+            Contains-append_left (ones ++ starred rows) more r (Contains-append_left ones (starred rows) r one)
+        | inr star ↦ Contains-append_left (ones ++ starred rows) more r (Contains-append_right ones (starred rows) r (to_filter (λ x. nat_eq (second_byte x.words) 42) rows r star there))
+      ]
+      | inr own ↦
+          let last = in_group second_byte second_agrees table.more_words.groups.now (more_words rows) line r h.more_words.placed (to_filter (λ x. nat_lt 42 (second_byte x.words)) rows r own there) fits in
+          Contains-append_right (ones ++ starred rows) more r last
+    ]
+
+-- the decisive row of what the line finds is that of all rows
+pub answer_of_found : (table : Table) (rows : List Row) (line : List (List ℕ)) (answer : Option Row) → IsTable table rows → IsAnswer (found rows line) line answer → IsAnswer rows line answer
+answer_of_found table rows line None h none = λ r there. by r there (begins_with line r.words) refl
+  where
+    by : (r : Row) → Contains rows r → (v : Bool) → begins_with line r.words ≡ v → begins_with line r.words ≡ false
+    by r there false e = e
+    by r there true e = none r (found_all table rows line r h there e)
+answer_of_found table rows line (Some best) h was = record {
+  member = found_in rows line best was.member;
+  fits = was.fits;
+  most = λ other there ok. was.most other (found_all table rows line other h there ok) ok;
+}
+
+-- an element that passes, and a test that some element passes
+some_of : (q : Row → Bool) (rows : List Row) → list_any q rows ≡ true → (r : Row) × Contains rows r × (q r ≡ true)
+some_of q [] h = absurd (false≢true h)
+some_of q (x ∷ rows) h = elim (or_cases (q x) (list_any q rows) h) [
+  | inl here ↦ (x, (zero, omega arith, refl), here)
+  | inr there ↦ let p = some_of q rows there in (p.0, behind_first x rows p.0 p.1, p.2)
+]
+
+any_of : (q : Row → Bool) (rows : List Row) (r : Row) → Contains rows r → q r ≡ true → list_any q rows ≡ true
+any_of q rows r (k, lt, here) e = list_any_at q rows k r lt (rw here e)
+
+same_test : (x y : Bool) → (x ≡ true → y ≡ true) → (y ≡ true → x ≡ true) → x ≡ y
+same_test true y f g = sym (f refl)
+same_test false true f g = g refl
+same_test false false f g = refl
+
+-- a form opening that the line finds is one of all rows
+pub form_of_found : (table : Table) (rows : List Row) (line : List (List ℕ)) → IsTable table rows
+    → (begins_form (keyed first_byte (first_byte line) (one_word rows)) line || begins_form (starred rows) line || begins_form (keyed second_byte (second_byte line) (more_words rows)) line) ≡ begins_form rows line
+form_of_found table rows line h =
+    let q = λ (r : Row). is_form_verdict r.verdict && begins_with line r.words in
+    let ones = keyed first_byte (first_byte line) (one_word rows) in
+    let more = keyed second_byte (second_byte line) (more_words rows) in
+    let joined : list_any q (found rows line) ≡ (list_any q ones || list_any q (starred rows) || list_any q more) = rw (list_any-append q (ones ++ starred rows) more, list_any-append q ones (starred rows)) refl in
+    sym joined ∙ same_test (list_any q (found rows line)) (list_any q rows)
+    (λ e. let p = some_of q (found rows line) e in any_of q rows p.0 (found_in rows line p.0 p.1) p.2)
+    (λ e. let p = some_of q rows e in any_of q (found rows line) p.0 (found_all table rows line p.0 h p.1 (and_parts (is_form_verdict p.0.verdict) (begins_with line p.0.words) p.2).1) p.2)
+
+-- the group of a byte is what has this key
+group_is : (key : List (List ℕ) → ℕ) (groups : List Group) (rows : List Row) (b : ℕ) → are_counted key groups rows ≡ true → list_any (λ g. nat_eq g.first b) groups ≡ true → group_at groups (grouped key groups rows) b ≡ keyed key b rows
+group_is key [] rows b counted has = absurd (false≢true has)
+group_is key (g ∷ gs) rows b counted has =
+    let parts = and_parts (nat_eq (length (keyed key g.first rows)) g.count) (are_counted key gs rows) counted in
+    by (group_is key gs rows b parts.1) (nat_eq g.first b) refl (eqb-true _ _ parts.0) has
+  where
+    by : (list_any (λ g. nat_eq g.first b) gs ≡ true → group_at gs (grouped key gs rows) b ≡ keyed key b rows)
+        → (v : Bool) → nat_eq g.first b ≡ v → length (keyed key g.first rows) ≡ g.count → (v || list_any (λ g. nat_eq g.first b) gs) ≡ true
+        → cond v (take g.count (keyed key g.first rows ++ grouped key gs rows)) (group_at gs (drop g.count (keyed key g.first rows ++ grouped key gs rows)) b) ≡ keyed key b rows
+    by later true e count has = rw (← count, take-append_seam (keyed key g.first rows) (grouped key gs rows), eqb-true g.first b e) refl
+    by later false e count has = rw (← count, drop-append_seam (keyed key g.first rows) (grouped key gs rows)) (later has)
+
+group_none : (groups : List Group) (rows : List Row) (b : ℕ) → list_any (λ g. nat_eq g.first b) groups ≡ false → group_at groups rows b ≡ []
+group_none [] rows b no_group = refl
+group_none (g ∷ gs) rows b no_group = by (group_none gs (drop g.count rows) b) (nat_eq g.first b) refl no_group
+  where
+    by : (list_any (λ g. nat_eq g.first b) gs ≡ false → group_at gs (drop g.count rows) b ≡ [])
+        → (v : Bool) → nat_eq g.first b ≡ v → (v || list_any (λ g. nat_eq g.first b) gs) ≡ false → cond v (take g.count rows) (group_at gs (drop g.count rows) b) ≡ []
+    by later true e h = absurd (false≢true (sym h))
+    by later false e h = later h
+
+none_keyed : (key : List (List ℕ) → ℕ) (groups : List Group) (rows : List Row) (b : ℕ) → list_all (is_placed key groups) rows ≡ true → list_any (λ g. nat_eq g.first b) groups ≡ false → keyed key b rows ≡ []
+none_keyed key groups [] b placed no_group = refl
+none_keyed key groups (row ∷ rows) b placed no_group =
+    let parts = and_parts (is_placed key groups row) (list_all (is_placed key groups) rows) placed in
+    by (nat_eq (key row.words) b) refl (and_parts (nat_lt 42 (key row.words)) (list_any (λ g. nat_eq g.first (key row.words)) groups) parts.0).1 (none_keyed key groups rows b parts.1 no_group)
+  where
+    by : (v : Bool) → nat_eq (key row.words) b ≡ v → list_any (λ g. nat_eq g.first (key row.words)) groups ≡ true → keyed key b rows ≡ [] → cond v (row ∷ keyed key b rows) (keyed key b rows) ≡ []
+    by true e has h = absurd (false≢true (sym no_group ∙ rw (eqb-true (key row.words) b e) at has))
+    by false e has h = h
+
+keyed_is : (key : List (List ℕ) → ℕ) (index : Index) (rows : List Row) (b : ℕ) → IsIndex key index rows → group_at index.groups.now (grouped key index.groups.now rows) b ≡ keyed key b rows
+keyed_is key index rows b h = by (list_any (λ g. nat_eq g.first b) index.groups.now) refl
+  where
+    by : (v : Bool) → list_any (λ g. nat_eq g.first b) index.groups.now ≡ v → group_at index.groups.now (grouped key index.groups.now rows) b ≡ keyed key b rows
+    by true e = group_is key index.groups.now rows b h.counted e
+    by false e = group_none index.groups.now (grouped key index.groups.now rows) b e ∙ sym (none_keyed key index.groups.now rows b h.placed e)
+
+group_map : (groups : List Group) (os : List Opening) (b : ℕ) → map row_of (group_at groups os b) ≡ group_at groups (map row_of os) b
+group_map [] os b = refl
+group_map (g ∷ gs) os b = by (nat_eq g.first b) (group_map gs (drop g.count os) b)
+  where
+    by : (v : Bool) → map row_of (group_at gs (drop g.count os) b) ≡ group_at gs (map row_of (drop g.count os)) b
+        → map row_of (cond v (take g.count os) (group_at gs (drop g.count os) b)) ≡ cond v (take g.count (map row_of os)) (group_at gs (drop g.count (map row_of os)) b)
+    by true h = sym (take-map row_of g.count os)
+    by false h = rw (drop-map row_of g.count os) h
+
+pub openings_of_group : (key : List (List ℕ) → ℕ) (index : Index) (rows : List Row) (b : ℕ) → IsIndex key index rows → map row_of (group_at index.groups.now index.openings.now b) ≡ keyed key b rows
+openings_of_group key index rows b h = group_map index.groups.now index.openings.now b ∙ rw h.openings (keyed_is key index rows b h)

@@ -1,0 +1,88 @@
+-- A line that parts from an opening within a word doesn't begin with it.
+use borrow.Author.Tests.{ltb-true}
+use Rattle.std.proofs.Common.{◌≡◌, ℕ, suc, ◌<◌, arith, Bool, true, false, ◌||◌, ◌&&◌, cond, List, [], ◌∷◌, take, drop, refl, sym, ◌∙◌, subst, add-one}
+use Rattle.std.specs.Prelude.{nat_eq, nat_lt, codes}
+use Rattle.std.specs.Str.{bytes_eq}
+use Rattle.std.specs.List.{position_or_len}
+use Rattle.std.proofs.Math.Nat.{add_comm}
+use Rattle.std.proofs.Math.Bool.{and-false}
+use Rattle.std.proofs.lemmas.Bool.{false≢true, eqb-true, ne_eqb, and_parts}
+use Rattle.rc_openings.specs.Words.{words_of, is_blank}
+use Rattle.rc_openings.specs.Opening.{begins_with, stands_for, parts_within_word}
+use Rattle.rc_openings.proofs.WordsLemmas.{words-blank, front_word}
+
+-- a word of one byte, and what stands behind it
+lone_word : (c d : ℕ) (s : List ℕ) → is_blank c ≡ false → is_blank d ≡ true → words_of (c ∷ d ∷ s) ≡ (c ∷ []) ∷ words_of (d ∷ s)
+lone_word c d s h g =
+    let e : position_or_len is_blank (d ∷ s) ≡ 0 = rw g refl in
+    let P : ℕ → Type 0 = λ n. words_of (c ∷ d ∷ s) ≡ (c ∷ take n (d ∷ s)) ∷ words_of (drop n (d ∷ s)) in
+    subst P e (front_word c (d ∷ s) h)
+
+-- one byte more at the front of a word
+joined_word : (c d : ℕ) (s : List ℕ) → is_blank c ≡ false → is_blank d ≡ false
+    → words_of (c ∷ d ∷ s) ≡ (c ∷ d ∷ take (position_or_len is_blank s) s) ∷ words_of (drop (position_or_len is_blank s) s)
+joined_word c d s h g =
+    let e : position_or_len is_blank (d ∷ s) ≡ suc (position_or_len is_blank s) = rw (g, add_comm 1 (position_or_len is_blank s), add-one) refl in
+    let P : ℕ → Type 0 = λ n. words_of (c ∷ d ∷ s) ≡ (c ∷ take n (d ∷ s)) ∷ words_of (drop n (d ∷ s)) in
+    subst P e (front_word c (d ∷ s) h)
+
+-- where words differ, they differ with one byte more at both fronts; and of those no one is `*`
+with_fronts : (star same rest x y : Bool) → ((star || same) && rest) ≡ false → (((x && false) || (y && same)) && rest) ≡ false
+with_fronts true same rest x y h = rw h (and-false ((x && false) || (y && same)))
+with_fronts false true rest x y h = rw h (and-false ((x && false) || (y && true)))
+with_fronts false false rest true true h = refl
+with_fronts false false rest true false h = refl
+with_fronts false false rest false true h = refl
+with_fronts false false rest false false h = refl
+
+-- a byte behind 32 is no blank, and one behind 42 is no star either
+no_blank : (b : ℕ) → nat_lt 32 b ≡ true → is_blank b ≡ false
+no_blank b h = let lt : 32 < b = ltb-true 32 b h in rw (ne_eqb b 32 (λ e. omega arith), ne_eqb b 9 (λ e. omega arith)) refl
+
+no_star : (b : ℕ) → nat_lt 42 b ≡ true → (is_blank b ≡ false) × (nat_eq b 42 ≡ false)
+no_star b h =
+    let lt : 42 < b = ltb-true 42 b h in
+    (rw (ne_eqb b 32 (λ e. omega arith), ne_eqb b 9 (λ e. omega arith)) refl, ne_eqb b 42 (λ e. omega arith))
+
+-- where the texts part later, their bytes at the front are both blanks or both none
+no_blank_other : (c d : ℕ) (o l : List ℕ) → parts_within_word (c ∷ o) (d ∷ l) ≡ true → is_blank d ≡ is_blank c
+no_blank_other c d o l h = by (nat_eq c d) refl h
+  where
+    by : (v : Bool) → nat_eq c d ≡ v → cond v (parts_within_word o l) (nat_lt 42 c && nat_lt 32 d) ≡ true → is_blank d ≡ is_blank c
+    by true e g = rw (eqb-true c d e) refl
+    by false e g = let p = and_parts (nat_lt 42 c) (nat_lt 32 d) g in no_blank d p.1 ∙ sym (no_star c p.0).0
+
+-- one byte more in front of both texts
+with_byte : (a : ℕ) (o l : List ℕ) → parts_within_word o l ≡ true → begins_with (words_of l) (words_of o) ≡ false → begins_with (words_of (a ∷ l)) (words_of (a ∷ o)) ≡ false
+with_byte a o l h was = by (is_blank a) refl
+  where
+    behind : is_blank a ≡ false → (o l : List ℕ) → parts_within_word o l ≡ true → begins_with (words_of l) (words_of o) ≡ false → begins_with (words_of (a ∷ l)) (words_of (a ∷ o)) ≡ false
+    behind e [] l h was = absurd (false≢true h)
+    behind e (c ∷ o) [] h was = absurd (false≢true h)
+    behind e (c ∷ o) (d ∷ l) h was = at (is_blank c) refl
+      where
+        at : (v : Bool) → is_blank c ≡ v → begins_with (words_of (a ∷ d ∷ l)) (words_of (a ∷ c ∷ o)) ≡ false
+        at true g = rw (lone_word a c o e g, lone_word a d l e (no_blank_other c d o l h ∙ g), was) (and-false (stands_for (a ∷ []) (a ∷ [])))
+        at false g =
+            let other : is_blank d ≡ false = no_blank_other c d o l h ∙ g in
+            let word = λ (s : List ℕ). take (position_or_len is_blank s) s in
+            let rest = λ (s : List ℕ). words_of (drop (position_or_len is_blank s) s) in
+            rw (joined_word a c o e g, joined_word a d l e other)
+            (with_fronts (bytes_eq (c ∷ word o) (codes "*")) (bytes_eq (c ∷ word o) (d ∷ word l)) (begins_with (rest l) (rest o)) (nat_eq a 42) (nat_eq a a) (rw (front_word c o g, front_word d l other) at was))
+
+    by : (v : Bool) → is_blank a ≡ v → begins_with (words_of (a ∷ l)) (words_of (a ∷ o)) ≡ false
+    by true e = rw (words-blank a l e, words-blank a o e) was
+    by false e = behind e o l h was
+
+pub cannot_begin : (opening line : List ℕ) → parts_within_word opening line ≡ true → begins_with (words_of line) (words_of opening) ≡ false
+cannot_begin [] line h = absurd (false≢true h)
+cannot_begin (a ∷ o) [] h = absurd (false≢true h)
+cannot_begin (a ∷ o) (b ∷ l) h = by (cannot_begin o l) (nat_eq a b) refl h
+  where
+    first_differ : nat_eq a b ≡ false → (nat_lt 42 a ≡ true) × (nat_lt 32 b ≡ true) → begins_with (words_of (b ∷ l)) (words_of (a ∷ o)) ≡ false
+    first_differ e g = let star = no_star a g.0 in rw (front_word a o star.0, front_word b l (no_blank b g.1), star.1, e) refl
+
+    by : (parts_within_word o l ≡ true → begins_with (words_of l) (words_of o) ≡ false)
+        → (v : Bool) → nat_eq a b ≡ v → cond v (parts_within_word o l) (nat_lt 42 a && nat_lt 32 b) ≡ true → begins_with (words_of (b ∷ l)) (words_of (a ∷ o)) ≡ false
+    by later true e g = rw (← (eqb-true a b e)) (with_byte a o l g (later g))
+    by later false e g = first_differ e (and_parts (nat_lt 42 a) (nat_lt 32 b) g)

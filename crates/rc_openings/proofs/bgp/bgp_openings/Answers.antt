@@ -1,8 +1,0 @@
-use Rattle.std.proofs.Common.{refl}
-use Rattle.rc_openings.specs.Words.{words_of}
-use Rattle.rc_openings.specs.BgpOpenings.{bgp, bgp_forms, bgp_refused, bgp_ignored}
-use Rattle.rc_openings.proofs.bgp.bgp_openings.Goals as goal
-
-pub returns : goal.returns
-unfolding bgp bgp_forms bgp_refused bgp_ignored words_of
-returns c = refl

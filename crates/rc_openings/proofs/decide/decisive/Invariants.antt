@@ -1,9 +1,0 @@
-use Rattle.std.proofs.Common.{map, take}
-use Rattle.std.specs.Option.{option_map}
-use Rattle.rc_openings.specs.Words.{words_left}
-use Rattle.rc_openings.specs.Opening.{IsAnswer}
-use Rattle.rc_openings.specs.Opening.{row_of}
-use Rattle.rc_openings.proofs.decide.decisive.Given as goal
-
-abbrev pub invariant-loop-opening : goal.invariant-loop-opening
-invariant-loop-opening l = IsAnswer (map row_of (take l.opening-index l.openings)) (words_left l.line) (option_map row_of l.best)

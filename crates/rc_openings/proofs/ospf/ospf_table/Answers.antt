@@ -1,0 +1,13 @@
+use Rattle.std.proofs.Common.{refl}
+use Rattle.rc_openings.specs.Words.{words_of}
+use Rattle.rc_openings.specs.OspfOpenings.{ospf, ospf_forms, ospf_refused, ospf_ignored}
+use Rattle.rc_openings.proofs.ospf.ospf_table.Goals as goal
+
+pub returns : goal.returns
+unfolding ospf ospf_forms ospf_refused ospf_ignored words_of
+returns c = record {
+  one_word = record { openings = refl; counted = refl; placed = refl };
+  starred = refl;
+  more_words = record { openings = refl; counted = refl; placed = refl };
+  three = refl;
+}

@@ -1,8 +1,0 @@
-use Rattle.std.proofs.Common.{refl}
-use Rattle.rc_openings.specs.Words.{words_of}
-use Rattle.rc_openings.specs.RouteMapOpenings.{route_map, route_map_forms, route_map_refused, route_map_ignored}
-use Rattle.rc_openings.proofs.route_map.route_map_openings.Goals as goal
-
-pub returns : goal.returns
-unfolding route_map route_map_forms route_map_refused route_map_ignored words_of
-returns c = refl

@@ -1,0 +1,13 @@
+use Rattle.std.proofs.Common.{refl}
+use Rattle.rc_openings.specs.Words.{words_of}
+use Rattle.rc_openings.specs.RouteMapOpenings.{route_map, route_map_forms, route_map_refused, route_map_ignored}
+use Rattle.rc_openings.proofs.route_map.route_map_table.Goals as goal
+
+pub returns : goal.returns
+unfolding route_map route_map_forms route_map_refused route_map_ignored words_of
+returns c = record {
+  one_word = record { openings = refl; counted = refl; placed = refl };
+  starred = refl;
+  more_words = record { openings = refl; counted = refl; placed = refl };
+  three = refl;
+}

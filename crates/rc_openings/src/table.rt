@@ -1,0 +1,88 @@
+//! The openings of a block, by how a line finds those that it may begin with.
+//!
+//! An opening of one word stands with those of its first byte, and one of more words with those of the first byte of its
+//! second word: a line is held against two such groups, so that most openings are never looked at.
+ghost use Rattle.std.specs.Prelude.{◌≡◌, ◌||◌, ℕ, List, map};
+ghost use Rattle.std.specs.Option.{option_map};
+ghost use Rattle.rc_openings.specs.Words.{words_left};
+ghost use Rattle.rc_openings.specs.Opening.{IsAnswer, Row, begins_form as begins_form_of, row_of};
+ghost use Rattle.rc_openings.specs.Groups.{IsIndex, IsTable, group_at, keyed};
+
+use crate::decide::{begins_form, decisive, decisive_from};
+use crate::{Opening, Words};
+
+/// How many openings of an index have this byte.
+#[derive(Clone, Copy)]
+pub(crate) struct Group {
+    pub first: u8,
+    pub count: usize,
+}
+
+/// Openings in groups, one for each byte by which they are found. The groups are in the order of these bytes.
+#[derive(Clone, Copy)]
+pub(crate) struct Index {
+    pub openings: &'static [Opening],
+    pub groups: &'static [Group],
+}
+
+/// The openings of a block.
+#[derive(Clone, Copy)]
+pub(crate) struct Table {
+    /// Those of one word, by its first byte.
+    pub one_word: Index,
+    /// Those of more words, by the first byte of the second one.
+    pub more_words: Index,
+    /// Those whose second word is `*`.
+    pub starred: &'static [Opening],
+}
+
+/// The openings of the group of a byte, where the groups stand one behind the other.
+fn openings_at(openings: &'static [Opening], groups: &[Group], first: u8) -> &'static [Opening]
+    ensures { result.now ≡ group_at groups.now openings.now first }
+{
+    let mut rest = openings;
+    for group in groups {
+        let (openings_here, behind) = rest.split_at(group.count.min(rest.len()));
+        if group.first == first {
+            return openings_here;
+        }
+        rest = behind;
+    }
+    &[]
+}
+
+fn is_one_of_three(first: bool, second: bool, third: bool) -> bool
+    ensures { result ≡ (first || second || third) }
+{
+    first || second || third
+}
+
+impl Index {
+    /// The openings that are found by this byte.
+    fn at(self, byte: u8) -> &'static [Opening]
+        ensures { (key : List (List ℕ) → ℕ) (rows : List Row) → IsIndex key self rows → map row_of result.now ≡ keyed key byte rows }
+    {
+        openings_at(self.openings, self.groups, byte)
+    }
+}
+
+impl Table {
+    /// The opening that decides the line, or `None` exactly where it begins with none of them.
+    pub(crate) fn decide(self, line: Words) -> Option<Opening>
+        ensures { (rows : List Row) → IsTable self rows → IsAnswer rows (words_left line.entry) (option_map row_of result) }
+    {
+        let one_word = decisive(self.one_word.at(line.first_byte()), line);
+        let starred = decisive_from(one_word, self.starred, line);
+        decisive_from(starred, self.more_words.at(line.second_byte()), line)
+    }
+
+    /// Whether the line begins with one of the openings that begin a form.
+    pub(crate) fn begins_form(self, line: Words) -> bool
+        ensures { (rows : List Row) → IsTable self rows → result ≡ begins_form_of rows (words_left line.entry) }
+    {
+        let one_word = begins_form(self.one_word.at(line.first_byte()), line);
+        let starred = begins_form(self.starred, line);
+        let more_words = begins_form(self.more_words.at(line.second_byte()), line);
+        is_one_of_three(one_word, starred, more_words)
+    }
+}

@@ -1,0 +1,19 @@
+-- The parts of a line, as text.
+use Rattle.std.specs.Prelude.{ℕ, List, decimal}
+use Rattle.rc_base.specs.Addr.{dotted}
+use Rattle.rc_base.specs.Prefix.{prefix_text}
+use Rattle.rc_report.specs.declared.part.Part.{Part}
+use Rattle.rc_report.specs.declared.part.Part.TheVariants as part
+use Rattle.rc_report.specs.declared.part.Piece.{Piece}
+use Rattle.rc_report.specs.declared.part.Piece.TheVariants as piece
+
+-- a number is decimal, an address dotted, a prefix an address, a slash and a length
+abbrev pub part_text : Part → List ℕ
+part_text (part.Text text) = text.now
+part_text (part.Number n) = decimal n
+part_text (part.Address a) = dotted a
+part_text (part.Prefix p) = prefix_text p
+
+abbrev pub piece_text : Piece → List ℕ
+piece_text (piece.Text text) = text.now
+piece_text (piece.Number n) = decimal n

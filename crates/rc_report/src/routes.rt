@@ -1,0 +1,254 @@
+//! The routes of a router, as lines.
+ghost use Rattle.std.specs.Prelude.{◌≡◌, ◌≤◌, ◌++◌, codes, flat_map, OnOk, OnErr};
+ghost use Rattle.rc_outside.specs.Causes.{Rose};
+ghost use Rattle.rc_outside.specs.Sink.{appended, AppendsFront};
+ghost use Rattle.rc_report.specs.InHand.{HasPut};
+ghost use Rattle.rc_report.specs.Parts.{part_text};
+ghost use Rattle.rc_report.specs.RouteText.{hop_text, interface_name, route_head, route_line, router_line, router_name, routes_text, source_text};
+
+use crate::{Buffer, Part, SinkFault, end_line, put_line, put_parts};
+use rc_base::{Addr, IfId, RouterId};
+use rc_config::Network;
+use rc_outside::Sink;
+use rc_route::{Hop, Route, Source, Table};
+
+/// The host name of a router, empty where the network has none of this place.
+fn router_name(net: &Network, router: RouterId) -> &[u8]
+    ensures { result.now ≡ router_name net.now router }
+{
+    let found = net.routers.at(router.index());
+    match found {
+        Some((name, _)) => name.as_bytes(),
+        None => &[],
+    }
+}
+
+/// The name of an interface, empty where the network has none of this place.
+fn interface_name(net: &Network, interface: IfId) -> &[u8]
+    ensures { result.now ≡ interface_name net.now interface }
+{
+    let found = net.interface_at(interface);
+    match found {
+        Some((name, _)) => name.as_bytes(),
+        None => &[],
+    }
+}
+
+fn source_text(source: Source) -> &'static [u8]
+    ensures { result.now ≡ source_text source }
+{
+    match source {
+        Source::Connected => b"connected",
+        Source::Static => b"static",
+        Source::Ebgp => b"ebgp",
+        Source::Ibgp => b"ibgp",
+        Source::Ospf => b"ospf",
+        Source::OspfIa => b"ospf-ia",
+        Source::OspfE1 => b"ospf-e1",
+        Source::OspfE2 => b"ospf-e2",
+    }
+}
+
+/// A hop by a gateway. What it doesn't have is an empty text.
+#[tactic(auto, unfolding(crate::specs::RouteText::hop_text))]
+fn via_parts<'a>(net: &'a Network, gateway: Addr, interface: Option<IfId>) -> [Part<'a>; 4]
+    ensures { flat_map part_text result ≡ hop_text net.now (Hop.Via gateway interface) }
+{
+    match interface {
+        None => [
+            Part::Text(b" via "),
+            Part::Address(gateway),
+            Part::Text(b""),
+            Part::Text(b""),
+        ],
+        Some(interface) => [
+            Part::Text(b" via "),
+            Part::Address(gateway),
+            Part::Text(b" dev "),
+            Part::Text(interface_name(net, interface)),
+        ],
+    }
+}
+
+/// A hop. What it doesn't have is an empty text.
+#[tactic(auto, unfolding(crate::specs::RouteText::hop_text))]
+fn hop_parts<'a>(net: &'a Network, hop: &Hop) -> [Part<'a>; 4]
+    ensures { flat_map part_text result ≡ hop_text net.now hop.now }
+{
+    match hop {
+        Hop::Null => [
+            Part::Text(b" null"),
+            Part::Text(b""),
+            Part::Text(b""),
+            Part::Text(b""),
+        ],
+        Hop::Dev(interface) => [
+            Part::Text(b" dev "),
+            Part::Text(interface_name(net, *interface)),
+            Part::Text(b""),
+            Part::Text(b""),
+        ],
+        Hop::Via(gateway, interface) => via_parts(net, *gateway, *interface),
+    }
+}
+
+/// What stands before the hops of a route.
+#[tactic(auto, unfolding(crate::specs::RouteText::route_head))]
+fn head_parts(route: &Route) -> [Part<'static>; 7]
+    ensures { flat_map part_text result ≡ route_head route.now }
+{
+    [
+        Part::Prefix(route.prefix),
+        Part::Text(b" "),
+        Part::Text(source_text(route.source)),
+        Part::Text(b" "),
+        Part::Number(u64::from(route.distance)),
+        Part::Text(b"/"),
+        Part::Number(u64::from(route.metric)),
+    ]
+}
+
+fn put_hops<S: Sink>(
+    out: &mut S,
+    line: &mut Buffer,
+    net: &Network,
+    hops: &[Hop],
+) -> Result<(), SinkFault>
+    ensures ok { OnOk result (HasPut (S.told out.old) (S.told out.new) (line.old ++ flat_map (hop_text net.now) hops.now) line.new) }
+    ensures err { OnErr result (AppendsFront (S.told out.old) (S.told out.new) (line.old ++ flat_map (hop_text net.now) hops.now)) }
+    ensures left { OnOk result (S.faults out.new ≡ S.faults out.old) }
+    ensures later { S.faults out.old ≤ S.faults out.new }
+    ensures cause { OnErr result (Rose (S.faults out.old) (S.faults out.new)) }
+{
+    for hop in hops {
+        let parts = hop_parts(net, hop);
+        match put_parts(out, line, &parts) {
+            Ok(()) => {}
+            Err(fault) => return Err(fault),
+        }
+    }
+    Ok(())
+}
+
+/// A route up to its last hop.
+fn put_open_route<S: Sink>(
+    out: &mut S,
+    line: &mut Buffer,
+    net: &Network,
+    route: &Route,
+) -> Result<(), SinkFault>
+    ensures ok { OnOk result (HasPut (S.told out.old) (S.told out.new) (line.old ++ (route_head route.now ++ flat_map (hop_text net.now) route.now.hops)) line.new) }
+    ensures err { OnErr result (AppendsFront (S.told out.old) (S.told out.new) (line.old ++ (route_head route.now ++ flat_map (hop_text net.now) route.now.hops))) }
+    ensures left { OnOk result (S.faults out.new ≡ S.faults out.old) }
+    ensures later { S.faults out.old ≤ S.faults out.new }
+    ensures cause { OnErr result (Rose (S.faults out.old) (S.faults out.new)) }
+{
+    let parts = head_parts(route);
+    match put_parts(out, line, &parts) {
+        Ok(()) => put_hops(out, line, net, route.hops.as_slice()),
+        Err(fault) => Err(fault),
+    }
+}
+
+/// Ends a line by a line feed.
+fn close_line<S: Sink>(out: &mut S, line: &mut Buffer) -> Result<(), SinkFault>
+    ensures ok { OnOk result (S.told out.new ≡ appended (S.told out.old) (line.old ++ codes "\n")) }
+    ensures err { OnErr result (AppendsFront (S.told out.old) (S.told out.new) (line.old ++ codes "\n")) }
+    ensures left { OnOk result (S.faults out.new ≡ S.faults out.old) }
+    ensures later { S.faults out.old ≤ S.faults out.new }
+    ensures cause { OnErr result (Rose (S.faults out.old) (S.faults out.new)) }
+{
+    match put_parts(out, line, &[Part::Text(b"\n")]) {
+        Ok(()) => end_line(out, line),
+        Err(fault) => Err(fault),
+    }
+}
+
+fn put_route<S: Sink>(
+    out: &mut S,
+    line: &mut Buffer,
+    net: &Network,
+    route: &Route,
+) -> Result<(), SinkFault>
+    ensures ok { OnOk result (S.told out.new ≡ appended (S.told out.old) (route_line net.now route.now)) }
+    ensures err { OnErr result (AppendsFront (S.told out.old) (S.told out.new) (route_line net.now route.now)) }
+    ensures left { OnOk result (S.faults out.new ≡ S.faults out.old) }
+    ensures later { S.faults out.old ≤ S.faults out.new }
+    ensures cause { OnErr result (Rose (S.faults out.old) (S.faults out.new)) }
+{
+    line.clear();
+    match put_open_route(out, line, net, route) {
+        Ok(()) => close_line(out, line),
+        Err(fault) => Err(fault),
+    }
+}
+
+fn put_table<S: Sink>(
+    out: &mut S,
+    line: &mut Buffer,
+    net: &Network,
+    routes: &[Route],
+) -> Result<(), SinkFault>
+    ensures ok { OnOk result (S.told out.new ≡ appended (S.told out.old) (flat_map (route_line net.now) routes.now)) }
+    ensures err { OnErr result (AppendsFront (S.told out.old) (S.told out.new) (flat_map (route_line net.now) routes.now)) }
+    ensures left { OnOk result (S.faults out.new ≡ S.faults out.old) }
+    ensures later { S.faults out.old ≤ S.faults out.new }
+    ensures cause { OnErr result (Rose (S.faults out.old) (S.faults out.new)) }
+{
+    for route in routes {
+        match put_route(out, line, net, route) {
+            Ok(()) => {}
+            Err(fault) => return Err(fault),
+        }
+    }
+    Ok(())
+}
+
+fn put_router<S: Sink>(
+    out: &mut S,
+    line: &mut Buffer,
+    net: &Network,
+    router: RouterId,
+) -> Result<(), SinkFault>
+    ensures ok { OnOk result (S.told out.new ≡ appended (S.told out.old) (router_line (router_name net.now router))) }
+    ensures err { OnErr result (AppendsFront (S.told out.old) (S.told out.new) (router_line (router_name net.now router))) }
+    ensures left { OnOk result (S.faults out.new ≡ S.faults out.old) }
+    ensures later { S.faults out.old ≤ S.faults out.new }
+    ensures cause { OnErr result (Rose (S.faults out.old) (S.faults out.new)) }
+{
+    let parts = router_parts(net, router);
+    put_line(out, line, &parts)
+}
+
+/// What stands in the line of a router.
+#[tactic(auto, unfolding(crate::specs::RouteText::router_line))]
+fn router_parts<'a>(net: &'a Network, router: RouterId) -> [Part<'a>; 3]
+    ensures { flat_map part_text result ≡ router_line (router_name net.now router) }
+{
+    [
+        Part::Text(b"router "),
+        Part::Text(router_name(net, router)),
+        Part::Text(b"\n"),
+    ]
+}
+
+/// Puts the line of a router and those of its routes. What is in hand of an earlier line, which failed, is dropped. A
+/// router or an interface that the network doesn't have has the empty name.
+pub fn put_routes<S: Sink>(
+    out: &mut S,
+    line: &mut Buffer,
+    net: &Network,
+    router: RouterId,
+    table: &Table,
+) -> Result<(), SinkFault>
+    ensures ok { OnOk result (S.told out.new ≡ appended (S.told out.old) (routes_text net.now router table.now)) }
+    ensures err { OnErr result (AppendsFront (S.told out.old) (S.told out.new) (routes_text net.now router table.now)) }
+    ensures left { OnOk result (S.faults out.new ≡ S.faults out.old) }
+    ensures later { S.faults out.old ≤ S.faults out.new }
+    ensures cause { OnErr result (Rose (S.faults out.old) (S.faults out.new)) }
+{
+    match put_router(out, line, net, router) {
+        Ok(()) => put_table(out, line, net, table.as_slice()),
+        Err(fault) => Err(fault),
+    }
+}

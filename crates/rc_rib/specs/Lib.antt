@@ -1,0 +1,4 @@
+pub mod Connected
+pub mod ByPrefix
+pub mod Next
+pub mod Rows

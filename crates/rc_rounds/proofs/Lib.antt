@@ -1,0 +1,4 @@
+mod ShareLaws
+pub mod CheckpointLaws
+mod RoundLaws
+pub mod OutcomeLaws

@@ -1,0 +1,45 @@
+-- Rounds of tables: in each of them all routers read the state of the round before alone.
+use Rattle.std.specs.Prelude.{◌≡◌, ◌≢◌, ℕ, zero, suc, ◌+◌, ◌-◌, ◌^◌, ◌≤◌, ◌<◌, List, [], map, nat_lt, if◌then◌else◌}
+use Rattle.rc_config.specs.declared.network.Network.{Network}
+use Rattle.rc_config.specs.Members.{router_ids}
+use Rattle.rc_route.specs.declared.state.RouterState.{RouterState}
+use Rattle.rc_rib.specs.Next.{next_state}
+use Rattle.rc_rounds.specs.declared.outcome.Outcome.{Outcome}
+use Rattle.rc_rounds.specs.declared.outcome.Outcome.TheVariants.{Fixed, Repeats, Limit}
+
+-- the state in which no router knows anything
+abbrev pub empty_state : Network → List RouterState
+empty_state net = map (λ _. record { table = []; paths = [] }) (router_ids net)
+
+-- the state after k rounds
+abbrev pub state_after : Network → ℕ → List RouterState
+state_after net zero = empty_state net
+state_after net (suc k) = next_state net (state_after net k)
+
+-- the greatest of the first n powers of two that is below k, and 0 where there is none
+abbrev pub power_below : ℕ → ℕ → ℕ
+power_below zero k = 0
+power_below (suc n) k = if nat_lt (2 ^ n) k then 2 ^ n else power_below n k
+
+-- the checkpoint of round k: the greatest power of two below k, and 0 for the first round
+abbrev pub checkpoint : ℕ → ℕ
+checkpoint k = power_below k k
+
+-- the state after round k is neither that of the round before nor that of its checkpoint
+pub record GoesOn (net : Network) (k : ℕ) : Type 0 where
+  pub changes : state_after net k ≢ state_after net (k - 1)
+  pub is_new : state_after net k ≢ state_after net (checkpoint k)
+
+abbrev pub GoesOnBelow : Network → ℕ → Type 0
+GoesOnBelow net k = (j : ℕ) → 1 ≤ j → j < k → GoesOn net j
+
+-- The rounds end at the least k from 1 to the limit at which the state is that of the round before, or else that of the
+-- checkpoint; without such a k they reach the limit.
+abbrev pub IsOutcome : Network → ℕ → Outcome → Type 0
+IsOutcome net limit (Fixed k state) = (1 ≤ k) × (k ≤ limit) × GoesOnBelow net k × (state ≡ state_after net k) × (state_after net k ≡ state_after net (k - 1))
+IsOutcome net limit (Repeats i k) = (1 ≤ k) × (k ≤ limit) × GoesOnBelow net k × (i ≡ checkpoint k) × (state_after net k ≢ state_after net (k - 1)) × (state_after net k ≡ state_after net i)
+IsOutcome net limit (Limit n) = (n ≡ limit) × GoesOnBelow net (limit + 1)
+
+-- a network has one outcome within a limit
+abbrev pub HasOneOutcome : Type 0
+HasOneOutcome = (net : Network) (limit : ℕ) (this that : Outcome) → IsOutcome net limit this → IsOutcome net limit that → this ≡ that

@@ -1,0 +1,15 @@
+//! Rounds of tables, until they change no more, come again, or reach a limit.
+//!
+//! It stands on the next table of one router and on the gate of rc_outside. The layer above knows the outcome as a relation
+//! on the states after all rounds, of which there is one, whatever the number of workers.
+#![tactic(auto)]
+
+mod outcome;
+mod round;
+mod rounds;
+
+pub use outcome::Outcome;
+pub use rounds::{one_outcome, run_rounds};
+
+#[cfg(test)]
+mod tests;

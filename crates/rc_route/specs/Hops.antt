@@ -1,0 +1,30 @@
+-- The order of the hops of a route, and of sources.
+use Rattle.std.specs.Prelude.{ℕ, List, [], ◌∷◌, Some, None}
+use Rattle.std.specs.Ordering.{nat_cmp}
+use Rattle.std.specs.declared.cmp.Ordering.{Ordering}
+use Rattle.std.specs.Cmp.Lexicographic.{slice_cmp}
+use Rattle.rc_route.specs.declared.route.Hop.{Hop}
+use Rattle.rc_route.specs.declared.route.Hop.TheVariants.{Null, Dev, Via}
+use Rattle.rc_route.specs.declared.route.Source.{Source}
+use Rattle.rc_route.specs.declared.route.Source.TheVariants.{Connected, Static, Ebgp, Ospf, OspfIa, OspfE1, OspfE2, Ibgp}
+
+-- null, then hops without a gateway, then by gateway; at one gateway no interface first, then interfaces as declared
+abbrev pub hop_key : Hop → List ℕ
+hop_key Null = 0 ∷ []
+hop_key (Dev i) = 1 ∷ i.router ∷ i.index ∷ []
+hop_key (Via g None) = 2 ∷ g ∷ []
+hop_key (Via g (Some i)) = 2 ∷ g ∷ i.router ∷ i.index ∷ []
+
+abbrev pub hop_cmp : Hop → Hop → Ordering
+hop_cmp x y = slice_cmp nat_cmp (hop_key x) (hop_key y)
+
+-- which source is preferred at one distance, the least first: connected, static, ebgp, the four of OSPF, ibgp
+abbrev pub source_rank : Source → ℕ
+source_rank Connected = 0
+source_rank Static = 1
+source_rank Ebgp = 2
+source_rank Ospf = 3
+source_rank OspfIa = 4
+source_rank OspfE1 = 5
+source_rank OspfE2 = 6
+source_rank Ibgp = 7

@@ -1,0 +1,55 @@
+//! What the routers know after a round.
+ghost use Rattle.std.specs.Prelude.{◌≡◌, ◌↔◌, IsTrue, IfOk};
+
+use crate::{BgpPath, Table};
+use rc_base::Items;
+use std::alloc::{AllocError, Global};
+
+/// What one router knows: its table, and its best BGP paths, one for each prefix, by address, then length.
+#[derive(Debug, Drop, PartialEq, Eq)]
+pub struct RouterState {
+    pub table: Table,
+    pub paths: Items<BgpPath>,
+}
+
+/// A state: what each router of a network knows, in the network's order.
+pub type State = Items<RouterState>;
+
+/// Whether two states are equal, in all that they hold.
+#[tactic(auto, using(crate::proofs::EqualLaws::state_decides))]
+pub fn equal(a: &State, b: &State) -> bool
+    ensures { IsTrue result ↔ (a.now ≡ b.now) }
+{
+    a == b
+}
+
+/// What a router knows, again, in memory of its own: routes with their hops, and paths with their lists.
+pub fn copy(alloc: Global, state: &RouterState) -> Result<RouterState, AllocError>
+    ensures { IfOk result (λ copied. copied ≡ state.now) }
+{
+    let table = copy_table(alloc, &state.table)?;
+    let paths = copy_paths(alloc, &state.paths)?;
+    Ok(RouterState { table, paths })
+}
+
+/// A table again.
+fn copy_table(alloc: Global, table: &Table) -> Result<Table, AllocError>
+    ensures { IfOk result (λ copied. copied ≡ table.now) }
+{
+    let mut routes = Vec::with_capacity(alloc, table.len())?;
+    for route in table.as_slice() {
+        routes.push(route.copy(alloc)?)?;
+    }
+    Ok(Items::from_vec(routes))
+}
+
+/// A list of paths again.
+fn copy_paths(alloc: Global, list: &Items<BgpPath>) -> Result<Items<BgpPath>, AllocError>
+    ensures { IfOk result (λ copied. copied ≡ list.now) }
+{
+    let mut paths = Vec::with_capacity(alloc, list.len())?;
+    for path in list.as_slice() {
+        paths.push(path.copy(alloc)?)?;
+    }
+    Ok(Items::from_vec(paths))
+}

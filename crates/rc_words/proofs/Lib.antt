@@ -1,0 +1,10 @@
+mod Numbers
+mod PlainWalk
+mod KeptValues
+mod Leaf
+mod Defaults
+mod Matched
+mod FirstWord
+mod RequestLaws
+mod RoutesTaken
+mod PlainRequest

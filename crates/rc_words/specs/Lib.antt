@@ -1,0 +1,5 @@
+pub mod App
+pub mod Request
+pub mod Plain
+pub mod Laws
+pub mod Rows

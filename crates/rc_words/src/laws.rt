@@ -1,0 +1,22 @@
+//! Laws of the request that words make.
+ghost use Rattle.rc_words.specs.Laws.{RefusesAsClap, BeginsWithCommand, KeepsRanges, TakesPlainWords};
+
+/// Words make no request exactly where clap finds a fault in them.
+pub fn refused_as_by_clap()
+    ensures { RefusesAsClap }
+{}
+
+/// Words that make a request begin with the name of a command.
+pub fn first_word_is_a_command()
+    ensures { BeginsWithCommand }
+{}
+
+/// Every number of a request is in its option's range.
+pub fn numbers_are_in_range()
+    ensures { KeepsRanges }
+{}
+
+/// Plain words make the request that they say: each option that is given has its number, and each other its default.
+pub fn plain_words_are_taken()
+    ensures { TakesPlainWords }
+{}

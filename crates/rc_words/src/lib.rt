@@ -1,0 +1,19 @@
+//! The words of the command line: what is asked for, read by the kit's crate `clap`.
+//!
+//! It stands on no crate of this repository. The layer above may know that words are usage exactly where clap refuses
+//! the public command `netcheck_app`, and else the request of its matches, with every number in its option's range;
+//! and that plain words, which `plain_words` writes, are taken with their values and else the defaults.
+#![tactic(auto)]
+
+mod app;
+mod laws;
+mod reading;
+mod request;
+#[cfg(test)]
+mod tests;
+
+pub use laws::{
+    first_word_is_a_command, numbers_are_in_range, plain_words_are_taken, refused_as_by_clap,
+};
+pub use reading::request_of_words;
+pub use request::{Ask, FolderText, Limits, Request, WordsFault};
