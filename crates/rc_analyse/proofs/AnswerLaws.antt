@@ -1,8 +1,10 @@
--- Without a fault the answer is complete.
-use Rattle.std.proofs.Common.{◌≡◌, inl, inr, ℕ, List, Option, Some, None, IfSome}
+-- Without a fault the answer is complete, and plain words are taken.
+use Rattle.std.proofs.Common.{ap, ◌∙◌, ◌≡◌, inl, inr, ℕ, List, Option, Some, None, IfSome}
 use Rattle.rc_outside.specs.Folder.{File}
+use Rattle.rc_words.specs.Laws.{TakesPlainWords}
+use Rattle.rc_words.specs.Request.{request_of}
 use Rattle.rc_words.specs.declared.request.Limits.{Limits}
-use Rattle.rc_analyse.specs.Answer.{IsAnswer, IsComplete, IsCompleteWithout}
+use Rattle.rc_analyse.specs.Answer.{IsAnswer, IsComplete, IsCompleteWithout, IsTakenWhenPlain}
 use Rattle.rc_analyse.specs.declared.status.Status.{Status}
 use Rattle.rc_analyse.specs.declared.status.Status.TheVariants.{Source, Sink}
 
@@ -18,3 +20,6 @@ pub complete_where_told : (told : Option (List File)) (dir : List ℕ) (limits :
     → IfSome told (λ files. IsCompleteWithout SourceRose SinkRose dir files limits answer old new)
 complete_where_told None dir limits answer old new is source sink = tt
 complete_where_told (Some files) dir limits answer old new is source sink = record { whole = λ read written. complete dir files limits answer old new is (λ e. read (source e)) (λ e. written (sink e)) }
+
+pub taken_when_plain : TakesPlainWords → (words : List (List ℕ)) → IsTakenWhenPlain words
+taken_when_plain law words = record { taken = λ dir uses plain is. ap request_of is ∙ law dir uses plain }

@@ -4,3 +4,4 @@ mod ReadLaws
 mod Puts
 mod RouteLaws
 mod AnswerLaws
+mod OneAnswer

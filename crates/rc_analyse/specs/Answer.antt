@@ -1,10 +1,12 @@
 -- What is answered to words and files: a status and a text.
-use Rattle.std.specs.Prelude.{◌≡◌, ◌⊎◌, ℕ, List, Option, Ok, Err}
+use Rattle.std.specs.Prelude.{◌≡◌, ◌⊎◌, ℕ, List, Option, Some, Ok, Err}
 use Rattle.rc_outside.specs.Folder.{File}
 use Rattle.rc_outside.specs.Sink.{appended, AppendsFront}
 use Rattle.rc_rounds.specs.Rounds.{IsOutcome}
 use Rattle.rc_rounds.specs.declared.outcome.Outcome.{Outcome}
 use Rattle.rc_rounds.specs.declared.outcome.Outcome.TheVariants as ended
+use Rattle.rc_words.specs.Plain.{Use, ArePlain, plain_words, plain_request}
+use Rattle.rc_words.specs.Request.{request_of}
 use Rattle.rc_words.specs.declared.request.Ask.TheVariants.{Routes}
 use Rattle.rc_words.specs.declared.request.Limits.{Limits}
 use Rattle.rc_words.specs.declared.request.Request.{Request}
@@ -18,6 +20,10 @@ use Rattle.rc_analyse.specs.declared.status.Status.TheVariants.{Done, Refused, R
 -- the folder that is asked about
 abbrev pub dir_of : Request → List ℕ
 dir_of r = elim r.ask [ Routes dir ↦ dir ]
+
+-- where the words are plain (`routes DIR` and options with their numbers), they ask for what they say, and for the defaults
+pub record IsTakenWhenPlain (words : List (List ℕ)) : Type 0 where
+  pub taken : (dir : List ℕ) (uses : List Use) → ArePlain dir uses → words ≡ plain_words dir uses → request_of words ≡ Some (plain_request dir uses)
 
 -- The files of a folder give a refusal of their network, or the network and its outcome within the limit of rounds. The
 -- number of workers is no part of it.
@@ -59,3 +65,7 @@ IsComplete dir files limits answer old new = (answer ≡ Memory) ⊎ ((f : Findi
 -- without a fault of the folder or the sink
 pub record IsCompleteWithout (source sink : Type 0) (dir : List ℕ) (files : List File) (limits : Limits) (answer : Status) (old new : Option (List ℕ)) : Type 0 where
   pub whole : ¬ source → ¬ sink → IsComplete dir files limits answer old new
+
+-- the files of a folder give one thing within limits, so their answer is one
+abbrev pub HasOneAnswer : Type 0
+HasOneAnswer = (dir : List ℕ) (files : List File) (limits : Limits) (this that : Findings) → AreFindings dir files limits this → AreFindings dir files limits that → this ≡ that

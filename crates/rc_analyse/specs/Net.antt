@@ -79,3 +79,7 @@ pub record IsNet (dir : List ℕ) (files : List File) (net : Result Network NetR
   pub names : List (List ℕ)
   pub in_order : AreNamesInOrder dir files names
   pub is : IsNetOfConfigs (bytes_in dir files) (filter is_config names) net
+
+-- the files of a folder have one network, or one first refusal
+abbrev pub HasOneNet : Type 0
+HasOneNet = (dir : List ℕ) (files : List File) (this that : Result Network NetRefusal) → IsNet dir files this → IsNet dir files that → this ≡ that

@@ -3,7 +3,7 @@ ghost use Rattle.std.specs.Prelude.{◌≡◌, Ok, Err, IsTrue, IfOk, IfSome};
 ghost use Rattle.rc_config.specs.Lawful.{IsLawful};
 ghost use Rattle.rc_outside.specs.Causes.{HasCause};
 ghost use Rattle.rc_words.specs.Request.{AreInRange};
-ghost use Rattle.rc_analyse.specs.Answer.{AreFindings};
+ghost use Rattle.rc_analyse.specs.Answer.{AreFindings, HasOneAnswer};
 
 use crate::loading::read_network;
 use rc_config::Network;
@@ -49,3 +49,9 @@ pub(crate) fn analyse_folder<R: Threads + Sync + AllocGlobal, F: Folder, G: Gate
         Err(_) => Err(SourceError::Memory),
     }
 }
+
+/// The files of a folder give one thing within limits: one refusal, or one network with one outcome. So the answer to
+/// them is one, in whatever order the folder lists them and by whatever number of workers.
+pub fn one_answer()
+    ensures { HasOneAnswer }
+{}

@@ -12,9 +12,12 @@ mod runs;
 mod status;
 mod writing;
 
-pub use findings::Findings;
+pub use findings::{Findings, one_answer};
 pub use listing::one_listing;
-pub use rc_words::{Ask, FolderText, Limits, Request, WordsFault, request_of_words};
+pub use rc_words::{
+    Ask, FolderText, Limits, Request, WordsFault, first_word_is_a_command, numbers_are_in_range,
+    plain_words_are_taken, refused_as_by_clap, request_of_words,
+};
 pub use runs::run;
 pub use status::Status;
 

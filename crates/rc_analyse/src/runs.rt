@@ -3,14 +3,23 @@ ghost use Rattle.std.specs.Prelude.{◌≡◌, ◌<◌, map, IsTrue, IsNone, IfS
 ghost use Rattle.rc_outside.specs.Causes.{Rose};
 ghost use Rattle.rc_words.specs.Request.{request_of};
 ghost use Rattle.rc_analyse.specs.Texts.{usage_text};
-ghost use Rattle.rc_analyse.specs.Answer.{dir_of, IsPut, IsAnswer, IsSilent, IsCompleteWithout};
+ghost use Rattle.rc_analyse.specs.Answer.{dir_of, IsPut, IsAnswer, IsSilent, IsCompleteWithout, IsTakenWhenPlain};
 
 use crate::Status;
 use crate::answering::{answer_folder, answer_usage};
 use rc_outside::{Folder, Gate, Sink};
-use rc_words::{Ask, WordsFault, request_of_words};
+use rc_words::{Ask, WordsFault, plain_words_are_taken, request_of_words};
 use std::alloc::AllocGlobal;
 use std::thread::Threads;
+
+/// The law on plain words, for these words.
+#[tactic(auto, using(crate::proofs::AnswerLaws::taken_when_plain))]
+fn take_plain_words(words: &[&str])
+    ensures { IsTakenWhenPlain (map (λ w. w.now) words.now) }
+{
+    let _ = words;
+    plain_words_are_taken();
+}
 
 /// Answers words over the files of a folder.
 ///
@@ -28,6 +37,9 @@ pub fn run<R: Threads + Sync + AllocGlobal, F: Folder, S: Sink, G: Gate>(
     ensures usage { IfNone (request_of (map (λ w. w.now) words.now)) (IsPut Status.Usage usage_text result (S.told out.old) (S.told out.new)) }
     ensures usage_only { result ≡ Status.Usage → IsNone (request_of (map (λ w. w.now) words.now)) }
 
+    // Plain words are taken, with the values that they say and else the defaults.
+    ensures plain { IsTakenWhenPlain (map (λ w. w.now) words.now) }
+
     // Where the files are told, the text and the status are those of the first refusal, or of the rounds' outcome.
     ensures answer { IfSome (request_of (map (λ w. w.now) words.now)) (λ r. IfSome (F.told folder.old) (λ files. IsAnswer (dir_of r) files r.limits result (S.told out.old) (S.told out.new))) }
 
@@ -43,6 +55,7 @@ pub fn run<R: Threads + Sync + AllocGlobal, F: Folder, S: Sink, G: Gate>(
     ensures sink_only { result ≡ Status.Sink → Rose (S.faults out.old) (S.faults out.new) }
     ensures sink_always { S.faults out.old < S.faults out.new → result ≡ Status.Sink }
 {
+    take_plain_words(words);
     let request = match request_of_words(rt.alloc(), words) {
         Ok(request) => request,
         Err(WordsFault::Usage) => return answer_usage(rt.alloc(), out),

@@ -45,6 +45,10 @@ pub record IsNetworkOf (models : List Model) (net : Network) : Type 0 where
   pub same : IsPermutation (map under_host models) net.routers
   pub in_order : AreNamesInOrder net.routers
 
+-- models have one network
+abbrev pub HasOneNetwork : Type 0
+HasOneNetwork = (models : List Model) (this that : Network) → IsNetworkOf models this → IsNetworkOf models that → this ≡ that
+
 -- what a call gave is the network of the models, or the refusal of the first host name that is there already; unless memory ran out
 abbrev pub IsBuilt : List Model → Result Network BuildError → Type 0
 IsBuilt models (Ok net) = (twice models ≡ None) × IsNetworkOf models net

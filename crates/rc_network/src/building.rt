@@ -1,7 +1,7 @@
 //! Models under their host names.
 ghost use Rattle.std.specs.Prelude.{◌≡◌, ◌≤◌, ◌++◌, ◌∷◌, [], All, IfOk, IsSome, Some, length, map};
 ghost use Rattle.rc_config.specs.Lawful.{IsLawful, IsLawfulFile};
-ghost use Rattle.rc_network.specs.Build.{IsBuilt};
+ghost use Rattle.rc_network.specs.Build.{IsBuilt, HasOneNetwork};
 ghost use Rattle.rc_network.specs.Step.{Adds, GathersAll};
 
 use crate::{BuildError, NetCause, NetRefusal};
@@ -79,3 +79,8 @@ pub fn build(alloc: Global, models: Vec<(FileName, RouterText)>) -> Result<Netwo
         Err(_) => Err(BuildError::Memory),
     }
 }
+
+/// The models of files have one network.
+pub fn one_network()
+    ensures { HasOneNetwork }
+{}

@@ -8,5 +8,5 @@
 mod building;
 mod refusal;
 
-pub use building::build;
+pub use building::{build, one_network};
 pub use refusal::{BuildError, NetCause, NetRefusal};
