@@ -3,7 +3,7 @@
 -- A banner begins with a line without indent whose first word is `banner` and which has at least three words. The
 -- delimiter is `^C` where the third word begins with these two bytes, else the third word's first byte. The banner ends
 -- with the first place after it, on that line or a later one, that holds the delimiter again.
-use Rattle.std.specs.Prelude.{ℕ, ◌==◌, Bool, true, false, ◌&&◌, ◌||◌, if◌then◌else◌, List, [], ◌∷◌, length, take_while, codes, Option, Some, None}
+use Rattle.std.specs.Prelude.{◌≡◌, ◌≤◌, ℕ, ◌==◌, Bool, true, false, ◌&&◌, ◌||◌, if◌then◌else◌, List, [], ◌∷◌, length, take_while, codes, Option, Some, None}
 use Rattle.std.specs.List.{list_any}
 use Rattle.std.specs.Str.{bytes_eq}
 use Rattle.rc_openings.specs.Words.{is_blank, words_of}
@@ -50,6 +50,14 @@ opened_at (b ∷ c ∷ cs) = if (b == 94) && (c == 67) then Some (record { delim
 -- the delimiter of a banner line and what stands behind it, where the line has three words
 abbrev pub opened : List ℕ → Option Opened
 opened text = opened_at (third_word_on text)
+
+-- a banner line has no delimiter exactly where it has fewer than three words
+pub record IsShortWithTwoWords (text : List ℕ) : Type 0 where
+  pub short : opened text ≡ None → length (words_of text) ≤ 2
+  pub few : length (words_of text) ≤ 2 → opened text ≡ None
+
+abbrev pub ShortBannersHaveTwoWords : Type 0
+ShortBannersHaveTwoWords = (text : List ℕ) → IsShortWithTwoWords text
 
 -- a text begins with the delimiter; the delimiter stands somewhere in the text
 abbrev pub begins : Delimiter → List ℕ → Bool

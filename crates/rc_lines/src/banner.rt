@@ -1,4 +1,5 @@
 //! Banners.
+ghost use Rattle.rc_lines.specs.Banners as spec;
 ghost use Rattle.std.specs.Prelude.{◌≡◌, ◌==◌, ◌<◌, List, ℕ, [], length, Some, None};
 ghost use Rattle.std.specs.List.{list_any};
 ghost use Rattle.std.specs.Option.{option_map};
@@ -231,3 +232,8 @@ pub(crate) fn delimiter_after(open_banner: Option<Delimiter>, text: &[u8]) -> Op
         }
     }
 }
+
+/// A banner line is short, with no delimiter, exactly where it has fewer than three words.
+pub fn short_banners()
+    ensures { spec.ShortBannersHaveTwoWords }
+{}
