@@ -224,6 +224,87 @@ fn connected_routes(rt: HostRuntime) -> Result<(), Fail> {
     Ok(())
 }
 
+/// The words that bound the rounds at a number.
+fn check_rounds<R: Threads + Sync + AllocGlobal + Abort>(
+    rt: &R,
+    text: &str,
+    rounds: &str,
+    status: Status,
+    answer: &str,
+) -> Result<(), AllocError> {
+    let words = &["routes", "d", "--rounds", rounds];
+    let (found, out) = answered(rt, words, &[("a.cfg", text)], Vec::new(rt.alloc()))?;
+    assert_eq!(rt; found, status, "{text}");
+    assert_eq!(rt; out.bytes.as_slice(), answer.as_bytes());
+    Ok(())
+}
+
+/// Two routes of which each resolves through the other, once the third has brought the first of them.
+const CIRCLE: &str =
+    "hostname R1\ninterface GigabitEthernet0/0\n ip address 10.0.0.1 255.255.255.0\nip route 2.2.2.0 255.255.255.0 10.0.0.2\nip route 1.1.1.0 255.255.255.0 2.2.2.2\nip route 2.2.2.2 255.255.255.255 1.1.1.1\n";
+
+#[test]
+fn tables_that_repeat(rt: HostRuntime) -> Result<(), Fail> {
+    let repeats = "outcome repeats 4 7\n";
+    check_rounds(&rt, CIRCLE, "1000", Status::Repeats, repeats)?;
+    check_rounds(&rt, CIRCLE, "7", Status::Repeats, repeats)?;
+    check_rounds(&rt, CIRCLE, "6", Status::Limit, "outcome limit 6\n")?;
+    Ok(())
+}
+
+#[test]
+fn static_routes(rt: HostRuntime) -> Result<(), Fail> {
+    check_done(
+        &rt,
+        "hostname R1\ninterface Serial0\n ip address 10.0.0.1 255.255.255.0\nip route 0.0.0.0 0.0.0.0 10.0.0.2\nip route 172.16.0.0 255.240.0.0 Null0 200\nip route 192.168.7.9 255.255.255.0 Serial0 10.0.0.3 name branch\nip route 192.168.8.0 255.255.255.0 Serial0 tag 7\n",
+        "outcome fixed 3\nrouter R1\n0.0.0.0/0 static 1/0 via 10.0.0.2\n10.0.0.0/24 connected 0/0 dev Serial0\n172.16.0.0/12 static 200/0 null\n192.168.7.0/24 static 1/0 via 10.0.0.3 dev Serial0\n192.168.8.0/24 static 1/0 dev Serial0\n",
+    )?;
+    check_done(
+        &rt,
+        "hostname R1\ninterface Serial0\n ip address 10.0.0.1 255.255.255.0\n shutdown\nip route 1.0.0.0 255.0.0.0 Serial0\nip route 2.0.0.0 255.0.0.0 Serial1\nip route 3.0.0.0 255.0.0.0 10.0.0.2\nip route 4.0.0.0 255.0.0.0 Null0 255\n",
+        NOT_CONNECTED,
+    )?;
+    check_done(
+        &rt,
+        "hostname R1\ninterface Serial0\n ip address 10.0.0.1 255.255.255.0\nip route 9.0.0.0 255.0.0.0 10.0.0.3 5\nip route 9.0.0.0 255.0.0.0 10.0.0.2 5\nip route 9.0.0.0 255.0.0.0 Null0 5\nip route 9.0.0.0 255.0.0.0 10.0.0.2 5\nip route 9.0.0.0 255.0.0.0 10.0.0.9 6\nip route 10.0.0.0 255.255.255.0 Null0\n",
+        "outcome fixed 3\nrouter R1\n9.0.0.0/8 static 5/0 null via 10.0.0.2 via 10.0.0.3\n10.0.0.0/24 connected 0/0 dev Serial0\n",
+    )?;
+    Ok(())
+}
+
+/// A chain of so many routes, of which each has the next hop that the one before it holds.
+fn chain(alloc: Global, length: u32) -> Result<String, AllocError> {
+    let mut text = String::from_str(
+        alloc,
+        "hostname R1\ninterface Serial0\n ip address 10.0.0.1 255.255.255.0\nip route 20.0.0.0 255.255.255.255 10.0.0.2\n",
+    )?;
+    for number in 1..length {
+        let before = number - 1;
+        let line = format!(in alloc; "ip route 20.0.0.{number} 255.255.255.255 20.0.0.{before}\n")?;
+        text.push_str(line.as_str())?;
+    }
+    Ok(text)
+}
+
+/// How many lines an answer to a chain has.
+fn lines_of_chain<R: Threads + Sync + AllocGlobal>(
+    rt: &R,
+    length: u32,
+) -> Result<usize, AllocError> {
+    let text = chain(rt.alloc(), length)?;
+    let files = &[("a.cfg", text.as_str())];
+    let (_, out) = answered(rt, &["routes", "d"], files, Vec::new(rt.alloc()))?;
+    Ok(out.bytes.iter().filter(|byte| **byte == b'\n').count())
+}
+
+#[test]
+fn chains_of_next_hops(rt: HostRuntime) -> Result<(), Fail> {
+    assert_eq!(rt; lines_of_chain(&rt, 15)?, 18);
+    assert_eq!(rt; lines_of_chain(&rt, 16)?, 19);
+    assert_eq!(rt; lines_of_chain(&rt, 17)?, 19);
+    Ok(())
+}
+
 #[test]
 fn the_least_line_is_refused(rt: HostRuntime) -> Result<(), Fail> {
     check_refused(&rt, "", "refused a.cfg:0: 6\n")?;

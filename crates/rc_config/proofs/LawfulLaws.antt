@@ -7,13 +7,14 @@ use Rattle.std.proofs.lemmas.List.Elements.{All-nil, All-cons, All-head, All-tai
 use Rattle.std.specs.Cmp.Lexicographic.{bytes_decides}
 use Rattle.rc_base.specs.Name.{same_name}
 use Rattle.rc_config.specs.declared.command.Command.{Command}
-use Rattle.rc_config.specs.declared.command.Command.TheVariants.{Passed, Hostname, Interface, Address, Shutdown, Bandwidth}
+use Rattle.rc_config.specs.declared.command.Command.TheVariants.{Passed, Hostname, Interface, Address, Shutdown, Bandwidth, StaticRoute}
 use Rattle.rc_config.specs.declared.interface.IfAddr.{IfAddr}
 use Rattle.rc_config.specs.declared.interface.Interface.{Interface as Block}
 use Rattle.rc_config.specs.declared.router_text.RouterText.{RouterText}
+use Rattle.rc_config.specs.declared.static_route.StaticRoute.{StaticRoute as Route}
 use Rattle.rc_config.specs.IfType.{type_of}
 use Rattle.rc_config.specs.Interface.{fresh, with_address}
-use Rattle.rc_config.specs.Lawful.{IsLawfulInterface, HasLawfulInterfaces, IsInRange}
+use Rattle.rc_config.specs.Lawful.{IsLawfulInterface, HasLawfulInterfaces, HasLawfulRoutes, IsDistance, IsInRange}
 use Rattle.rc_config.specs.MaskedAddr.{IsMaskLen}
 use Rattle.rc_config.specs.Named.{named, with_value}
 use Rattle.rc_config.specs.Update.{after, interface_named}
@@ -76,9 +77,25 @@ after-lawful r (Shutdown name down) h k =
 after-lawful r (Bandwidth name kbits) h k =
     let was = block-lawful r name h in
     All-with_value IsLawfulInterface r.interfaces name _ h (record { has_type = was.has_type; masks = was.masks; bandwidth = k })
+after-lawful r (StaticRoute route) h k = h
+
+-- and its static routes
+after-routes : (r : RouterText) (c : Command) → HasLawfulRoutes r → IsInRange c → HasLawfulRoutes (after r c)
+after-routes r Passed h k = h
+after-routes r (Hostname name line) h k = h
+after-routes r (Interface name line) h k = h
+after-routes r (Address name a secondary) h k = h
+after-routes r (Shutdown name down) h k = h
+after-routes r (Bandwidth name kbits) h k = h
+after-routes r (StaticRoute route) h k = All-push (λ (s : Route). IsDistance s.distance) r.static_routes route h k
 
 -- what a call gives that makes just this model, or runs out of memory
 pub put-lawful : (result : Result RouterText AllocError) (r : RouterText) (c : Command) → IfOk result (λ n. n ≡ after r c)
     → IfOk result (λ n. HasLawfulInterfaces r → IsInRange c → HasLawfulInterfaces n)
 put-lawful (Ok n) r c e = λ h k. subst HasLawfulInterfaces (sym e) (after-lawful r c h k)
 put-lawful (Err x) r c e = e
+
+pub put-routes : (result : Result RouterText AllocError) (r : RouterText) (c : Command) → IfOk result (λ n. n ≡ after r c)
+    → IfOk result (λ n. HasLawfulRoutes r → IsInRange c → HasLawfulRoutes n)
+put-routes (Ok n) r c e = λ h k. subst HasLawfulRoutes (sym e) (after-routes r c h k)
+put-routes (Err x) r c e = e

@@ -11,11 +11,12 @@ use Rattle.rc_base.specs.declared.place.IfId.{IfId}
 use Rattle.rc_base.specs.declared.place.Pos.{Pos}
 use Rattle.rc_base.specs.declared.place.Pos.TheVariants.{Own, Entering}
 use Rattle.rc_config.specs.declared.command.Command.{Command}
-use Rattle.rc_config.specs.declared.command.Command.TheVariants.{Passed, Hostname, Interface, Address, Shutdown, Bandwidth}
+use Rattle.rc_config.specs.declared.command.Command.TheVariants.{Passed, Hostname, Interface, Address, Shutdown, Bandwidth, StaticRoute}
 use Rattle.rc_config.specs.declared.interface.IfAddr.{IfAddr}
 use Rattle.rc_config.specs.declared.interface.Interface.{Interface as Block}
 use Rattle.rc_config.specs.declared.network.Network.{Network}
 use Rattle.rc_config.specs.declared.router_text.RouterText.{RouterText}
+use Rattle.rc_config.specs.declared.static_route.StaticRoute.{StaticRoute as Route}
 use Rattle.rc_config.specs.IfType.{type_of}
 use Rattle.rc_config.specs.Interface.{declared_addresses}
 use Rattle.rc_config.specs.MaskedAddr.{IsMaskLen}
@@ -35,13 +36,22 @@ pub record IsLawfulInterface (name : List ℕ) (i : Block) : Type 0 where
 abbrev pub HasLawfulInterfaces : RouterText → Type 0
 HasLawfulInterfaces r = All (λ e. IsLawfulInterface e.0 e.1) r.interfaces
 
--- a file's model with a host name and at most 256 interfaces, each lawful
+-- an administrative distance of a static route
+abbrev pub IsDistance : ℕ → Type 0
+IsDistance distance = (1 ≤ distance) × (distance ≤ 255)
+
+-- each static route has a distance from 1 to 255
+abbrev pub HasLawfulRoutes : RouterText → Type 0
+HasLawfulRoutes r = All (λ (s : Route). IsDistance s.distance) r.static_routes
+
+-- a file's model with a host name, at most 256 interfaces, each lawful, and static routes with distances from 1 to 255
 pub record IsLawfulFile (r : RouterText) : Type 0 where
   pub has_host : IsSome r.host
   pub few : length r.interfaces ≤ 256
   pub interfaces : HasLawfulInterfaces r
+  pub static_routes : HasLawfulRoutes r
 
--- a command that keeps interfaces lawful: an address goes to an interface of a named type, and values are in range
+-- a command that keeps interfaces and static routes lawful: an address goes to an interface of a named type, and values are in range
 abbrev pub IsInRange : Command → Type 0
 IsInRange Passed = Unit {0}
 IsInRange (Hostname name line) = Unit {0}
@@ -49,6 +59,7 @@ IsInRange (Interface name line) = Unit {0}
 IsInRange (Address name a secondary) = IsSome (type_of name) × IsMaskLen a.len
 IsInRange (Shutdown name down) = Unit {0}
 IsInRange (Bandwidth name kbits) = IsBandwidth kbits
+IsInRange (StaticRoute route) = IsDistance route.distance
 
 -- the model of a router stands under its own host name
 abbrev pub IsNamed : List ℕ → RouterText → Type 0

@@ -1,11 +1,15 @@
 -- Worked cases of the definitions, each by computation.
 use Rattle.std.specs.Prelude.{◌≡◌, ℕ, ◌+◌, ◌*◌, true, false, List, [], ◌∷◌, fold, Some, None, codes, refl}
 use Rattle.rc_config.specs.declared.command.Command.{Command}
-use Rattle.rc_config.specs.declared.command.Command.TheVariants.{Passed, Hostname, Interface, Address, Shutdown, Bandwidth}
+use Rattle.rc_config.specs.declared.command.Command.TheVariants.{Passed, Hostname, Interface, Address, Shutdown, Bandwidth, StaticRoute}
 use Rattle.rc_config.specs.declared.if_type.IfType.TheVariants as types
 use Rattle.rc_config.specs.declared.interface.Interface.{Interface as Block}
 use Rattle.rc_config.specs.declared.network.Network.{Network}
 use Rattle.rc_config.specs.declared.router_text.RouterText.{RouterText}
+use Rattle.rc_config.specs.declared.static_route.StaticRoute.{StaticRoute as Route}
+use Rattle.rc_config.specs.declared.static_route.Target.{Target}
+use Rattle.rc_config.specs.declared.static_route.Target.TheVariants as target
+use Rattle.rc_base.specs.Prefix.{prefix_at}
 use Rattle.rc_config.specs.IfType.{type_of}
 use Rattle.rc_config.specs.Interface.{fresh, declared_addresses}
 use Rattle.rc_config.specs.MaskedAddr.{MaskedAddr}
@@ -55,8 +59,25 @@ pub opened_again : (file (Interface first 2 ∷ Shutdown first true ∷ Interfac
 opened_again = refl
 
 -- a host name comes with its line, and a line that says nothing here changes nothing
-pub host_line : file (Passed ∷ Hostname (codes "r1") 2 ∷ Passed ∷ []) ≡ record { host = Some (record { name = codes "r1"; line = 2 }); interfaces = [] }
+pub host_line : file (Passed ∷ Hostname (codes "r1") 2 ∷ Passed ∷ []) ≡ record { host = Some (record { name = codes "r1"; line = 2 }); interfaces = []; static_routes = [] }
 host_line = refl
+
+-- a static route to 10.0.0.0/8
+abbrev route : Target → ℕ → Route
+route to distance = record { prefix = prefix_at (10 * 16777216) 8; target = to; distance = distance }
+
+-- static routes stand as written: a second one to a prefix, also the same one twice, is one more and replaces nothing
+pub routes_as_written : (file (StaticRoute (route (target.Dev second) 250) ∷ StaticRoute (route target.Null 1) ∷ StaticRoute (route (target.Dev second) 250) ∷ [])).static_routes
+    ≡ route (target.Dev second) 250 ∷ route target.Null 1 ∷ route (target.Dev second) 250 ∷ []
+routes_as_written = refl
+
+-- a static route declares no interface, and leaves those that there are
+pub no_interface_declared : (file (Interface first 2 ∷ Shutdown first true ∷ StaticRoute (route (target.ViaDev 7 second) 1) ∷ [])).interfaces ≡ (first, record fresh { shutdown = true }) ∷ []
+no_interface_declared = refl
+
+-- and no other command takes a static route away
+pub routes_left : (file (StaticRoute (route (target.Via 7) 1) ∷ Hostname (codes "r1") 2 ∷ Interface first 3 ∷ Address first (host 1) false ∷ Shutdown first true ∷ Bandwidth first 64 ∷ Passed ∷ [])).static_routes ≡ route (target.Via 7) 1 ∷ []
+routes_left = refl
 
 -- the front of a name is its type, in just these letters, and a subinterface has its parent's
 pub front_is_type : type_of (codes "GigabitEthernet0/1") ≡ Some types.GigabitEthernet

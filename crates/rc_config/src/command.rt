@@ -1,5 +1,5 @@
 //! What one line of a configuration says.
-use crate::IfAddr;
+use crate::{IfAddr, StaticRoute};
 use rc_base::Name;
 
 /// What one line of a configuration says: a form with its values, and the interface in whose block it stands.
@@ -32,5 +32,9 @@ pub enum Command {
     Bandwidth {
         interface: Name,
         kbits: u32,
+    },
+    /// `ip route A M TARGET ..`
+    StaticRoute {
+        route: StaticRoute,
     },
 }

@@ -1,4 +1,4 @@
-//! The model that the lines of a configuration make: a file's host name and interfaces, and the network of all files.
+//! The model that the lines of a configuration make: a file's host name, interfaces and static routes, and the network of all files.
 //!
 //! It stands on the names and addresses of rc_base, and on the map of indexmap. The layer above knows a file's model as
 //! what `after` makes of its commands one by one, a map as its list of names and values in the order of first mention,
@@ -13,6 +13,7 @@ mod interface;
 mod named;
 mod network;
 mod router_text;
+mod static_route;
 #[cfg(test)]
 mod tests;
 
@@ -23,3 +24,4 @@ pub use interface::{IfAddr, Interface};
 pub use named::Named;
 pub use network::Network;
 pub use router_text::{HostLine, RouterText};
+pub use static_route::{StaticRoute, Target};

@@ -1,11 +1,11 @@
 //! The model of a file.
 ghost use Rattle.std.specs.Prelude.{◌≡◌, IfOk, OnOk};
-ghost use Rattle.rc_config.specs.Lawful.{HasLawfulInterfaces, IsInRange};
+ghost use Rattle.rc_config.specs.Lawful.{HasLawfulInterfaces, HasLawfulRoutes, IsInRange};
 ghost use Rattle.rc_config.specs.Interface.{fresh};
-ghost use Rattle.rc_config.specs.Update.{after, empty, interface_named as interface_of, with_interface as with_block};
+ghost use Rattle.rc_config.specs.Update.{after, empty, interface_named as interface_of, with_interface as with_block, with_static_route as with_route};
 
-use crate::{Command, Interface, Named};
-use rc_base::Name;
+use crate::{Command, Interface, Named, StaticRoute, Target};
+use rc_base::{Items, Name};
 use std::alloc::{AllocError, Global};
 
 /// A host name, and the number of the line that gives it.
@@ -22,6 +22,8 @@ pub struct RouterText {
     pub host: Option<HostLine>,
     /// The interfaces in the order of declaration.
     pub interfaces: Named<Interface>,
+    /// The static routes in file order, all of them: several to one prefix, and one that is written twice.
+    pub static_routes: Items<StaticRoute>,
 }
 
 impl RouterText {
@@ -29,19 +31,22 @@ impl RouterText {
     pub fn new(alloc: Global) -> RouterText
         ensures value { result ≡ empty }
         ensures lawful { HasLawfulInterfaces result }
+        ensures routes { HasLawfulRoutes result }
     {
         RouterText {
             host: None,
             interfaces: Named::new(alloc),
+            static_routes: Items::new(alloc),
         }
     }
 
     /// The model after one more command: a later line of a block counts in place of an earlier one, a secondary address is
-    /// one more, and a known interface keeps its place. Where all interfaces are lawful and the command's values are in
-    /// range, all interfaces are lawful again.
+    /// one more, a known interface keeps its place, and a static route goes behind the others. Where all interfaces are
+    /// lawful and the command's values are in range, all interfaces are lawful again, and so it is with static routes.
     pub fn put(self, command: Command) -> Result<RouterText, AllocError>
         ensures value { IfOk result (λ r. r ≡ after self command) }
         ensures lawful { IfOk result (λ r. HasLawfulInterfaces self → IsInRange command → HasLawfulInterfaces r) }
+        ensures routes { IfOk result (λ r. HasLawfulRoutes self → IsInRange command → HasLawfulRoutes r) }
     {
         self.put_command(command)
     }
@@ -80,6 +85,7 @@ impl RouterText {
                 block.bandwidth = Some(kbits);
                 self.with_interface(interface, block)
             }
+            Command::StaticRoute { route } => self.with_static_route(route),
         }
     }
 
@@ -100,6 +106,15 @@ impl RouterText {
         ensures { IfOk result (λ r. r ≡ with_block self name block) }
     {
         self.interfaces.insert(name, block)?;
+        Ok(self)
+    }
+    /// The model with this static route behind the others.
+    fn with_static_route(mut self, route: StaticRoute) -> Result<RouterText, AllocError>
+        ensures { IfOk result (λ r. r ≡ with_route self route) }
+    {
+        // The generated proof of a push wants each enum within the element named in the function.
+        let _target: Target = Target::Null;
+        self.static_routes.push(route)?;
         Ok(self)
     }
 }

@@ -1,8 +1,11 @@
 //! Files put together command by command, with ample memory, and a network's look-ups.
 
-use crate::{Command, IfAddr, IfType, Named, Network, RouterText, type_of_name};
-use rc_base::{Addr, IfId, Name, RouterId};
+use crate::{
+    Command, IfAddr, IfType, Named, Network, RouterText, StaticRoute, Target, type_of_name,
+};
+use rc_base::{Addr, IfId, Name, Prefix, RouterId};
 use std::alloc::{AllocError, Global};
+use std::test::Fail;
 
 /// The model with two blocks more, a primary and a secondary address in the first.
 fn with_blocks(
@@ -165,4 +168,30 @@ fn reads_types_and_masks(rt: HostRuntime) {
         IfAddr::new(addr, 8).map(|a| a.prefix().network().bits()),
         Some(167_772_160)
     );
+}
+
+#[test]
+fn puts_static_routes(rt: HostRuntime) -> Result<(), Fail> {
+    let prefix = Prefix::new(Addr::new(167_837_696), 16).ok_or("10.1.0.0/16")?;
+    let serial = Name::new(b"Serial1").ok_or("Serial1")?;
+    let mut text = RouterText::new(rt.alloc());
+    for (target, distance) in [
+        (Target::Dev(serial), 250),
+        (Target::Null, 1),
+        (Target::Dev(serial), 250),
+    ] {
+        let route = StaticRoute {
+            prefix,
+            target,
+            distance,
+        };
+        text = text.put(Command::StaticRoute { route })?;
+    }
+    assert!(rt; text.interfaces.is_empty());
+    let routes = text.static_routes.as_slice();
+    assert_eq!(rt; routes.len(), 3);
+    assert_eq!(rt; routes.get(0).map(|r| r.target), Some(Target::Dev(serial)));
+    assert_eq!(rt; routes.get(1).map(|r| r.target), Some(Target::Null));
+    assert_eq!(rt; routes.get(2).map(|r| r.distance), Some(250));
+    Ok(())
 }

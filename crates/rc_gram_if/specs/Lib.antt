@@ -1,2 +1,4 @@
+pub mod RouteOptions
 pub mod Rows
 pub mod Reading
+pub mod RouteExamples

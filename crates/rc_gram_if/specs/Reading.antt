@@ -1,5 +1,5 @@
 -- What a line says where it stands.
-use Rattle.std.specs.Prelude.{ℕ, Bool, true, false, List, [], Err, drop}
+use Rattle.std.specs.Prelude.{ℕ, true, false, List, [], Err, drop}
 use Rattle.rc_openings.specs.Reading.{FormRows, SaysBy, said_by}
 use Rattle.rc_openings.specs.declared.form.Form.{Form}
 use Rattle.rc_openings.specs.declared.form.Form.TheVariants as form
@@ -20,11 +20,13 @@ row_answer form.IpAddress (place.Interface owner) file number line = rows.ip_add
 row_answer form.Shutdown (place.Interface owner) file number line = rows.shutdown owner true (drop 1 line)
 row_answer form.NoShutdown (place.Interface owner) file number line = rows.shutdown owner false (drop 2 line)
 row_answer form.Bandwidth (place.Interface owner) file number line = rows.bandwidth owner (drop 1 line)
+row_answer form.StaticRoute at file number line = rows.static_route (drop 2 line)
 row_answer _ at file number line = Err BadValue
 
--- no form of this grammar has refused words yet
+-- the words that make a line of a form one that isn't modelled, where it fits no row
 abbrev pub refused_words : Form → List (List ℕ)
-refused_words f = []
+refused_words form.StaticRoute = rows.refused_in_route
+refused_words _ = []
 
 -- the rows at a place
 abbrev pub rows_at : Place → RouterText → ℕ → FormRows Command

@@ -1,16 +1,20 @@
 -- The rows of each form: what a line of it says, by its words behind the opening. A line that fits no row is BadValue.
-use Rattle.std.specs.Prelude.{ℕ, Bool, true, false, ◌&&◌, ◌||◌, ◌==◌, nat_lt, List, [], ◌∷◌, Option, Some, None, Result, Ok, Err, if◌then◌else◌, is_some, is_none, codes}
-use Rattle.std.specs.List.{list_all}
+use Rattle.std.specs.Prelude.{ℕ, Bool, true, false, ◌&&◌, ◌||◌, ◌==◌, nat_lt, List, [], ◌∷◌, Option, Some, None, Result, Ok, Err, if◌then◌else◌, is_some, is_none, not, codes}
+use Rattle.std.specs.List.{list_all, list_any}
 use Rattle.std.specs.Str.{bytes_eq}
 use Rattle.std.specs.Char.{is_ascii_alphabetic, is_ascii_alphanumeric}
 use Rattle.rc_base.specs.Name.{is_name}
+use Rattle.rc_base.specs.Prefix.{Cidr}
 use Rattle.rc_config.specs.IfType.{type_of}
 use Rattle.rc_config.specs.declared.command.Command.{Command}
 use Rattle.rc_config.specs.declared.command.Command.TheVariants as command
 use Rattle.rc_config.specs.declared.router_text.RouterText.{RouterText}
-use Rattle.rc_openings.specs.Values.{number_within, address_of, mask_length_of}
+use Rattle.rc_config.specs.declared.static_route.Target.{Target}
+use Rattle.rc_config.specs.declared.static_route.Target.TheVariants as target
+use Rattle.rc_openings.specs.Values.{number_within, address_of, mask_length_of, prefix_from}
 use Rattle.rc_openings.specs.declared.reading.LineRefusal.{LineRefusal}
 use Rattle.rc_openings.specs.declared.reading.LineRefusal.TheVariants.{Unsupported, BadValue}
+use Rattle.rc_gram_if.specs.RouteOptions.{distance_of}
 
 abbrev pub Answer : Type 0
 Answer = Result Command LineRefusal
@@ -64,3 +68,48 @@ kbits_in owner None = Err BadValue
 abbrev pub bandwidth : List ℕ → List (List ℕ) → Answer
 bandwidth owner (n ∷ []) = kbits_in owner (number_within 1 10000000 n)
 bandwidth owner _ = Err BadValue
+
+-- a line `ip route` that fits no row and has one of these words isn't modelled
+abbrev pub refused_in_route : List (List ℕ)
+refused_in_route = codes "track" ∷ codes "permanent" ∷ codes "global" ∷ codes "multicast" ∷ codes "dhcp" ∷ []
+
+-- such a word, and `Null0`, is no target that is an interface
+abbrev pub is_reserved : List ℕ → Bool
+is_reserved word = bytes_eq word (codes "Null0") || list_any (bytes_eq word) refused_in_route
+
+abbrev pub is_device : List ℕ → Bool
+is_device word = is_interface_name word && not (is_reserved word)
+
+abbrev pub device_of : List ℕ → Option (List ℕ)
+device_of word = if is_device word then Some word else None
+
+abbrev pub route_with : Option Cidr → Target → Option ℕ → Answer
+route_with (Some prefix) to (Some distance) = Ok (command.StaticRoute (record { prefix = prefix; target = to; distance = distance }))
+route_with _ to _ = Err BadValue
+
+-- a target, and the options behind it
+abbrev pub route_to : Option Cidr → Target → List (List ℕ) → Answer
+route_to prefix to rest = route_with prefix to (distance_of rest)
+
+abbrev pub route_via : Option Cidr → Option ℕ → List (List ℕ) → Answer
+route_via prefix (Some gateway) rest = route_to prefix (target.Via gateway) rest
+route_via prefix None rest = Err BadValue
+
+-- a target that is an interface: the word behind it is a gateway where it has the form of an address
+abbrev pub route_out : Option Cidr → List ℕ → List (List ℕ) → Answer
+route_out prefix device [] = route_to prefix (target.Dev device) []
+route_out prefix device (w ∷ ws) = by (address_of w)
+  where
+    by : Option ℕ → Answer
+    by (Some gateway) = route_to prefix (target.ViaDev gateway device) ws
+    by None = route_to prefix (target.Dev device) (w ∷ ws)
+
+-- the target that begins with a word: the interface that the word is, else `Null0` or a gateway
+abbrev pub route_by : Option Cidr → Option (List ℕ) → List ℕ → List (List ℕ) → Answer
+route_by prefix (Some device) word rest = route_out prefix device rest
+route_by prefix None word rest = if bytes_eq word (codes "Null0") then route_to prefix target.Null rest else route_via prefix (address_of word) rest
+
+-- `ip route A M TARGET [N] [name WORD] [tag N]`: the host bits of A under M are cleared
+abbrev pub static_route : List (List ℕ) → Answer
+static_route (a ∷ m ∷ word ∷ rest) = route_by (prefix_from (address_of a) (mask_length_of m)) (device_of word) word rest
+static_route _ = Err BadValue

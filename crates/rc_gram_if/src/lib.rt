@@ -5,6 +5,7 @@
 #![tactic(auto)]
 
 mod reading;
+mod route_options;
 mod rows;
 
 pub use reading::read_line;

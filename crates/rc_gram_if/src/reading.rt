@@ -2,9 +2,11 @@
 ghost use Rattle.std.specs.Prelude.{◌≡◌, IfOk};
 ghost use Rattle.rc_openings.specs.Words.{words_left, words_of};
 ghost use Rattle.rc_config.specs.Lawful.{IsInRange};
-ghost use Rattle.rc_gram_if.specs.Reading.{Says, says, row_answer};
+ghost use Rattle.rc_gram_if.specs.Reading.{Says, says, refused_words, row_answer};
 
-use crate::rows::{bandwidth, hostname, interface, ip_address, shutdown};
+use crate::rows::{
+    bandwidth, hostname, interface, ip_address, refused_in_route, shutdown, static_route,
+};
 use rc_config::{Command, Context, Place, RouterText};
 use rc_lines::Line;
 use rc_openings::{Form, LineRefusal, Verdict, Words, judged, unopened};
@@ -43,9 +45,20 @@ fn read_words(
             Verdict::Form(form) => judged(
                 read_form(form, number, words, place, file),
                 opening.behind(words),
-                Words::new(b""),
+                refused_words(form),
             ),
         },
+    }
+}
+
+/// The words that make a line of a form one that isn't modelled, where it fits no row.
+#[tactic(auto, unfolding(rc_openings::specs::Words::words_of))]
+fn refused_words(form: Form) -> Words<'static>
+    ensures { words_left result ≡ refused_words form }
+{
+    match form {
+        Form::StaticRoute => refused_in_route(),
+        _ => Words::new(b""),
     }
 }
 
@@ -67,6 +80,7 @@ fn read_form(
         (Form::Shutdown, Place::Interface(owner)) => shutdown(owner, true, words.skip(1)),
         (Form::NoShutdown, Place::Interface(owner)) => shutdown(owner, false, words.skip(2)),
         (Form::Bandwidth, Place::Interface(owner)) => bandwidth(owner, words.skip(1)),
+        (Form::StaticRoute, _) => static_route(words.skip(2)),
         _ => Err(LineRefusal::BadValue),
     }
 }

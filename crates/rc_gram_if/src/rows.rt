@@ -1,13 +1,15 @@
 //! The rows of each form, by the words behind its opening.
 ghost use Rattle.std.specs.Prelude.{◌≡◌, ◌≤◌, [], IfOk, IfSome};
-ghost use Rattle.std.specs.List.{list_all};
-ghost use Rattle.rc_openings.specs.Values.{address_of, mask_length_of};
+ghost use Rattle.std.specs.List.{list_all, list_any};
+ghost use Rattle.std.specs.Str.{bytes_eq};
+ghost use Rattle.rc_openings.specs.Values.{address_of, mask_length_of, prefix_from};
 ghost use Rattle.rc_openings.specs.Words.{words_left};
 ghost use Rattle.rc_config.specs.Lawful.{IsInRange};
 ghost use Rattle.rc_gram_if.specs.Rows as rows;
 
-use rc_base::{Addr, Name};
-use rc_config::{Command, IfAddr, RouterText, type_of_name};
+use crate::route_options::read_distance;
+use rc_base::{Addr, Name, Prefix};
+use rc_config::{Command, IfAddr, RouterText, StaticRoute, Target, type_of_name};
 use rc_openings::{LineRefusal, Words, number_in, word_addr, word_mask};
 
 fn is_host_byte(byte: u8) -> bool
@@ -133,6 +135,117 @@ pub(crate) fn bandwidth(owner: Name, mut words: Words) -> Result<Command, LineRe
             }),
             None => Err(LineRefusal::BadValue),
         },
+        _ => Err(LineRefusal::BadValue),
+    }
+}
+
+/// The words that make a line `ip route` one that isn't modelled, where it fits no row.
+#[tactic(auto, unfolding(rc_openings::specs::Words::words_of))]
+pub(crate) fn refused_in_route() -> Words<'static>
+    ensures { words_left result ≡ rows.refused_in_route }
+{
+    Words::new(b"track permanent global multicast dhcp")
+}
+
+fn is_one_of(word: &[u8], mut words: Words) -> bool
+    ensures { result ≡ list_any (bytes_eq word.now) (words_left words.entry) }
+{
+    while let Some(other) = words.next_word() {
+        if word == other {
+            return true;
+        }
+    }
+    false
+}
+
+fn is_refused_in_route(word: &[u8]) -> bool
+    ensures { result ≡ list_any (bytes_eq word.now) rows.refused_in_route }
+{
+    is_one_of(word, refused_in_route())
+}
+
+fn is_reserved(word: &[u8]) -> bool
+    ensures { result ≡ rows.is_reserved word.now }
+{
+    word == b"Null0".as_slice() || is_refused_in_route(word)
+}
+
+/// The interface that a target is.
+fn device_of(word: &[u8]) -> Option<Name>
+    ensures { result ≡ rows.device_of word.now }
+{
+    match Name::new(word) {
+        Some(name) if begins_alphabetic(word) && !is_reserved(word) => Some(name),
+        _ => None,
+    }
+}
+
+/// The prefix that an address and a mask are.
+fn prefix_under(addr: &[u8], mask: &[u8]) -> Option<Prefix>
+    ensures { result ≡ prefix_from (address_of addr.now) (mask_length_of mask.now) }
+{
+    match (word_addr(addr), word_mask(mask)) {
+        (Some(addr), Some(len)) => Prefix::new(addr, len),
+        _ => None,
+    }
+}
+
+/// The route to this target with the options behind it.
+fn route_to(prefix: Option<Prefix>, target: Target, options: Words) -> Result<Command, LineRefusal>
+    ensures row { result ≡ rows.route_to prefix target (words_left options.entry) }
+    ensures in_range { IfOk result IsInRange }
+{
+    match (prefix, read_distance(options)) {
+        (Some(prefix), Some(distance)) => Ok(Command::StaticRoute {
+            route: StaticRoute {
+                prefix,
+                target,
+                distance,
+            },
+        }),
+        _ => Err(LineRefusal::BadValue),
+    }
+}
+
+/// The route out of an interface, to a gateway where the next word is one.
+fn route_out(prefix: Option<Prefix>, device: Name, rest: Words) -> Result<Command, LineRefusal>
+    ensures row { result ≡ rows.route_out prefix device (words_left rest.entry) }
+    ensures in_range { IfOk result IsInRange }
+{
+    let mut behind = rest;
+    match behind.next_word() {
+        None => route_to(prefix, Target::Dev(device), rest),
+        Some(word) => match word_addr(word) {
+            Some(gateway) => route_to(prefix, Target::ViaDev(gateway, device), behind),
+            None => route_to(prefix, Target::Dev(device), rest),
+        },
+    }
+}
+
+/// The route to the target that begins with a word.
+fn route_by(prefix: Option<Prefix>, word: &[u8], rest: Words) -> Result<Command, LineRefusal>
+    ensures row { result ≡ rows.route_by prefix (rows.device_of word.now) word.now (words_left rest.entry) }
+    ensures in_range { IfOk result IsInRange }
+{
+    if let Some(device) = device_of(word) {
+        return route_out(prefix, device, rest);
+    }
+    if word == b"Null0".as_slice() {
+        return route_to(prefix, Target::Null, rest);
+    }
+    match word_addr(word) {
+        Some(gateway) => route_to(prefix, Target::Via(gateway), rest),
+        None => Err(LineRefusal::BadValue),
+    }
+}
+
+/// `ip route A M TARGET [N] [name WORD] [tag N]`, the options in any order.
+pub(crate) fn static_route(mut words: Words) -> Result<Command, LineRefusal>
+    ensures row { result ≡ rows.static_route (words_left words.entry) }
+    ensures in_range { IfOk result IsInRange }
+{
+    match (words.next_word(), words.next_word(), words.next_word()) {
+        (Some(addr), Some(mask), Some(word)) => route_by(prefix_under(addr, mask), word, words),
         _ => Err(LineRefusal::BadValue),
     }
 }

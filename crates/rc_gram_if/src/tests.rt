@@ -1,7 +1,7 @@
 //! Every opening of the tables as a line of its own, and the values of each form.
 use crate::read_line;
-use rc_base::Name;
-use rc_config::{Command, Context, Place, RouterText};
+use rc_base::{Addr, Name, Prefix};
+use rc_config::{Command, Context, Place, RouterText, StaticRoute, Target};
 use rc_lines::Lines;
 use rc_openings::LineRefusal;
 use std::alloc::Global;
@@ -156,7 +156,6 @@ ip prefix-list
 ip community-list
 ip community-list standard
 route-map
-ip route
 router ospf
 router bgp
 ";
@@ -385,5 +384,187 @@ fn an_interface_takes_addresses_in_range(rt: HostRuntime) -> Result<(), Fail> {
     check(&rt, alloc, &inside, b"bandwidth 10000001", bad);
     check(&rt, alloc, &inside, b"bandwidth 0", bad);
     check(&rt, alloc, &inside, b"no shutdown now", bad);
+    Ok(())
+}
+
+/// One route in every order of its options, and with some of them.
+const SAME_ROUTE: &[u8] = b"\
+ip route 10.1.2.3 255.255.0.0 Null0 250
+ip route 10.1.2.3 255.255.0.0 Null0 250 name x
+ip route 10.1.2.3 255.255.0.0 Null0 name x 250
+ip route 10.1.2.3 255.255.0.0 Null0 250 tag 0
+ip route 10.1.2.3 255.255.0.0 Null0 tag 4294967295 250
+ip route 10.1.2.3 255.255.0.0 Null0 250 name x tag 7
+ip route 10.1.2.3 255.255.0.0 Null0 250 tag 7 name x
+ip route 10.1.2.3 255.255.0.0 Null0 name x 250 tag 7
+ip route 10.1.2.3 255.255.0.0 Null0 name x tag 7 250
+ip route 10.1.2.3 255.255.0.0 Null0 tag 7 250 name x
+ip route 10.1.2.3 255.255.0.0 Null0 tag 7 name x 250
+ip route 10.1.2.3 255.255.0.0 Null0 name name 250
+ip route 10.1.2.3 255.255.0.0 Null0 name track 250
+ip route 10.1.255.255 255.255.0.0 Null0 00250
+";
+
+/// Lines `ip route` that fit no row.
+const BAD_ROUTES: &[u8] = b"\
+ip route
+ip route 10.1.2.3
+ip route 10.1.2.3 255.255.0.0
+ip route 10.1.2.3/16 Null0
+ip route 10.1.2.256 255.255.0.0 Null0
+ip route 10.1.2.3 255.0.255.0 Null0
+ip route 10.1.2.3 0.0.255.255 Null0
+ip route 10.1.2.3 255.255.0.0 1Serial
+ip route 10.1.2.3 255.255.0.0 10.0.0.256
+ip route 10.1.2.3 255.255.0.0 10.0.0.1 Serial0
+ip route 10.1.2.3 255.255.0.0 10.0.0.1 10.0.0.2
+ip route 10.1.2.3 255.255.0.0 Null0 10.0.0.1
+ip route 10.1.2.3 255.255.0.0 Serial0 10.0.0.1 10.0.0.2
+ip route 10.1.2.3 255.255.0.0 Null0 0
+ip route 10.1.2.3 255.255.0.0 Null0 256
+ip route 10.1.2.3 255.255.0.0 Null0 5 5
+ip route 10.1.2.3 255.255.0.0 Null0 5 name x 5
+ip route 10.1.2.3 255.255.0.0 Null0 name x name x
+ip route 10.1.2.3 255.255.0.0 Null0 tag 7 tag 7
+ip route 10.1.2.3 255.255.0.0 Null0 name
+ip route 10.1.2.3 255.255.0.0 Null0 tag
+ip route 10.1.2.3 255.255.0.0 Null0 tag x
+ip route 10.1.2.3 255.255.0.0 Null0 tag 4294967296
+ip route 10.1.2.3 255.255.0.0 Null0 more
+ip route 10.1.2.3 255.255.0.0 name x
+ip route 10.1.2.3 255.255.0.0 A234567890123456789012345678901234567890123456789012345678901234
+";
+
+/// Lines `ip route` whose meaning is not modelled.
+const REFUSED_ROUTES: &[u8] = b"\
+ip route 10.1.2.3 255.255.0.0 10.0.0.1 track 1
+ip route 10.1.2.3 255.255.0.0 10.0.0.1 permanent
+ip route 10.1.2.3 255.255.0.0 10.0.0.1 global
+ip route 10.1.2.3 255.255.0.0 10.0.0.1 multicast
+ip route 10.1.2.3 255.255.0.0 dhcp
+ip route 10.1.2.3 255.255.0.0 track
+ip route 10.1.2.3 255.255.0.0 Serial0 dhcp 250
+ip route 10.1.2.3 255.0.255.0 Null0 permanent
+ip route vrf RED 10.1.2.3 255.255.0.0 Null0
+";
+
+/// The route that the one line says.
+fn route_in(alloc: Global, text: &[u8]) -> Option<StaticRoute> {
+    let file = RouterText::new(alloc);
+    let line = Lines::new(text).next()?;
+    let context = Context {
+        place: Place::Global,
+        file: &file,
+    };
+    match read_line(&line, context) {
+        Ok(Command::StaticRoute { route }) => Some(route),
+        _ => None,
+    }
+}
+
+/// Whether each line of the text says this route.
+fn all_say_route(alloc: Global, text: &[u8], wanted: &StaticRoute) -> bool {
+    let file = RouterText::new(alloc);
+    let mut lines = Lines::new(text);
+    for _ in 0..1000 {
+        let Some(line) = lines.next() else {
+            return true;
+        };
+        let context = Context {
+            place: Place::Global,
+            file: &file,
+        };
+        let said = read_line(&line, context);
+        let as_wanted = match &said {
+            Ok(Command::StaticRoute { route }) => *route == *wanted,
+            _ => false,
+        };
+        if !as_wanted {
+            return false;
+        }
+    }
+    false
+}
+
+#[test]
+fn static_routes_take_their_options_in_any_order(rt: HostRuntime) -> Result<(), Fail> {
+    let alloc = rt.alloc();
+    let bad = Some(LineRefusal::BadValue);
+    let unsupported = Some(LineRefusal::Unsupported);
+    let wanted = StaticRoute {
+        prefix: Prefix::new(Addr::new(0x0a01_0000), 16).ok_or("10.1.0.0/16")?,
+        target: Target::Null,
+        distance: 250,
+    };
+    assert!(rt; all_say_route(alloc, SAME_ROUTE, &wanted));
+    assert!(rt; all_say(alloc, &Place::Global, BAD_ROUTES, bad));
+    assert!(rt; all_say(alloc, &Place::Global, REFUSED_ROUTES, unsupported));
+    check(
+        &rt,
+        alloc,
+        &Place::Closed,
+        b" ip route 10.1.2.3 255.255.0.0 Null0",
+        Some(LineRefusal::OutOfPlace),
+    );
+    Ok(())
+}
+
+#[test]
+fn static_routes_have_targets(rt: HostRuntime) -> Result<(), Fail> {
+    let gateway = Addr::new(0x0a00_0001);
+    let serial = Name::new(b"Serial0").ok_or("Serial0")?;
+    let name = Name::new(b"name").ok_or("name")?;
+    let null = Name::new(b"null0").ok_or("null0")?;
+    for (text, target, distance) in [
+        (
+            b"ip route 10.1.2.3 255.255.0.0 10.0.0.1".as_slice(),
+            Target::Via(gateway),
+            1,
+        ),
+        (
+            b"ip route 10.1.2.3 255.255.0.0 Null0 255",
+            Target::Null,
+            255,
+        ),
+        (
+            b"ip route 10.1.2.3 255.255.0.0 Serial0",
+            Target::Dev(serial),
+            1,
+        ),
+        (
+            b"ip route 10.1.2.3 255.255.0.0 Serial0 10.0.0.1 7",
+            Target::ViaDev(gateway, serial),
+            7,
+        ),
+        (
+            b"ip route 10.1.2.3 255.255.0.0 name 9",
+            Target::Dev(name),
+            9,
+        ),
+        (b"ip route 10.1.2.3 255.255.0.0 null0", Target::Dev(null), 1),
+    ] {
+        let said = route_in(rt.alloc(), text).ok_or("a route")?;
+        assert!(rt; said.target == target, "the target of {text:?}");
+        assert_eq!(rt; said.distance, distance, "the distance of {text:?}");
+    }
+    Ok(())
+}
+
+#[test]
+fn static_routes_clear_host_bits(rt: HostRuntime) -> Result<(), Fail> {
+    for (text, network, len) in [
+        (b"ip route 10.1.2.3 0.0.0.0 Null0".as_slice(), 0, 0),
+        (b"ip route 10.1.2.3 255.0.0.0 Null0", 0x0a00_0000, 8),
+        (b"ip route 10.1.2.3 255.255.254.0 Null0", 0x0a01_0200, 23),
+        (b"ip route 10.1.2.3 255.255.255.255 Null0", 0x0a01_0203, 32),
+    ] {
+        let said = route_in(rt.alloc(), text).ok_or("a route")?;
+        assert_eq!(rt;
+            said.prefix.network().bits(),
+            network,
+            "the network of {text:?}"
+        );
+        assert_eq!(rt; said.prefix.len(), len, "the length of {text:?}");
+    }
     Ok(())
 }

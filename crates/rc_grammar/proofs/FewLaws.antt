@@ -1,6 +1,5 @@
 -- A file that has room for one more interface has so many after a command that names one.
-use Rattle.std.proofs.Common.{◌≡◌, ℕ, ◌+◌, ◌-◌, ◌<◌, ◌≤◌, Bool, true, false, ◌&&◌, cond, List, [], ◌∷◌, length, Option, Some, None, is_none, nat_le, Result, Ok, Err, IfOk, refl, sym, ap, subst, arith}
-use Rattle.std.specs.declared.alloc.AllocError.{AllocError}
+use Rattle.std.proofs.Common.{◌≡◌, ℕ, ◌-◌, ◌<◌, ◌≤◌, Bool, true, false, ◌&&◌, cond, List, [], ◌∷◌, length, None, is_none, nat_le, refl, sym, subst, arith}
 use Rattle.std.proofs.lemmas.Bool.Decides.{nat_tests}
 use Rattle.rc_base.specs.Name.{same_name}
 use Rattle.rc_config.specs.Named.{named, with_value}
@@ -30,6 +29,7 @@ new_is_few es name room none = let test : nat_le 256 (length es) ≡ false = rw 
 few-after : (r : RouterText) (c : Command) → is_one_too_many r (interface_of c) ≡ false → length r.interfaces ≤ 256 → length (after r c).interfaces ≤ 256
 few-after r command.Passed room few = few
 few-after r (command.Hostname name line) room few = few
+few-after r (command.StaticRoute route) room few = few
 few-after r (command.Interface name line) room few = length-with_value r.interfaces name _ 256 (new_is_few r.interfaces name room) few
 few-after r (command.Address name address secondary) room few = length-with_value r.interfaces name _ 256 (new_is_few r.interfaces name room) few
 few-after r (command.Shutdown name down) room few = length-with_value r.interfaces name _ 256 (new_is_few r.interfaces name room) few

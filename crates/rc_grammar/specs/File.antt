@@ -40,7 +40,7 @@ open_after place.Global command.Passed = place.Ignored
 open_after place.Global _ = place.Closed
 open_after at _ = at
 
--- the interface that a command names
+-- the interface whose block a command opens or changes. A static route names interfaces without declaring them.
 abbrev pub interface_of : Command → Option (List ℕ)
 interface_of command.Passed = None
 interface_of (command.Hostname name line) = None
@@ -48,6 +48,7 @@ interface_of (command.Interface name line) = Some name
 interface_of (command.Address name address secondary) = Some name
 interface_of (command.Shutdown name down) = Some name
 interface_of (command.Bandwidth name kbits) = Some name
+interface_of (command.StaticRoute route) = None
 
 -- a file has at most 256 interfaces
 abbrev pub is_one_too_many : RouterText → Option (List ℕ) → Bool

@@ -2,7 +2,7 @@
 ghost use Rattle.std.specs.Prelude.{◌≡◌, ◌≤◌, List, ℕ, [], ◌∷◌, length, Some, None, Ok, Err, IfOk};
 ghost use Rattle.rc_openings.specs.Words.{words_of};
 ghost use Rattle.rc_lines.specs.Lines.{TextLine, lines_of};
-ghost use Rattle.rc_config.specs.Lawful.{HasLawfulInterfaces, IsInRange, IsLawfulFile};
+ghost use Rattle.rc_config.specs.Lawful.{HasLawfulInterfaces, HasLawfulRoutes, IsInRange, IsLawfulFile};
 ghost use Rattle.rc_gram_if.specs.Reading.{says};
 ghost use Rattle.rc_grammar.specs.File.{is_passed, place_at, open_after, interface_of, is_one_too_many, with_command, with_answer, with_text, by_part, step, start, with_lines, with_host, file_of, Gives};
 
@@ -67,6 +67,7 @@ fn interface_named(command: &Command) -> Option<Name>
         Command::Address { interface, .. } => Some(*interface),
         Command::Shutdown { interface, .. } => Some(*interface),
         Command::Bandwidth { interface, .. } => Some(*interface),
+        Command::StaticRoute { .. } => None,
     }
 }
 
@@ -102,6 +103,7 @@ impl Reading {
         requires { IsInRange command }
         ensures step { Gives result (with_command line.now.number self at.now command) }
         ensures lawful { IfOk result (λ r. HasLawfulInterfaces self.file → HasLawfulInterfaces r.file) }
+        ensures routes { IfOk result (λ r. HasLawfulRoutes self.file → HasLawfulRoutes r.file) }
         ensures few { IfOk result (λ r. length self.file.interfaces ≤ 256 → length r.file.interfaces ≤ 256) }
     {
         if is_too_many(&self.file, &interface_named(&command)) {
@@ -130,6 +132,7 @@ impl Reading {
     fn with_text(self, line: &Line) -> Result<Reading, ReadError>
         ensures step { Gives result (with_text self line.now) }
         ensures lawful { IfOk result (λ r. HasLawfulInterfaces self.file → HasLawfulInterfaces r.file) }
+        ensures routes { IfOk result (λ r. HasLawfulRoutes self.file → HasLawfulRoutes r.file) }
         ensures few { IfOk result (λ r. length self.file.interfaces ≤ 256 → length r.file.interfaces ≤ 256) }
     {
         if is_passed_over(line) {
@@ -159,6 +162,7 @@ impl Reading {
     fn with_line(self, line: &Line) -> Result<Reading, ReadError>
         ensures step { Gives result (step self line.now) }
         ensures lawful { IfOk result (λ r. HasLawfulInterfaces self.file → HasLawfulInterfaces r.file) }
+        ensures routes { IfOk result (λ r. HasLawfulRoutes self.file → HasLawfulRoutes r.file) }
         ensures few { IfOk result (λ r. length self.file.interfaces ≤ 256 → length r.file.interfaces ≤ 256) }
     {
         if line.is_too_long() {
@@ -177,6 +181,7 @@ impl Reading {
 fn read_lines(alloc: Global, bytes: &[u8]) -> Result<Reading, ReadError>
     ensures lines { Gives result (with_lines (Ok start) (lines_of bytes.now)) }
     ensures lawful { IfOk result (λ r. HasLawfulInterfaces r.file) }
+    ensures routes { IfOk result (λ r. HasLawfulRoutes r.file) }
     ensures few { IfOk result (λ r. length r.file.interfaces ≤ 256) }
 {
     let mut lines = Lines::new(bytes);

@@ -184,3 +184,36 @@ fn many_interfaces(rt: HostRuntime) -> Result<(), Fail> {
     assert_eq!(rt; FileCause::TooManyInterfaces.code(), 12);
     Ok(())
 }
+
+#[test]
+fn static_routes(rt: HostRuntime) -> Result<(), Fail> {
+    let alloc = rt.alloc();
+    let text = b"interface Serial0
+hostname X
+ip route 10.1.0.0 255.255.0.0 Serial9 200
+ip route 10.1.0.0 255.255.0.0 Null0
+ip route 10.1.0.0 255.255.0.0 Serial9 200 name again
+";
+    let file = read_file(alloc, text).ok().ok_or("refused")?;
+    assert_eq!(rt; file.interfaces.len(), 1);
+    let routes = file.static_routes.as_slice();
+    assert_eq!(rt; routes.len(), 3);
+    for (place, distance) in [(0, 200), (1, 1), (2, 200)] {
+        assert_eq!(rt; routes.get(place).map(|r| r.distance), Some(distance));
+    }
+    check(
+        &rt,
+        alloc,
+        b"interface Serial0\nip route 10.1.0.0 255.255.0.0 Null0\n shutdown",
+        3,
+        FileCause::Line(LineRefusal::OutOfPlace),
+    );
+    check(
+        &rt,
+        alloc,
+        b"hostname X\nip route 10.1.0.0 255.255.0.0 Null0 track 1",
+        2,
+        FileCause::Line(LineRefusal::Unsupported),
+    );
+    Ok(())
+}

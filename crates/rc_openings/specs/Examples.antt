@@ -25,7 +25,7 @@ IsDecided kind line verdict = option_map (λ r. r.verdict) (decisive_row (rows_o
 pub global_lines :
     IsDecided block.Global (codes "hostname R1") (Some (Form form.Hostname))
     × IsDecided block.Global (codes "interface GigabitEthernet0/0") (Some (Form form.Interface))
-    × IsDecided block.Global (codes "ip route 10.0.0.0 255.0.0.0 Null0") (Some (Later form.StaticRoute))
+    × IsDecided block.Global (codes "ip route 10.0.0.0 255.0.0.0 Null0") (Some (Form form.StaticRoute))
     × IsDecided block.Global (codes "ip route vrf RED 10.0.0.0 255.0.0.0 Null0") (Some Refused)
     × IsDecided block.Global (codes "no ip routing") (Some Refused)
     × IsDecided block.Global (codes "no ip http server") (Some Ignored)

@@ -15,7 +15,7 @@ global_forms =
     ∷ later (codes "ip community-list") CommunityList
     ∷ later (codes "ip community-list standard") StandardCommunityList
     ∷ later (codes "route-map") RouteMap
-    ∷ later (codes "ip route") StaticRoute
+    ∷ form (codes "ip route") StaticRoute
     ∷ later (codes "router ospf") RouterOspf
     ∷ later (codes "router bgp") RouterBgp
     ∷ []

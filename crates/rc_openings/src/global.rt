@@ -642,7 +642,7 @@ static MORE_WORDS: [Opening; 54] = [
     },
     Opening {
         text: b"ip route",
-        verdict: Verdict::Later(Form::StaticRoute),
+        verdict: Verdict::Form(Form::StaticRoute),
     },
     Opening {
         text: b"ip route vrf",

@@ -1,1 +1,5 @@
 pub mod RowLaws
+mod GroupLaws
+mod BestLaws
+mod TableLaws
+mod StaticLaws

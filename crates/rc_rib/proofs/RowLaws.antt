@@ -27,7 +27,7 @@ use Rattle.rc_route.specs.declared.state.RouterState.{RouterState}
 use Rattle.rc_route.specs.Tables.{IsRouterState, IsTable}
 use Rattle.rc_rib.specs.Connected.{same_prefix, route_of, prefixes_at, connected}
 
-same_itself : (p : Cidr) → prefix_cmp p p ≡ Equal
+pub same_itself : (p : Cidr) → prefix_cmp p p ≡ Equal
 same_itself p = tied_itself prefix_cmp_total p
 
 -- ---- the order of `Prefix` is that of the definition
@@ -54,7 +54,7 @@ insert_again {X} (e ∷ es) p v w = by (prefix_cmp p e.0) refl (insert_again es 
     by Equal is rest = rw is refl
     by Greater is rest = rw is (ap (λ t. e ∷ t) rest)
 
-keys_insert : {X : Type 0} (rows : List (Cidr × X)) (p : Cidr) (v : X) → keys_of (insert_entry prefix_cmp rows p v) ≡ insert_key prefix_cmp (keys_of rows) p
+pub keys_insert : {X : Type 0} (rows : List (Cidr × X)) (p : Cidr) (v : X) → keys_of (insert_entry prefix_cmp rows p v) ≡ insert_key prefix_cmp (keys_of rows) p
 keys_insert [] p v = refl
 keys_insert {X} (e ∷ es) p v = by (prefix_cmp p e.0) (keys_insert es p v)
   where
@@ -65,7 +65,7 @@ keys_insert {X} (e ∷ es) p v = by (prefix_cmp p e.0) (keys_insert es p v)
     by Equal rest = refl
     by Greater rest = ap (λ t. e.0 ∷ t) rest
 
-not_same : (q x p : Cidr) → prefix_cmp q x ≡ Equal → prefix_cmp p x ≡ Greater → is_eq (prefix_cmp q p) ≡ false
+pub not_same : (q x p : Cidr) → prefix_cmp q x ≡ Equal → prefix_cmp p x ≡ Greater → is_eq (prefix_cmp q p) ≡ false
 not_same q x p same above =
     let turned : prefix_cmp x p ≡ Less = prefix_cmp_total.antisymm x p ∙ ap ordering_reverse above in
     ap (λ y. is_eq (prefix_cmp y p)) (same_by_prefix_cmp q x same) ∙ ap is_eq turned
@@ -204,7 +204,7 @@ module _ (f : ℕ → List Cidr) where
 
 -- ---- all interfaces
 
-map_same : {X Y : Type 0} (f g : X → Y) (xs : List X) → AllByRecursion (λ x. f x ≡ g x) xs → map f xs ≡ map g xs
+pub map_same : {X Y : Type 0} (f g : X → Y) (xs : List X) → AllByRecursion (λ x. f x ≡ g x) xs → map f xs ≡ map g xs
 map_same f g [] same = refl
 map_same f g (x ∷ xs) same = ap (λ y. y ∷ map f xs) same.0 ∙ ap (λ ys. g x ∷ ys) (map_same f g xs same.1)
 

@@ -1,4 +1,9 @@
 pub mod Connected
 pub mod ByPrefix
+pub mod Static
+pub mod Best
+pub mod Groups
+pub mod Offers
 pub mod Next
 pub mod Rows
+pub mod StaticRows

@@ -1,14 +1,31 @@
 -- The next table and best paths of one router, from what all routers know.
-use Rattle.std.specs.Prelude.{ℕ, List, [], map}
+use Rattle.std.specs.Prelude.{ℕ, List, [], ◌++◌, map, slice_get}
+use Rattle.std.specs.Option.{option_map_or}
 use Rattle.rc_config.specs.declared.network.Network.{Network}
-use Rattle.rc_config.specs.Members.{interfaces_of, router_ids}
+use Rattle.rc_config.specs.declared.router_text.RouterText.{RouterText}
+use Rattle.rc_config.specs.Members.{router_at, router_ids}
+use Rattle.rc_fib.specs.Forwarding.{resolved}
+use Rattle.rc_rib.specs.Best.{best_routes}
 use Rattle.rc_rib.specs.Connected.{connected}
+use Rattle.rc_rib.specs.Static.{active_lines, static_routes}
+use Rattle.rc_route.specs.declared.route.Route.{Route}
 use Rattle.rc_route.specs.declared.state.RouterState.{RouterState}
 
--- what a router knows after a round in which all read the old state. Connected routes are the only ones today, and they
--- read nothing of it; there are no BGP paths.
+-- the candidates of a router's file: its connected routes, and its static routes that the previous table makes active
+abbrev pub candidates : ℕ → RouterText → List Route → List Route
+candidates r file old = connected r file.interfaces ++ static_routes (active_lines r file.interfaces (resolved old) file.static_routes)
+
+-- the next table of a router, from its file and its previous table
+abbrev pub table_after : ℕ → RouterText → List Route → List Route
+table_after r file old = best_routes (candidates r file old)
+
+-- the table of a router in a state
+abbrev pub table_of : List RouterState → ℕ → List Route
+table_of state r = option_map_or (λ (s : RouterState). s.table) (slice_get state r) []
+
+-- what a router knows after a round in which all read the old state; there are no BGP paths
 abbrev pub next_router : Network → List RouterState → ℕ → RouterState
-next_router net old r = record { table = connected r (interfaces_of net r); paths = [] }
+next_router net old r = record { table = option_map_or (λ file. table_after r file (table_of old r)) (router_at net r) []; paths = [] }
 
 -- a round: all routers read the old state
 abbrev pub next_state : Network → List RouterState → List RouterState

@@ -1,4 +1,4 @@
--- Worked cases of the definitions, each by computation.
+-- Worked cases of connected routes, each by computation.
 use Rattle.std.specs.Prelude.{◌≡◌, ℕ, ◌+◌, ◌*◌, true, List, [], ◌∷◌, Some, codes, refl}
 use Rattle.rc_base.specs.Prefix.{prefix_at}
 use Rattle.rc_config.specs.declared.interface.Interface.{Interface}

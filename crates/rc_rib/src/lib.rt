@@ -1,10 +1,13 @@
 //! The next table of one router.
 //!
-//! It stands on the model of rc_config and on the routes of rc_route. The layer above knows what a router knows after a
-//! round as a function of the network and of what all routers knew before it, in its order.
+//! It stands on the model of rc_config, on the routes of rc_route and on the hops of addresses of rc_fib. The layer above
+//! knows what a router knows after a round as a function of the network and of what all routers knew before it, in its order.
 #![tactic(auto)]
 
+mod active;
+mod best;
 mod connected_routes;
+mod grouping;
 mod next;
 
 pub use next::table;

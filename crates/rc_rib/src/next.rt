@@ -1,33 +1,108 @@
 //! One router's next table and best paths.
-ghost use Rattle.std.specs.Prelude.{◌≡◌, IfOk, length};
+ghost use Rattle.std.specs.Prelude.{◌≡◌, [], All, IfOk, length, slice_get};
+ghost use Rattle.std.specs.Option.{option_map, option_map_or};
 ghost use Rattle.rc_config.specs.Lawful.{IsLawful, IsRouter};
-ghost use Rattle.rc_config.specs.Members.{interfaces_of};
+ghost use Rattle.rc_config.specs.Members.{router_at};
+ghost use Rattle.rc_fib.specs.Forwarding.{resolved};
 ghost use Rattle.rc_route.specs.Tables.{IsStateOf, IsRouterState, IsTable};
-ghost use Rattle.rc_rib.specs.Connected.{connected};
-ghost use Rattle.rc_rib.specs.Next.{next_router};
+ghost use Rattle.rc_rib.specs.Next as spec;
+ghost use Rattle.rc_rib.specs.Static.{active_lines, static_routes};
 
-use crate::connected_routes::connected as connected_routes;
+use crate::active::active_lines;
+use crate::best::best_routes;
+use crate::connected_routes::connected;
+use crate::grouping::static_routes;
 use rc_base::{Items, RouterId};
-use rc_config::Network;
+use rc_config::{Network, RouterText};
+use rc_fib::Fib;
 use rc_route::{RouterState, State, Table};
 use std::alloc::{AllocError, Global};
 
-/// The table of a router.
-#[tactic(auto, using(crate::proofs::RowLaws::connected_none, crate::proofs::RowLaws::none_in_order), unfolding(crate::specs::Connected::connected))]
-fn own_table(alloc: Global, router: RouterId, net: &Network) -> Result<Table, AllocError>
-    ensures value { IfOk result (λ table. table ≡ connected router (interfaces_of net.now router)) }
+/// The static routes of a file that its router's previous table makes active. Only where the file has some, that table is
+/// prepared for look-ups.
+#[tactic(auto, using(crate::proofs::StaticLaws::no_lines))]
+fn active_routes(
+    alloc: Global,
+    router: RouterId,
+    file: &RouterText,
+    old: &Table,
+) -> Result<Table, AllocError>
+    requires { IsTable old.now }
+    ensures { IfOk result (λ routes. routes ≡ static_routes (active_lines router file.now.interfaces (resolved old.now) file.now.static_routes)) }
+{
+    if file.static_routes.is_empty() {
+        return Ok(Items::new(alloc));
+    }
+    let fib = Fib::of(alloc, old)?;
+    let lines = active_lines(alloc, router, file, &fib)?;
+    static_routes(alloc, lines.as_slice())
+}
+
+/// The best of the connected and the static routes of a file.
+fn file_table(
+    alloc: Global,
+    router: RouterId,
+    file: &RouterText,
+    old: &Table,
+) -> Result<Table, AllocError>
+    requires { IsTable old.now }
+    ensures value { IfOk result (λ table. table ≡ spec.table_after router file.now old.now) }
+    ensures in_order { IfOk result IsTable }
+{
+    let routes = active_routes(alloc, router, file, old)?;
+    let connected = connected(alloc, router, file)?;
+    best_routes(alloc, connected, routes)
+}
+
+/// The next table of a router, from its previous one.
+#[tactic(auto, using(crate::proofs::RowLaws::none_in_order))]
+fn own_table(
+    alloc: Global,
+    router: RouterId,
+    net: &Network,
+    old: &Table,
+) -> Result<Table, AllocError>
+    requires { IsTable old.now }
+    ensures value { IfOk result (λ table. table ≡ option_map_or (λ file. spec.table_after router file old.now) (router_at net.now router) []) }
     ensures in_order { IfOk result IsTable }
 {
     let found = net.router_at(router);
     match found {
-        Some(file) => connected_routes(alloc, router, file),
+        Some(file) => file_table(alloc, router, file, old),
         None => Ok(Items::new(alloc)),
+    }
+}
+
+/// What a router of a place knows in a state, or `None` exactly past its end.
+fn known_at(state: &State, router: RouterId) -> Option<&RouterState>
+    ensures { option_map (λ s. s.now) result ≡ slice_get state.now router }
+{
+    state.as_slice().get(router.index())
+}
+
+/// The next table of a router, from the state before.
+#[tactic(auto, using(crate::proofs::RowLaws::none_in_order))]
+fn next_table(
+    alloc: Global,
+    router: RouterId,
+    net: &Network,
+    state: &State,
+) -> Result<Table, AllocError>
+    requires { All IsRouterState state.now }
+    ensures value { IfOk result (λ table. table ≡ option_map_or (λ file. spec.table_after router file (spec.table_of state.now router)) (router_at net.now router) []) }
+    ensures in_order { IfOk result IsTable }
+{
+    let known = known_at(state, router);
+    match known {
+        Some(known) => own_table(alloc, router, net, &known.table),
+        None => own_table(alloc, router, net, &Items::new(alloc)),
     }
 }
 
 /// What a router knows after a round in which all routers read this state: its table, and its best BGP paths.
 ///
-/// It errs only where memory runs out.
+/// Its connected routes, and its static routes that its previous table makes active; for each prefix the least
+/// administrative distance wins. It errs only where memory runs out.
 pub fn table(
     alloc: Global,
     router: RouterId,
@@ -37,11 +112,10 @@ pub fn table(
     requires lawful { IsLawful net.now }
     requires router { IsRouter net.now router }
     requires state { IsStateOf (length net.now.routers) state.now }
-    ensures next { IfOk result (λ s. s ≡ next_router net.now state.now router) }
+    ensures next { IfOk result (λ s. s ≡ spec.next_router net.now state.now router) }
     ensures in_order { IfOk result IsRouterState }
 {
-    let _ = state;
-    let table = own_table(alloc, router, net)?;
+    let table = next_table(alloc, router, net, state)?;
     Ok(RouterState {
         table,
         paths: Items::new(alloc),

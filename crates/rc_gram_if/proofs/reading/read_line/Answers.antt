@@ -1,4 +1,3 @@
-use Rattle.std.proofs.Common.{◌≡◌}
 use Rattle.rc_openings.proofs.ReadingLaws.{says_is}
 use Rattle.rc_gram_if.proofs.reading.read_line.Goals as goal
 

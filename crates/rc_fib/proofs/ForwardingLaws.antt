@@ -1,0 +1,70 @@
+-- What a prepared table says of an address is what the table says.
+use Rattle.std.proofs.Common.{refl, ◌≡◌, ap, ◌∙◌, ℕ, suc, Bool, true, false, cond, List, [], ◌∷◌, map, Option, Some, None, nat_lt}
+use Rattle.std.specs.List.{filter, fold, list_any, reduce}
+use Rattle.std.specs.Option.{option_map, option_map_or}
+use Rattle.rc_base.specs.Prefix.{contains}
+use Rattle.rc_route.specs.declared.route.Hop.{Hop}
+use Rattle.rc_route.specs.declared.route.Route.{Route}
+use Rattle.rc_fib.specs.declared.entry.Entry.{Entry}
+use Rattle.rc_fib.specs.Forwarding.{longest, resolve_all, hops_within, hops_of, resolved, resolved_within, entry_of, resolved_hops, resolved_prefix, resolves, has_interface}
+
+-- the hops of a route may be any function of it
+module _ (hops : Route → List Hop) where
+  abbrev entry : Route → Entry
+  entry r = record { prefix = r.prefix; hops = hops r }
+
+  chosen : (b : Bool) (x y : Route) → cond b (entry y) (entry x) ≡ entry (cond b y x)
+  chosen true x y = refl
+  chosen false x y = refl
+
+  kept : (b : Bool) (x : Route) (xs : List Route) → cond b (entry x ∷ map entry xs) (map entry xs) ≡ map entry (cond b (x ∷ xs) xs)
+  kept true x xs = refl
+  kept false x xs = refl
+
+  filter-entries : (a : ℕ) (xs : List Route) → filter (λ (e : Entry). contains e.prefix a) (map entry xs) ≡ map entry (filter (λ (r : Route). contains r.prefix a) xs)
+  filter-entries a [] = refl
+  filter-entries a (x ∷ xs) =
+      ap (λ es. cond (contains x.prefix a) (entry x ∷ es) es) (filter-entries a xs) ∙ kept (contains x.prefix a) x (filter (λ (r : Route). contains r.prefix a) xs)
+
+  fold-entries : (x : Route) (xs : List Route) → fold (λ (d e : Entry). cond (nat_lt d.prefix.len e.prefix.len) e d) (entry x) (map entry xs) ≡ entry (fold (λ (q r : Route). cond (nat_lt q.prefix.len r.prefix.len) r q) x xs)
+  fold-entries x [] = refl
+  fold-entries x (y ∷ ys) =
+      ap (λ e. fold (λ (d e : Entry). cond (nat_lt d.prefix.len e.prefix.len) e d) e (map entry ys)) (chosen (nat_lt x.prefix.len y.prefix.len) x y) ∙ fold-entries (cond (nat_lt x.prefix.len y.prefix.len) y x) ys
+
+  reduce-entries : (xs : List Route) → reduce (λ (d e : Entry). cond (nat_lt d.prefix.len e.prefix.len) e d) (map entry xs) ≡ option_map entry (reduce (λ (q r : Route). cond (nat_lt q.prefix.len r.prefix.len) r q) xs)
+  reduce-entries [] = refl
+  reduce-entries (x ∷ xs) = ap Some (fold-entries x xs)
+
+  entry_of-entries : (table : List Route) (a : ℕ) → entry_of (map entry table) a ≡ option_map entry (longest table a)
+  entry_of-entries table a =
+      ap (reduce (λ (d e : Entry). cond (nat_lt d.prefix.len e.prefix.len) e d)) (filter-entries a table) ∙ reduce-entries (filter (λ (r : Route). contains r.prefix a) table)
+
+  hops-entry : (o : Option Route) → option_map_or (λ (e : Entry). e.hops) (option_map entry o) [] ≡ option_map_or hops o []
+  hops-entry None = refl
+  hops-entry (Some r) = refl
+
+  prefix-entry : (o : Option Route) → option_map (λ (e : Entry). e.prefix) (option_map entry o) ≡ option_map (λ (r : Route). r.prefix) o
+  prefix-entry None = refl
+  prefix-entry (Some r) = refl
+
+  resolved_hops-entries : (table : List Route) (a : ℕ) → resolved_hops (map entry table) a ≡ option_map_or hops (longest table a) []
+  resolved_hops-entries table a =
+      ap (λ o. option_map_or (λ (e : Entry). e.hops) o []) (entry_of-entries table a) ∙ hops-entry (longest table a)
+
+-- entries that were resolved to a depth give what the table gives at the next
+pub resolved_hops-within : (table : List Route) (depth a : ℕ) → resolved_hops (resolved_within table depth) a ≡ hops_within table (suc depth) a
+unfolding hops_within
+resolved_hops-within table depth a = resolved_hops-entries (λ (r : Route). resolve_all (hops_within table depth) r.hops) table a
+
+-- the hops of an address by the prepared table are those by the table
+pub resolved_hops-resolved : (table : List Route) (a : ℕ) → resolved_hops (resolved table) a ≡ hops_of table a
+resolved_hops-resolved table a = resolved_hops-within table 15 a
+
+-- the longest prefix of an address by the prepared table is that of the table
+pub resolved_prefix-resolved : (table : List Route) (a : ℕ) → resolved_prefix (resolved table) a ≡ option_map (λ (r : Route). r.prefix) (longest table a)
+resolved_prefix-resolved table a =
+    ap (option_map (λ (e : Entry). e.prefix)) (entry_of-entries (λ (r : Route). resolve_all (hops_within table 15) r.hops) table a) ∙ prefix-entry (λ (r : Route). resolve_all (hops_within table 15) r.hops) (longest table a)
+
+-- an address resolves by the prepared table where some hop by the table names an interface
+pub resolves-resolved : (table : List Route) (a : ℕ) → resolves (resolved table) a ≡ list_any has_interface (hops_of table a)
+resolves-resolved table a = ap (list_any has_interface) (resolved_hops-resolved table a)

@@ -1,0 +1,6 @@
+pub mod ForwardingLaws
+pub mod EndLaws
+pub mod HopLaws
+pub mod LayerLaws
+mod BisectLaws
+mod LongestLaws

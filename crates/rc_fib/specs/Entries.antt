@@ -1,0 +1,60 @@
+-- The entries of a prepared table: their order, and how they are made layer by layer.
+use Rattle.std.specs.Prelude.{◌≡◌, ℕ, ◌-◌, Bool, slice_get, ◌<◌, ◌≤◌, true, List, [], ◌∷◌, ◌++◌, All, map, length, slice_index_or, Option, Some, None, if◌then◌else◌}
+use Rattle.std.specs.List.{list_any}
+use Rattle.std.specs.Option.{option_map_or}
+use Rattle.std.specs.Ordering.{is_lt}
+use Rattle.std.specs.List.Sorted.{IsStrictlySortedBy}
+use Rattle.std.specs.declared.cmp.Ordering.TheVariants.{Less, Greater}
+use Rattle.rc_base.specs.Prefix.{Cidr, IsCidr, contains, prefix_at, prefix_cmp}
+use Rattle.rc_route.specs.declared.route.Hop.{Hop}
+use Rattle.rc_route.specs.declared.route.Hop.TheVariants.{Null, Dev, Via}
+use Rattle.rc_route.specs.declared.route.Route.{Route}
+use Rattle.rc_fib.specs.declared.entry.Entry.{Entry}
+use Rattle.rc_fib.specs.Forwarding.{same_hop, resolve_all, resolved_hops}
+
+-- one entry for each prefix, by address, then length; and each prefix is one
+pub record IsInOrder (entries : List Entry) : Type 0 where
+  pub sorted : IsStrictlySortedBy prefix_cmp (map (λ (e : Entry). e.prefix) entries)
+  pub canonical : All (λ (e : Entry). IsCidr e.prefix) entries
+
+-- the entry at a place has the prefix
+pub record IsPlace (entries : List Entry) (p : Cidr) (place : ℕ) : Type 0 where
+  pub within : place < length entries
+  pub here : (d : Entry) → (slice_index_or entries place d).prefix ≡ p
+
+-- no entry has the prefix: the entries before a place stand before it, and the others behind it
+pub record IsGap (entries : List Entry) (p : Cidr) (place : ℕ) : Type 0 where
+  pub within : place ≤ length entries
+  pub before : (k : ℕ) (d : Entry) → k < place → prefix_cmp (slice_index_or entries k d).prefix p ≡ Less
+  pub behind : (k : ℕ) (d : Entry) → place ≤ k → k < length entries → prefix_cmp (slice_index_or entries k d).prefix p ≡ Greater
+
+-- the last of the entries, if any, stands before the prefix
+abbrev pub ends_before : List Entry → Cidr → Bool
+ends_before entries p =
+    option_map_or (λ (e : Entry). is_lt (prefix_cmp e.prefix p)) (slice_get entries (length entries - 1)) true
+
+-- each prefix that holds the address is shorter
+pub record HoldsBelow (entries : List Entry) (a len : ℕ) : Type 0 where
+  pub shorter : (k : ℕ) (d : Entry) → k < length entries → contains (slice_index_or entries k d).prefix a ≡ true → (slice_index_or entries k d).prefix.len < len
+
+-- from a place on the entries stand behind each prefix of the address that is shorter
+pub record IsBehind (entries : List Entry) (a len place : ℕ) : Type 0 where
+  pub behind : (k : ℕ) (d : Entry) (m : ℕ) → place ≤ k → k < length entries → m < len → prefix_cmp (slice_index_or entries k d).prefix (prefix_at a m) ≡ Greater
+
+-- the hops with one more at the end, where it doesn't stand there already
+abbrev pub with_hop : List Hop → Hop → List Hop
+with_hop hops hop = if list_any (same_hop hop) hops then hops else hops ++ hop ∷ []
+
+-- the gateway of a hop that names no interface
+abbrev pub gateway_of : Hop → Option ℕ
+gateway_of Null = None
+gateway_of (Dev i) = None
+gateway_of (Via g None) = Some g
+gateway_of (Via g (Some i)) = None
+
+-- a route's entry, where other entries give the hops of its gateways
+abbrev pub entry_over : List Entry → Route → Entry
+entry_over entries r = record { prefix = r.prefix; hops = resolve_all (resolved_hops entries) r.hops }
+
+abbrev pub entries_over : List Entry → List Route → List Entry
+entries_over entries table = map (entry_over entries) table

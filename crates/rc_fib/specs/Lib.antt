@@ -1,0 +1,3 @@
+pub mod Forwarding
+pub mod Entries
+pub mod Rows

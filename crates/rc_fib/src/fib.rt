@@ -1,0 +1,80 @@
+//! Tables prepared for look-ups.
+use crate::Entry;
+use crate::layers::resolve_table;
+use crate::longest::{hops_of, longest};
+use crate::resolve::some_interface;
+use rc_base::{Addr, Items, Prefix};
+use rc_route::{Hop, Table};
+use std::alloc::{AllocError, Global};
+use std::marker::Model;
+
+/// A route table with its hops resolved (RFC 1812 s.5.2.4.3), seen as the list of its entries: one for each route, in the
+/// table's order.
+#[derive(Debug, Drop)]
+pub struct Fib {
+    entries: Items<Entry>,
+}
+
+impl Model for Fib {
+    ghost use Rattle.std.specs.Prelude.{List};
+    ghost use Rattle.rc_fib.specs.declared.entry.Entry.{Entry};
+    ghost use Rattle.rc_fib.specs.Entries.{IsInOrder};
+
+    ghost Value = { List Entry };
+
+    ghost view = { λ f. f.entries };
+
+    ghost invariant = { λ f. IsInOrder f.entries };
+}
+
+ghost use Rattle.std.specs.Prelude.{◌≡◌, ◌≤◌, IfOk, MatchOption, Some, length, slice_get};
+
+impl Fib {
+    ghost use Rattle.rc_route.specs.Tables.{IsTable};
+    ghost use Rattle.rc_fib.specs.Forwarding as spec;
+
+    /// Prepares a table (RFC 1812 s.5.2.4.3). It errs only where memory runs out.
+    pub fn of(alloc: Global, table: &Table) -> Result<Fib, AllocError>
+        requires { IsTable table.now }
+        ensures { IfOk result (λ f. f ≡ spec.resolved table.now) }
+    {
+        let entries = resolve_table(alloc, table.as_slice())?;
+        Ok(Fib { entries })
+    }
+
+    /// The hops of an address: those of the longest prefix that holds it, none where no prefix does (RFC 1812 s.5.2.4.3).
+    pub fn hops(&self, addr: Addr) -> &[Hop]
+        ensures { result.now ≡ spec.resolved_hops self.now addr }
+    {
+        hops_of(self.entries.as_slice(), addr)
+    }
+
+    /// The route at a place of the table with its resolved hops, or `None` exactly past the end.
+    pub fn route(&self, place: usize) -> Option<(Prefix, &[Hop])>
+        ensures { MatchOption result (length self.now ≤ place) (λ r. slice_get self.now place ≡ Some (record { prefix = r.0; hops = r.1.now })) }
+    {
+        let found = self.entries.as_slice().get(place);
+        match found {
+            Some(entry) => Some((entry.prefix, entry.hops.as_slice())),
+            None => None,
+        }
+    }
+
+    /// The longest prefix that holds an address (RFC 1812 s.5.2.4.3), or `None` exactly where no prefix does.
+    pub fn longest(&self, addr: Addr) -> Option<Prefix>
+        ensures { result ≡ spec.resolved_prefix self.now addr }
+    {
+        let found = longest(self.entries.as_slice(), addr);
+        match found {
+            Some(entry) => Some(entry.prefix),
+            None => None,
+        }
+    }
+
+    /// Whether an address resolves: some hop of it names an interface.
+    pub fn resolves(&self, addr: Addr) -> bool
+        ensures { result ≡ spec.resolves self.now addr }
+    {
+        some_interface(self.hops(addr))
+    }
+}

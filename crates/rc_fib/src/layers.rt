@@ -1,0 +1,75 @@
+//! A table resolved layer by layer: each layer looks the gateways up in the one before it.
+ghost use Rattle.std.specs.Prelude.{◌≡◌, ◌↔◌, IsTrue, IfOk};
+ghost use Rattle.rc_base.specs.Prefix.{IsCidr};
+ghost use Rattle.rc_route.specs.Tables.{IsTable};
+ghost use Rattle.rc_fib.specs.Entries as layer;
+ghost use Rattle.rc_fib.specs.Entries.{IsInOrder};
+ghost use Rattle.rc_fib.specs.Forwarding.{resolved};
+
+use crate::Entry;
+use crate::resolve::resolve;
+use rc_base::Items;
+use rc_route::Route;
+use std::alloc::{AllocError, Global};
+
+/// How many look-ups may follow one another.
+const DEPTH: u8 = 16;
+
+/// A route's entry, where other entries give the hops of its gateways.
+fn entry_over(alloc: Global, entries: &[Entry], route: &Route) -> Result<Entry, AllocError>
+    requires { IsInOrder entries.now }
+    ensures value { IfOk result (λ entry. entry ≡ layer.entry_over entries.now route.now) }
+    ensures canonical { IsCidr route.now.prefix }
+{
+    let _network = route.prefix.network();
+    let hops = resolve(alloc, entries, route.hops.as_slice())?;
+    Ok(Entry {
+        prefix: route.prefix,
+        hops,
+    })
+}
+
+/// The entries of a table, where other entries give the hops of the gateways.
+fn entries_over(
+    alloc: Global,
+    entries: &[Entry],
+    table: &[Route],
+) -> Result<Items<Entry>, AllocError>
+    requires table { IsTable table.now }
+    requires entries { IsInOrder entries.now }
+    ensures value { IfOk result (λ next. next ≡ layer.entries_over entries.now table.now) }
+    ensures in_order { IfOk result IsInOrder }
+{
+    let mut next = Vec::with_capacity(alloc, table.len())?;
+    for route in table {
+        next.push(entry_over(alloc, entries, route)?)?;
+    }
+    Ok(Items::from_vec(next))
+}
+
+/// Whether two layers are equal.
+#[tactic(auto, using(crate::proofs::HopLaws::entries_decide))]
+fn is_same(a: &[Entry], b: &[Entry]) -> bool
+    ensures { IsTrue result ↔ (a.now ≡ b.now) }
+{
+    a == b
+}
+
+/// The entries of a table, all gateways resolved.
+///
+/// Where a layer changes nothing, no later one does.
+pub(crate) fn resolve_table(alloc: Global, table: &[Route]) -> Result<Items<Entry>, AllocError>
+    requires { IsTable table.now }
+    ensures value { IfOk result (λ entries. entries ≡ resolved table.now) }
+    ensures in_order { IfOk result IsInOrder }
+{
+    let mut entries = Items::new(alloc);
+    for _depth in 0..DEPTH {
+        let next = entries_over(alloc, entries.as_slice(), table)?;
+        if is_same(next.as_slice(), entries.as_slice()) {
+            return Ok(next);
+        }
+        entries = next;
+    }
+    Ok(entries)
+}

@@ -1,0 +1,16 @@
+//! The hops of an address in a route table: longest prefix match, and gateways resolved through the table itself.
+//!
+//! It stands on the addresses, prefixes and lists of rc_base and on the routes of rc_route. The layer above knows a
+//! prepared table as the list of its routes' prefixes, each with the hops that it resolves to, and an address by that list.
+#![tactic(auto)]
+
+mod entry;
+mod fib;
+mod layers;
+mod longest;
+mod resolve;
+#[cfg(test)]
+mod tests;
+
+pub use entry::Entry;
+pub use fib::Fib;

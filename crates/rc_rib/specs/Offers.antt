@@ -1,0 +1,30 @@
+-- Candidates offered one by one, and static lines put together one by one, as the code does it.
+use Rattle.std.specs.Prelude.{◌==◌, if◌then◌else◌, [], ◌∷◌, ◌++◌, Option, Some, None, nat_lt}
+use Rattle.rc_base.specs.Lists.{in_order}
+use Rattle.rc_base.specs.Prefix.{Cidr}
+use Rattle.rc_route.specs.Hops.{hop_cmp}
+use Rattle.rc_route.specs.declared.route.Source.TheVariants.{Static}
+use Rattle.rc_route.specs.declared.route.Route.{Route}
+use Rattle.rc_rib.specs.Best.{better}
+use Rattle.rc_rib.specs.declared.active.ActiveLine.{ActiveLine}
+use Rattle.rc_rib.specs.declared.grouping.StaticHops.{StaticHops}
+
+abbrev pub prefix_of : Route → Cidr
+prefix_of r = r.prefix
+
+-- the preferred route after one more offer
+abbrev pub offered : Option Route → Route → Route
+offered None y = y
+offered (Some x) y = better x y
+
+abbrev pub line_prefix : ActiveLine → Cidr
+line_prefix l = l.prefix
+
+-- the hops of the least distance after one more line, in the order of the lines
+abbrev pub with_line : Option StaticHops → ActiveLine → StaticHops
+with_line None l = record { distance = l.distance; hops = l.hop ∷ [] }
+with_line (Some v) l = if nat_lt l.distance v.distance then record { distance = l.distance; hops = l.hop ∷ [] } else (if l.distance == v.distance then record { distance = v.distance; hops = v.hops ++ l.hop ∷ [] } else v)
+
+-- the static route of a prefix over the hops of its lines
+abbrev pub route_of_hops : Cidr → StaticHops → Route
+route_of_hops p v = record { prefix = p; source = Static; distance = v.distance; metric = 0; hops = in_order hop_cmp v.hops }
