@@ -45,6 +45,9 @@ fn listed<R: Files + AllocGlobal + Clone + Drop>(
     Ok(names)
 }
 
+/// The room with which the reading of a file begins: most configurations fit, so they are read at once.
+const ROOM: usize = 16_384;
+
 /// The first bytes of a file, at most `most + 1` of them: no more are read, however long the file is.
 fn front<R: Files + AllocGlobal>(
     rt: &R,
@@ -55,7 +58,7 @@ fn front<R: Files + AllocGlobal>(
 ) -> io::Result<Vec<u8>> {
     let path = format!(in alloc; "{dir}/{name}")?;
     let file = fs::open(rt, path.as_str())?;
-    let mut bytes = Vec::new(alloc);
+    let mut bytes = Vec::with_capacity(alloc, ROOM)?;
     let limit = (most as u64).saturating_add(1);
     file.take(limit).read_to_end(&mut bytes)?;
     Ok(bytes)
