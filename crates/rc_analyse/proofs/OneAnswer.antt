@@ -1,21 +1,30 @@
 -- The files of a folder have one network, and give one answer.
-use Rattle.std.proofs.Common.{refl, ◌≡◌, ◌∙◌, sym, ap, subst, ℕ, Bool, true, false, List, length, nat_lt, filter, Option, Some, None, Result, Ok, Err}
+use Rattle.std.proofs.Common.{◌≡◌, ◌∙◌, sym, ap, subst, Bool, true, false, List, length, nat_lt, filter, Option, Some, None, Result, Ok, Err}
 use Rattle.std.specs.Option.{unwrap_or}
 use Rattle.std.proofs.lemmas.Option.{none-some}
 use Rattle.rc_base.proofs.SortedLaws.{one_sorted_list}
-use Rattle.rc_outside.specs.Folder.{File, names_in, is_config}
+use Rattle.rc_outside.specs.Folder.{names_in, is_config}
 use Rattle.rc_config.specs.declared.network.Network.{Network}
 use Rattle.rc_network.proofs.OneNetwork.{one_network}
 use Rattle.rc_network.specs.Build.{Model}
 use Rattle.rc_network.specs.declared.refusal.NetRefusal.{NetRefusal}
+use Rattle.rc_route.specs.declared.state.RouterState.{RouterState}
 use Rattle.rc_rounds.proofs.OutcomeLaws.{one_outcome}
-use Rattle.rc_rounds.specs.Rounds.{IsOutcome}
 use Rattle.rc_rounds.specs.declared.outcome.Outcome.{Outcome}
+use Rattle.rc_rounds.specs.declared.outcome.Outcome.TheVariants as ended
+use Rattle.rc_walk.proofs.WalkLaws.{one_first_walk}
+use Rattle.rc_walk.specs.Moves.{plane_of}
 use Rattle.rc_words.specs.declared.request.Limits.{Limits}
-use Rattle.rc_analyse.specs.Net.{most_files, models_of, bytes_in, IsNet, IsNetOfModels, IsNetOf, IsNetOfFew, IsNetOfConfigs, HasOneNet}
-use Rattle.rc_analyse.specs.Answer.{AreFindings, HasOneAnswer}
+use Rattle.rc_words.specs.declared.request.Request.{Request}
+use Rattle.rc_analyse.specs.Net.{most_files, models_of, bytes_in, IsNetOfModels, IsNetOf, IsNetOfFew, IsNetOfConfigs, HasOneNet}
+use Rattle.rc_analyse.specs.Answer.{IsTold, IsToldAtFixed, IsFoundIn, IsFound, HasOneAnswer, dir_of}
+use Rattle.rc_analyse.specs.Subject.{subject_of}
 use Rattle.rc_analyse.specs.declared.findings.Findings.{Findings}
 use Rattle.rc_analyse.specs.declared.findings.Findings.TheVariants as found
+use Rattle.rc_analyse.specs.declared.findings.Told.{Told}
+use Rattle.rc_analyse.specs.declared.findings.Told.TheVariants.{WalkOf}
+use Rattle.rc_analyse.specs.declared.subject.Subject.{Subject}
+use Rattle.rc_analyse.specs.declared.subject.Subject.TheVariants.{AllRouters, OneRouter, Packet}
 
 net_of_models : (models : List Model) (this that : Result Network NetRefusal) → IsNetOfModels models this → IsNetOfModels models that → this ≡ that
 net_of_models models (Ok m) (Ok n) h g = ap Ok (one_network models m n h.1 g.1)
@@ -37,29 +46,30 @@ one_net dir files this that h g =
     let here : IsNetOfConfigs (bytes_in dir files) (filter is_config g.names) this = subst (λ ns. IsNetOfConfigs (bytes_in dir files) (filter is_config ns) this) names h.is in
     net_of_few (nat_lt most_files (length (filter is_config g.names))) (models_of (bytes_in dir files) (filter is_config g.names)) this that here g.is
 
-net_in : Network → Result Network NetRefusal → Network
-net_in default (Ok net) = net
-net_in default (Err refusal) = default
+module _ (net : Network) where
+  told_at_fixed : (state : List RouterState) (subject : Subject) (this that : Told) → IsToldAtFixed net state subject this → IsToldAtFixed net state subject that → this ≡ that
+  told_at_fixed state AllRouters this that h g = h ∙ sym g
+  told_at_fixed state (OneRouter r) this that h g = h ∙ sym g
+  told_at_fixed state (Packet place header) this that (walk, first, is) (other, first_too, is_too) = is ∙ ap WalkOf (one_first_walk (plane_of net state) header place walk other first first_too) ∙ sym is_too
 
-refusal_in : NetRefusal → Result Network NetRefusal → NetRefusal
-refusal_in default (Ok net) = default
-refusal_in default (Err refusal) = refusal
+  told_after : (outcome : Outcome) (subject : Subject) (this that : Told) → IsTold net outcome subject this → IsTold net outcome subject that → this ≡ that
+  told_after (ended.Fixed k state) subject this that h g = told_at_fixed state subject this that h g
+  told_after (ended.Repeats i k) subject this that h g = h ∙ sym g
+  told_after (ended.Limit n) subject this that h g = h ∙ sym g
 
-is_net : Result Network NetRefusal → Bool
-is_net (Ok net) = true
-is_net (Err refusal) = false
+  found_in : (limits : Limits) (subject : Option Subject) (this that : Findings) → IsFoundIn net limits subject this → IsFoundIn net limits subject that → this ≡ that
+  found_in limits None this that h g = h ∙ sym g
+  found_in limits (Some subject) this that (outcome, told, is, ended, after) (other, told_too, is_too, ended_too, after_too) =
+      let outcomes : outcome ≡ other = one_outcome net limits.rounds outcome other ended ended_too in
+      let here : IsTold net other subject told = subst (λ o. IsTold net o subject told) outcomes after in
+      let tolds : told ≡ told_too = told_after other subject told told_too here after_too in
+      is ∙ (λ i. found.Ended net (outcomes i) (tolds i)) ∙ sym is_too
 
-no_net : (net : Network) (refusal : NetRefusal) → Ok net ≡ Err refusal → ⊥
-unfolding is_net
-no_net net refusal e = let same : true ≡ false = ap is_net e in absurd (cc)
+found_one : (r : Request) (net : Result Network NetRefusal) (this that : Findings) → IsFound r net this → IsFound r net that → this ≡ that
+found_one r (Err refusal) this that h g = h ∙ sym g
+found_one r (Ok net) this that h g = found_in net r.limits (subject_of net r.ask) this that h g
 
 pub one_answer : HasOneAnswer
-unfolding net_in refusal_in
-one_answer dir files limits (found.Refused r) (found.Refused s) h g = ap (λ n. found.Refused (refusal_in r n)) (one_net dir files (Err r) (Err s) h g)
-one_answer dir files limits (found.Refused r) (found.Ended net outcome) h g = absurd (no_net net r (one_net dir files (Ok net) (Err r) g.0 h))
-one_answer dir files limits (found.Ended net outcome) (found.Refused r) h g = absurd (no_net net r (one_net dir files (Ok net) (Err r) h.0 g))
-one_answer dir files limits (found.Ended net outcome) (found.Ended other ended) h g =
-    let nets : net ≡ other = ap (net_in net) (one_net dir files (Ok net) (Ok other) h.0 g.0) in
-    let here : IsOutcome other limits.rounds outcome = subst (λ n. IsOutcome n limits.rounds outcome) nets h.1 in
-    let outcomes : outcome ≡ ended = one_outcome other limits.rounds outcome ended here g.1 in
-    λ i. found.Ended (nets i) (outcomes i)
+one_answer files r this that (net, is, h) (other, is_too, g) =
+    let nets : net ≡ other = one_net (dir_of r.ask) files net other is is_too in
+    found_one r other this that (subst (λ n. IsFound r n this) nets h) g

@@ -1,35 +1,72 @@
 -- What is answered to words and files: a status and a text.
-use Rattle.std.specs.Prelude.{◌≡◌, ◌⊎◌, ℕ, List, Option, Some, Ok, Err}
+use Rattle.std.specs.Prelude.{◌≡◌, ◌⊎◌, ℕ, List, Option, Some, None, Result, Ok, Err}
+use Rattle.rc_config.specs.declared.network.Network.{Network}
+use Rattle.rc_network.specs.declared.refusal.NetRefusal.{NetRefusal}
 use Rattle.rc_outside.specs.Folder.{File}
 use Rattle.rc_outside.specs.Sink.{appended, AppendsFront}
+use Rattle.rc_route.specs.declared.state.RouterState.{RouterState}
 use Rattle.rc_rounds.specs.Rounds.{IsOutcome}
 use Rattle.rc_rounds.specs.declared.outcome.Outcome.{Outcome}
 use Rattle.rc_rounds.specs.declared.outcome.Outcome.TheVariants as ended
-use Rattle.rc_words.specs.Plain.{Use, ArePlain, plain_words, plain_request}
+use Rattle.rc_walk.specs.Moves.{plane_of}
+use Rattle.rc_walk.specs.Walks.{IsFirstWalk}
+use Rattle.rc_walk.specs.declared.walk.Walk.{Walk}
+use Rattle.rc_words.specs.Plain.{CommandName, Use, ArePlain, plain_words, plain_request}
 use Rattle.rc_words.specs.Request.{request_of}
-use Rattle.rc_words.specs.declared.request.Ask.TheVariants.{Routes}
+use Rattle.rc_words.specs.declared.request.Ask.{Ask}
+use Rattle.rc_words.specs.declared.request.Ask.TheVariants.{Routes, Trace}
 use Rattle.rc_words.specs.declared.request.Limits.{Limits}
 use Rattle.rc_words.specs.declared.request.Request.{Request}
 use Rattle.rc_analyse.specs.Net.{IsNet}
-use Rattle.rc_analyse.specs.Texts.{refused_line, outcome_text}
+use Rattle.rc_analyse.specs.Subject.{subject_of, place_text}
+use Rattle.rc_analyse.specs.Texts.{refused_line, no_place_line, outcome_text}
 use Rattle.rc_analyse.specs.declared.findings.Findings.{Findings}
 use Rattle.rc_analyse.specs.declared.findings.Findings.TheVariants as found
+use Rattle.rc_analyse.specs.declared.findings.Told.{Told}
+use Rattle.rc_analyse.specs.declared.findings.Told.TheVariants.{Nothing, AllRoutes, RoutesOf, WalkOf}
+use Rattle.rc_analyse.specs.declared.subject.Subject.{Subject}
+use Rattle.rc_analyse.specs.declared.subject.Subject.TheVariants.{AllRouters, OneRouter, Packet}
 use Rattle.rc_analyse.specs.declared.status.Status.{Status}
-use Rattle.rc_analyse.specs.declared.status.Status.TheVariants.{Done, Refused, Repeats, Limit, Source, Sink, Memory}
+use Rattle.rc_analyse.specs.declared.status.Status.TheVariants.{Done, Refused, Repeats, Limit, Source, Sink, Memory, NoPlace}
 
 -- the folder that is asked about
-abbrev pub dir_of : Request → List ℕ
-dir_of r = elim r.ask [ Routes dir ↦ dir ]
+abbrev pub dir_of : Ask → List ℕ
+dir_of (Routes dir router) = dir
+dir_of (Trace dir place header) = dir
 
--- where the words are plain (`routes DIR` and options with their numbers), they ask for what they say, and for the defaults
+-- Where the words are plain (a command, its DIR, and options with their values), they ask for what they say, and for the defaults; and
+-- for nothing where a place or an address isn't read.
 pub record IsTakenWhenPlain (words : List (List ℕ)) : Type 0 where
-  pub taken : (dir : List ℕ) (uses : List Use) → ArePlain dir uses → words ≡ plain_words dir uses → request_of words ≡ Some (plain_request dir uses)
+  pub taken : (command : CommandName) (dir : List ℕ) (uses : List Use) → ArePlain command dir uses → words ≡ plain_words command dir uses → request_of words ≡ plain_request command dir uses
 
--- The files of a folder give a refusal of their network, or the network and its outcome within the limit of rounds. The
--- number of workers is no part of it.
-abbrev pub AreFindings : List ℕ → List File → Limits → Findings → Type 0
-AreFindings dir files limits (found.Refused refusal) = IsNet dir files (Err refusal)
-AreFindings dir files limits (found.Ended net outcome) = IsNet dir files (Ok net) × IsOutcome net limits.rounds outcome
+-- What is told of a fixed point, where this is asked: the routes of all routers or of one, or a packet's first walk.
+abbrev pub IsToldAtFixed : Network → List RouterState → Subject → Told → Type 0
+IsToldAtFixed net state AllRouters told = told ≡ AllRoutes
+IsToldAtFixed net state (OneRouter r) told = told ≡ RoutesOf r
+IsToldAtFixed net state (Packet place header) told = (walk : Walk) × IsFirstWalk (plane_of net state) header place walk × (told ≡ WalkOf walk)
+
+-- What follows the outcome of the rounds, where this is asked. Only a fixed point has routes and walks to tell.
+abbrev pub IsTold : Network → Outcome → Subject → Told → Type 0
+IsTold net (ended.Fixed k state) subject told = IsToldAtFixed net state subject told
+IsTold net (ended.Repeats i k) subject told = told ≡ Nothing
+IsTold net (ended.Limit n) subject told = told ≡ Nothing
+
+-- the outcome of a network within the limit of rounds, and what follows it. The number of workers is no part of it.
+abbrev pub HasEnded : Network → Limits → Subject → Findings → Type 0
+HasEnded net limits subject f = (outcome : Outcome) × (told : Told) × (f ≡ found.Ended net outcome told) × IsOutcome net limits.rounds outcome × IsTold net outcome subject told
+
+-- What a network gives where this is asked: that it has no router or interface of that name, or its outcome and what follows it.
+abbrev pub IsFoundIn : Network → Limits → Option Subject → Findings → Type 0
+IsFoundIn net limits None f = f ≡ found.NoPlace
+IsFoundIn net limits (Some subject) f = HasEnded net limits subject f
+
+-- what the files of a folder give: the first refusal of their network, or what their network gives
+abbrev pub IsFound : Request → Result Network NetRefusal → Findings → Type 0
+IsFound r (Err refusal) f = f ≡ found.Refused refusal
+IsFound r (Ok net) f = IsFoundIn net r.limits (subject_of net r.ask) f
+
+abbrev pub AreFindings : List File → Request → Findings → Type 0
+AreFindings files r f = (net : Result Network NetRefusal) × IsNet (dir_of r.ask) files net × IsFound r net f
 
 abbrev pub status_after : Outcome → Status
 status_after (ended.Fixed k state) = Done
@@ -38,19 +75,21 @@ status_after (ended.Limit n) = Limit
 
 abbrev pub status_of : Findings → Status
 status_of (found.Refused refusal) = Refused
-status_of (found.Ended net outcome) = status_after outcome
+status_of found.NoPlace = NoPlace
+status_of (found.Ended net outcome told) = status_after outcome
 
-abbrev pub text_of : Findings → List ℕ
-text_of (found.Refused refusal) = refused_line refusal
-text_of (found.Ended net outcome) = outcome_text net outcome
+abbrev pub text_of : Ask → Findings → List ℕ
+text_of ask (found.Refused refusal) = refused_line refusal
+text_of ask found.NoPlace = no_place_line (place_text ask)
+text_of ask (found.Ended net outcome told) = outcome_text net outcome told
 
 -- The text is written and its status answered; or a front of it, where the sink failed; or nothing, where memory ran out.
 abbrev pub IsPut : Status → List ℕ → Status → Option (List ℕ) → Option (List ℕ) → Type 0
 IsPut status text answer old new = ((answer ≡ status) × (new ≡ appended old text)) ⊎ ((answer ≡ Sink) × AppendsFront old new text) ⊎ ((answer ≡ Memory) × (new ≡ old))
 
 -- What the files of a folder give is put; or nothing is written, where reading failed or memory ran out.
-abbrev pub IsAnswer : List ℕ → List File → Limits → Status → Option (List ℕ) → Option (List ℕ) → Type 0
-IsAnswer dir files limits answer old new = ((f : Findings) × AreFindings dir files limits f × IsPut (status_of f) (text_of f) answer old new) ⊎ ((answer ≡ Source) × (new ≡ old)) ⊎ ((answer ≡ Memory) × (new ≡ old))
+abbrev pub IsAnswer : List File → Request → Status → Option (List ℕ) → Option (List ℕ) → Type 0
+IsAnswer files r answer old new = ((f : Findings) × AreFindings files r f × IsPut (status_of f) (text_of r.ask f) answer old new) ⊎ ((answer ≡ Source) × (new ≡ old)) ⊎ ((answer ≡ Memory) × (new ≡ old))
 
 -- the statuses with which nothing is written
 abbrev pub IsSilent : Status → Type 0
@@ -59,13 +98,13 @@ IsSilent Memory = Unit {0}
 IsSilent _ = ⊥
 
 -- the text is written whole with its status, unless memory runs out
-abbrev pub IsComplete : List ℕ → List File → Limits → Status → Option (List ℕ) → Option (List ℕ) → Type 0
-IsComplete dir files limits answer old new = (answer ≡ Memory) ⊎ ((f : Findings) × AreFindings dir files limits f × (answer ≡ status_of f) × (new ≡ appended old (text_of f)))
+abbrev pub IsComplete : List File → Request → Status → Option (List ℕ) → Option (List ℕ) → Type 0
+IsComplete files r answer old new = (answer ≡ Memory) ⊎ ((f : Findings) × AreFindings files r f × (answer ≡ status_of f) × (new ≡ appended old (text_of r.ask f)))
 
 -- without a fault of the folder or the sink
-pub record IsCompleteWithout (source sink : Type 0) (dir : List ℕ) (files : List File) (limits : Limits) (answer : Status) (old new : Option (List ℕ)) : Type 0 where
-  pub whole : ¬ source → ¬ sink → IsComplete dir files limits answer old new
+pub record IsCompleteWithout (source sink : Type 0) (files : List File) (r : Request) (answer : Status) (old new : Option (List ℕ)) : Type 0 where
+  pub whole : ¬ source → ¬ sink → IsComplete files r answer old new
 
--- the files of a folder give one thing within limits, so their answer is one
+-- the files of a folder give one thing to a request, so their answer is one
 abbrev pub HasOneAnswer : Type 0
-HasOneAnswer = (dir : List ℕ) (files : List File) (limits : Limits) (this that : Findings) → AreFindings dir files limits this → AreFindings dir files limits that → this ≡ that
+HasOneAnswer = (files : List File) (r : Request) (this that : Findings) → AreFindings files r this → AreFindings files r that → this ≡ that

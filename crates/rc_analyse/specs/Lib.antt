@@ -1,4 +1,5 @@
 pub mod Codes
 pub mod Net
+pub mod Subject
 pub mod Texts
 pub mod Answer

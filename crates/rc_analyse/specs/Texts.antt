@@ -7,9 +7,12 @@ use Rattle.rc_network.specs.Codes.{net_code}
 use Rattle.rc_network.specs.declared.refusal.NetRefusal.{NetRefusal}
 use Rattle.rc_network.specs.declared.refusal.NetRefusal.TheVariants.{InFile, TooManyFiles}
 use Rattle.rc_report.specs.RouteText.{routes_text}
+use Rattle.rc_report.specs.WalkText.{walk_text}
 use Rattle.rc_rounds.specs.declared.outcome.Outcome.{Outcome}
 use Rattle.rc_rounds.specs.declared.outcome.Outcome.TheVariants.{Fixed, Repeats, Limit}
 use Rattle.rc_route.specs.declared.state.RouterState.{RouterState}
+use Rattle.rc_analyse.specs.declared.findings.Told.{Told}
+use Rattle.rc_analyse.specs.declared.findings.Told.TheVariants.{Nothing, AllRoutes, RoutesOf, WalkOf}
 
 unfoldable pub usage_text : List ℕ
 usage_text = codes "usage: netcheck routes DIR [--router R]\n"
@@ -21,6 +24,10 @@ usage_text = codes "usage: netcheck routes DIR [--router R]\n"
 unfoldable pub refused_line : NetRefusal → List ℕ
 refused_line TooManyFiles = codes "refused folder: 10\n"
 refused_line (InFile file line cause) = codes "refused " ++ file ++ codes ":" ++ decimal line ++ codes ": " ++ decimal (net_code cause) ++ codes "\n"
+
+-- the text that names no router or interface
+unfoldable pub no_place_line : List ℕ → List ℕ
+no_place_line text = codes "no place " ++ text ++ codes "\n"
 
 -- the first line of an answer that is no refusal
 unfoldable pub outcome_line : Outcome → List ℕ
@@ -42,5 +49,18 @@ routes_after net (Fixed k state) = all_routes net state
 routes_after net (Repeats i k) = []
 routes_after net (Limit n) = []
 
-abbrev pub outcome_text : Network → Outcome → List ℕ
-outcome_text net outcome = outcome_line outcome ++ routes_after net outcome
+-- those of one router
+abbrev pub routes_of_after : Network → Outcome → ℕ → List ℕ
+routes_of_after net (Fixed k state) r = routes_in net state r
+routes_of_after net (Repeats i k) r = []
+routes_of_after net (Limit n) r = []
+
+abbrev pub told_text : Network → Outcome → Told → List ℕ
+told_text net outcome Nothing = []
+told_text net outcome AllRoutes = routes_after net outcome
+told_text net outcome (RoutesOf r) = routes_of_after net outcome r
+told_text net outcome (WalkOf walk) = walk_text net walk
+
+-- the outcome, and what is told after it
+abbrev pub outcome_text : Network → Outcome → Told → List ℕ
+outcome_text net outcome told = outcome_line outcome ++ told_text net outcome told

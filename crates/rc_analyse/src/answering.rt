@@ -3,7 +3,7 @@ ghost use Rattle.std.specs.Prelude.{◌≡◌, ◌≢◌, ◌<◌, IsTrue, IfSom
 ghost use Rattle.rc_outside.specs.Causes.{Rose};
 ghost use Rattle.rc_words.specs.Request.{AreInRange};
 ghost use Rattle.rc_analyse.specs.Texts.{usage_text};
-ghost use Rattle.rc_analyse.specs.Answer.{IsPut, IsAnswer, IsCompleteWithout, IsSilent, status_of, status_after, text_of};
+ghost use Rattle.rc_analyse.specs.Answer.{IsPut, IsAnswer, IsCompleteWithout, IsSilent, dir_of, status_of, status_after, text_of};
 
 use crate::Status;
 use crate::findings::{Findings, analyse_folder};
@@ -11,7 +11,7 @@ use crate::writing::{put_findings, put_usage};
 use rc_outside::{Folder, Gate, Sink, SourceError};
 use rc_report::Buffer;
 use rc_rounds::Outcome;
-use rc_words::Limits;
+use rc_words::{Ask, Request};
 use std::alloc::{AllocGlobal, Global};
 use std::thread::Threads;
 
@@ -46,13 +46,14 @@ fn status_of(found: &Findings) -> Status
 {
     match found {
         Findings::Refused(_) => Status::Refused,
-        Findings::Ended(_, outcome) => status_after(outcome),
+        Findings::NoPlace => Status::NoPlace,
+        Findings::Ended(_, outcome, _) => status_after(outcome),
     }
 }
 
 /// Answers what the files of a folder give. All of its memory is taken before the first line is put.
-fn answer_findings<S: Sink>(alloc: Global, found: &Findings, out: &mut S) -> Status
-    ensures put { IsPut (status_of found.now) (text_of found.now) result (S.told out.old) (S.told out.new) }
+fn answer_findings<S: Sink>(alloc: Global, ask: &Ask, found: &Findings, out: &mut S) -> Status
+    ensures put { IsPut (status_of found.now) (text_of ask.now found.now) result (S.told out.old) (S.told out.new) }
     ensures sink_only { result ≡ Status.Sink → Rose (S.faults out.old) (S.faults out.new) }
     ensures sink_always { S.faults out.old < S.faults out.new → result ≡ Status.Sink }
 {
@@ -60,26 +61,25 @@ fn answer_findings<S: Sink>(alloc: Global, found: &Findings, out: &mut S) -> Sta
         Ok(line) => line,
         Err(_) => return Status::Memory,
     };
-    match put_findings(out, &mut line, found) {
+    match put_findings(out, &mut line, ask, found) {
         Ok(()) => status_of(found),
         Err(_) => Status::Sink,
     }
 }
 
-/// Answers over the files of a folder, within these limits.
+/// Answers a request over the files of its folder.
 #[tactic(auto, using(crate::proofs::AnswerLaws::complete_where_told))]
 pub(crate) fn answer_folder<R: Threads + Sync + AllocGlobal, F: Folder, S: Sink, G: Gate>(
     rt: &R,
-    dir: &str,
-    limits: &Limits,
+    request: &Request,
     folder: &mut F,
     out: &mut S,
     gate: &G,
 ) -> Status
-    requires allowed { IsTrue (F.allows folder.old dir.now) }
-    requires limits { AreInRange limits.now }
-    ensures answer { IfSome (F.told folder.old) (λ files. IsAnswer dir.now files limits.now result (S.told out.old) (S.told out.new)) }
-    ensures complete { IfSome (F.told folder.old) (λ files. IsCompleteWithout (Rose (F.faults folder.old) (F.faults folder.new)) (Rose (S.faults out.old) (S.faults out.new)) dir.now files limits.now result (S.told out.old) (S.told out.new)) }
+    requires allowed { IsTrue (F.allows folder.old (dir_of request.now.ask)) }
+    requires limits { AreInRange request.now.limits }
+    ensures answer { IfSome (F.told folder.old) (λ files. IsAnswer files request.now result (S.told out.old) (S.told out.new)) }
+    ensures complete { IfSome (F.told folder.old) (λ files. IsCompleteWithout (Rose (F.faults folder.old) (F.faults folder.new)) (Rose (S.faults out.old) (S.faults out.new)) files request.now result (S.told out.old) (S.told out.new)) }
     ensures never_usage { result ≢ Status.Usage }
     ensures silent { IsSilent result → S.told out.new ≡ S.told out.old }
     ensures source_only { result ≡ Status.Source → Rose (F.faults folder.old) (F.faults folder.new) }
@@ -87,8 +87,8 @@ pub(crate) fn answer_folder<R: Threads + Sync + AllocGlobal, F: Folder, S: Sink,
     ensures sink_only { result ≡ Status.Sink → Rose (S.faults out.old) (S.faults out.new) }
     ensures sink_always { S.faults out.old < S.faults out.new → result ≡ Status.Sink }
 {
-    match analyse_folder(rt, dir, limits, folder, gate) {
-        Ok(found) => answer_findings(rt.alloc(), &found, out),
+    match analyse_folder(rt, request, folder, gate) {
+        Ok(found) => answer_findings(rt.alloc(), &request.ask, &found, out),
         Err(SourceError::Failed) => Status::Source,
         Err(SourceError::Memory) => Status::Memory,
     }

@@ -8,7 +8,7 @@ ghost use Rattle.rc_analyse.specs.Answer.{dir_of, IsPut, IsAnswer, IsSilent, IsC
 use crate::Status;
 use crate::answering::{answer_folder, answer_usage};
 use rc_outside::{Folder, Gate, Sink};
-use rc_words::{Ask, WordsFault, plain_words_are_taken, request_of_words};
+use rc_words::{WordsFault, plain_words_are_taken, request_of_words};
 use std::alloc::AllocGlobal;
 use std::thread::Threads;
 
@@ -31,24 +31,25 @@ pub fn run<R: Threads + Sync + AllocGlobal, F: Folder, S: Sink, G: Gate>(
     out: &mut S,
     gate: &G,
 ) -> Status
-    requires { IfSome (request_of (map (λ w. w.now) words.now)) (λ r. IsTrue (F.allows folder.old (dir_of r))) }
+    requires { IfSome (request_of (map (λ w. w.now) words.now)) (λ r. IsTrue (F.allows folder.old (dir_of r.ask))) }
 
-    // Words that clap refuses get the usage text, and no others do.
+    // Words that clap refuses, or in which a place or an address isn't read, get the usage text, and no others do.
     ensures usage { IfNone (request_of (map (λ w. w.now) words.now)) (IsPut Status.Usage usage_text result (S.told out.old) (S.told out.new)) }
     ensures usage_only { result ≡ Status.Usage → IsNone (request_of (map (λ w. w.now) words.now)) }
 
-    // Plain words are taken, with the values that they say and else the defaults.
+    // Plain words are taken, with the values that they say and else the defaults, where their place and addresses are read.
     ensures plain { IsTakenWhenPlain (map (λ w. w.now) words.now) }
 
-    // Where the files are told, the text and the status are those of the first refusal, or of the rounds' outcome.
-    ensures answer { IfSome (request_of (map (λ w. w.now) words.now)) (λ r. IfSome (F.told folder.old) (λ files. IsAnswer (dir_of r) files r.limits result (S.told out.old) (S.told out.new))) }
+    // Where the files are told, the text and the status are those of the first refusal, or of the place that isn't there, or of
+    // the rounds' outcome with the routes or the walk that are asked for.
+    ensures answer { IfSome (request_of (map (λ w. w.now) words.now)) (λ r. IfSome (F.told folder.old) (λ files. IsAnswer files r result (S.told out.old) (S.told out.new))) }
 
     // Where reading or memory failed, nothing is written.
     ensures silent { IsSilent result → S.told out.new ≡ S.told out.old }
 
     // Without a fault the whole text is written, unless memory runs out.
     ensures complete { IfSome (request_of (map (λ w. w.now) words.now)) (λ r. IfSome (F.told folder.old) (λ files.
-        IsCompleteWithout (Rose (F.faults folder.old) (F.faults folder.new)) (Rose (S.faults out.old) (S.faults out.new)) (dir_of r) files r.limits result (S.told out.old) (S.told out.new))) }
+        IsCompleteWithout (Rose (F.faults folder.old) (F.faults folder.new)) (Rose (S.faults out.old) (S.faults out.new)) files r result (S.told out.old) (S.told out.new))) }
 
     ensures source_only { result ≡ Status.Source → Rose (F.faults folder.old) (F.faults folder.new) }
     ensures source_always { F.faults folder.old < F.faults folder.new → result ≡ Status.Source }
@@ -61,7 +62,5 @@ pub fn run<R: Threads + Sync + AllocGlobal, F: Folder, S: Sink, G: Gate>(
         Err(WordsFault::Usage) => return answer_usage(rt.alloc(), out),
         Err(WordsFault::Memory) => return Status::Memory,
     };
-    match &request.ask {
-        Ask::Routes { dir } => answer_folder(rt, dir.as_str(), &request.limits, folder, out, gate),
-    }
+    answer_folder(rt, &request, folder, out, gate)
 }

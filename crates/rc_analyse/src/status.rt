@@ -20,12 +20,14 @@ pub enum Status {
     Sink,
     /// Memory ran out; nothing is written.
     Memory,
+    /// The network has no router or interface of the name that is asked for; the line that says so is written.
+    NoPlace,
 }
 
 impl Status {
     ghost use Rattle.rc_analyse.specs.Codes.{status_code};
 
-    /// The exit status of the process: 0 to 4, 6, 7 or 8.
+    /// The exit status of the process: 0 to 4, or 6 to 9.
     pub fn code(self) -> u8
         ensures { result ≡ status_code self }
     {
@@ -38,6 +40,7 @@ impl Status {
             Status::Source => 6,
             Status::Sink => 7,
             Status::Memory => 8,
+            Status::NoPlace => 9,
         }
     }
 }

@@ -6,6 +6,8 @@ use std::process::Abort;
 use std::test::Fail;
 use std::thread::Threads;
 
+mod traces;
+
 const BASE: &str =
     "hostname R1\ninterface GigabitEthernet0/0\n ip address 10.0.0.1 255.255.255.0\n";
 
@@ -441,7 +443,10 @@ fn words_that_are_not_taken(rt: HostRuntime) -> Result<(), Fail> {
     check_usage(&rt, &["routes", "d", "--nodes", "15"])?;
     check_usage(&rt, &["routes", "d", "--rounds"])?;
     check_usage(&rt, &["routes", "d", "--rounds", "7", "--rounds", "7"])?;
-    check_usage(&rt, &["routes", "d", "--router", "R1"])?;
+    check_usage(&rt, &["routes", "d", "--from", "R1"])?;
+    check_usage(&rt, &["trace", "d", "--from", "R1"])?;
+    check_usage(&rt, &["trace", "d", "--from", "R1:", "--dst", "1.2.3.4"])?;
+    check_usage(&rt, &["trace", "d", "--from", "R1", "--dst", "1.2.3"])?;
     Ok(())
 }
 

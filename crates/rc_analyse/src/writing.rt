@@ -1,19 +1,22 @@
 //! Texts go to the sink line by line.
-ghost use Rattle.std.specs.Prelude.{◌≡◌, ◌≤◌, ◌⊎◌, ◌<◌, flat_map, OnOk, OnErr};
+ghost use Rattle.std.specs.Prelude.{◌≡◌, ◌≤◌, ◌++◌, [], flat_map, OnOk, OnErr};
+ghost use Rattle.std.specs.Option.{option_map_or};
 ghost use Rattle.rc_outside.specs.Causes.{Rose};
 ghost use Rattle.rc_outside.specs.Sink.{appended, AppendsFront};
 ghost use Rattle.rc_report.specs.Parts.{part_text};
-ghost use Rattle.rc_analyse.specs.Texts.{usage_text, refused_line, outcome_line, routes_in, all_routes, routes_after, outcome_text};
+ghost use Rattle.rc_analyse.specs.Texts.{usage_text, refused_line, no_place_line, outcome_line, routes_in, all_routes, routes_after, routes_of_after, told_text, outcome_text};
+ghost use Rattle.rc_analyse.specs.Subject.{behind_colon, place_text};
 ghost use Rattle.rc_analyse.specs.Answer.{text_of};
 
-use crate::Findings;
+use crate::{Findings, Told};
 use rc_base::{FileName, RouterId};
 use rc_config::Network;
 use rc_network::{NetCause, NetRefusal};
 use rc_outside::Sink;
-use rc_report::{Buffer, Part, SinkFault, put_line, put_routes};
+use rc_report::{Buffer, Part, SinkFault, put_line, put_routes, put_walk};
 use rc_rounds::Outcome;
 use rc_route::State;
+use rc_words::{Ask, PlaceName, WordText};
 
 /// Puts a line of bytes as they are.
 fn put_text<S: Sink>(out: &mut S, line: &mut Buffer, text: &[u8]) -> Result<(), SinkFault>
@@ -200,39 +203,151 @@ fn put_routes_after<S: Sink>(
     }
 }
 
-/// Puts an outcome and the routes after it.
+/// Puts the routes of one router after an outcome, which are those of its fixed point.
+fn put_routes_of_after<S: Sink>(
+    out: &mut S,
+    line: &mut Buffer,
+    net: &Network,
+    outcome: &Outcome,
+    router: RouterId,
+) -> Result<(), SinkFault>
+    ensures ok { OnOk result (S.told out.new ≡ appended (S.told out.old) (routes_of_after net.now outcome.now router)) }
+    ensures err { OnErr result (AppendsFront (S.told out.old) (S.told out.new) (routes_of_after net.now outcome.now router)) }
+    ensures left { OnOk result (S.faults out.new ≡ S.faults out.old) }
+    ensures later { S.faults out.old ≤ S.faults out.new }
+    ensures cause { OnErr result (Rose (S.faults out.old) (S.faults out.new)) }
+{
+    match outcome {
+        Outcome::Fixed(_, state) => put_routes_at(out, line, net, state, router.index()),
+        Outcome::Repeats(_, _) => Ok(()),
+        Outcome::Limit(_) => Ok(()),
+    }
+}
+
+/// Puts what follows an outcome.
+fn put_told<S: Sink>(
+    out: &mut S,
+    line: &mut Buffer,
+    net: &Network,
+    outcome: &Outcome,
+    told: &Told,
+) -> Result<(), SinkFault>
+    ensures ok { OnOk result (S.told out.new ≡ appended (S.told out.old) (told_text net.now outcome.now told.now)) }
+    ensures err { OnErr result (AppendsFront (S.told out.old) (S.told out.new) (told_text net.now outcome.now told.now)) }
+    ensures left { OnOk result (S.faults out.new ≡ S.faults out.old) }
+    ensures later { S.faults out.old ≤ S.faults out.new }
+    ensures cause { OnErr result (Rose (S.faults out.old) (S.faults out.new)) }
+{
+    match told {
+        Told::Nothing => Ok(()),
+        Told::AllRoutes => put_routes_after(out, line, net, outcome),
+        Told::RoutesOf(router) => put_routes_of_after(out, line, net, outcome, *router),
+        Told::WalkOf(walk) => put_walk(out, line, net, walk),
+    }
+}
+
+/// Puts an outcome and what follows it.
 fn put_ended<S: Sink>(
     out: &mut S,
     line: &mut Buffer,
     net: &Network,
     outcome: &Outcome,
+    told: &Told,
 ) -> Result<(), SinkFault>
-    ensures ok { OnOk result (S.told out.new ≡ appended (S.told out.old) (outcome_text net.now outcome.now)) }
-    ensures err { OnErr result (AppendsFront (S.told out.old) (S.told out.new) (outcome_text net.now outcome.now)) }
+    ensures ok { OnOk result (S.told out.new ≡ appended (S.told out.old) (outcome_text net.now outcome.now told.now)) }
+    ensures err { OnErr result (AppendsFront (S.told out.old) (S.told out.new) (outcome_text net.now outcome.now told.now)) }
     ensures left { OnOk result (S.faults out.new ≡ S.faults out.old) }
     ensures later { S.faults out.old ≤ S.faults out.new }
     ensures cause { OnErr result (Rose (S.faults out.old) (S.faults out.new)) }
 {
     match put_outcome(out, line, outcome) {
-        Ok(()) => put_routes_after(out, line, net, outcome),
+        Ok(()) => put_told(out, line, net, outcome, told),
         Err(fault) => Err(fault),
     }
 }
 
-/// Puts what the files of a folder give.
+/// What stands in the line of a place that isn't there, by its names. What it doesn't have is an empty text.
+#[tactic(auto, unfolding(crate::specs::Texts::no_place_line))]
+fn named_parts(place: &PlaceName) -> [Part<'_>; 5]
+    ensures { flat_map part_text result ≡ no_place_line (place.now.router ++ behind_colon place.now.interface) }
+{
+    match &place.interface {
+        None => [
+            Part::Text(b"no place "),
+            Part::Text(place.router.as_bytes()),
+            Part::Text(b""),
+            Part::Text(b""),
+            Part::Text(b"\n"),
+        ],
+        Some(interface) => [
+            Part::Text(b"no place "),
+            Part::Text(place.router.as_bytes()),
+            Part::Text(b":"),
+            Part::Text(interface.as_bytes()),
+            Part::Text(b"\n"),
+        ],
+    }
+}
+
+/// The text of a router that isn't there.
+fn router_text(router: &Option<WordText>) -> &[u8]
+    ensures { result.now ≡ option_map_or (λ text. text) router.now [] }
+{
+    match router {
+        None => &[],
+        Some(text) => text.as_str().as_bytes(),
+    }
+}
+
+/// What stands in the line of a place that isn't there.
+#[tactic(auto, unfolding(crate::specs::Texts::no_place_line))]
+fn no_place_parts(ask: &Ask) -> [Part<'_>; 5]
+    ensures { flat_map part_text result ≡ no_place_line (place_text ask.now) }
+{
+    match ask {
+        Ask::Routes { dir: _, router } => [
+            Part::Text(b"no place "),
+            Part::Text(router_text(router)),
+            Part::Text(b"\n"),
+            Part::Text(b""),
+            Part::Text(b""),
+        ],
+        Ask::Trace {
+            dir: _,
+            place,
+            header: _,
+        } => named_parts(place),
+    }
+}
+
+/// Puts the line of a place that isn't there.
+fn put_no_place<S: Sink>(out: &mut S, line: &mut Buffer, ask: &Ask) -> Result<(), SinkFault>
+    ensures ok { OnOk result (S.told out.new ≡ appended (S.told out.old) (no_place_line (place_text ask.now))) }
+    ensures err { OnErr result (AppendsFront (S.told out.old) (S.told out.new) (no_place_line (place_text ask.now))) }
+    ensures left { OnOk result (S.faults out.new ≡ S.faults out.old) }
+    ensures later { S.faults out.old ≤ S.faults out.new }
+    ensures cause { OnErr result (Rose (S.faults out.old) (S.faults out.new)) }
+{
+    let parts = no_place_parts(ask);
+    put_line(out, line, &parts)
+}
+
+/// Puts what the files of a folder give to what is asked.
 pub(crate) fn put_findings<S: Sink>(
     out: &mut S,
     line: &mut Buffer,
+    ask: &Ask,
     found: &Findings,
 ) -> Result<(), SinkFault>
-    ensures ok { OnOk result (S.told out.new ≡ appended (S.told out.old) (text_of found.now)) }
-    ensures err { OnErr result (AppendsFront (S.told out.old) (S.told out.new) (text_of found.now)) }
+    ensures ok { OnOk result (S.told out.new ≡ appended (S.told out.old) (text_of ask.now found.now)) }
+    ensures err { OnErr result (AppendsFront (S.told out.old) (S.told out.new) (text_of ask.now found.now)) }
     ensures left { OnOk result (S.faults out.new ≡ S.faults out.old) }
     ensures later { S.faults out.old ≤ S.faults out.new }
     ensures cause { OnErr result (Rose (S.faults out.old) (S.faults out.new)) }
 {
     match found {
         Findings::Refused(refusal) => put_refusal(out, line, refusal),
-        Findings::Ended(net, outcome) => put_ended(out, line, net, outcome),
+        Findings::NoPlace => put_no_place(out, line, ask),
+        Findings::Ended(net, outcome, told) => put_ended(out, line, net, outcome, told),
     }
 }

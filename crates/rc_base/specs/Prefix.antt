@@ -1,6 +1,6 @@
 -- Prefixes of IPv4 addresses (RFC 4632 s.3.1).
 use Rattle.std.specs.Prelude.{◌≡◌, ℕ, ◌-◌, ◌*◌, ◌^◌, ◌≤◌, Bool, ◌&&◌, ◌==◌, nat_le, List, [], ◌∷◌, ◌++◌, codes, decimal}
-use Rattle.std.specs.Ordering.{nat_cmp}
+use Rattle.std.specs.Ordering.{nat_cmp, eq_by_cmp}
 use Rattle.std.specs.Cmp.Lexicographic.{slice_cmp}
 use Rattle.std.specs.declared.cmp.Ordering.{Ordering}
 use Rattle.rc_base.specs.Addr.{leading_bits, dotted}
@@ -33,6 +33,10 @@ prefix_key p = p.network ∷ p.len ∷ []
 
 abbrev pub prefix_cmp : Cidr → Cidr → Ordering
 prefix_cmp p q = slice_cmp nat_cmp (prefix_key p) (prefix_key q)
+
+-- one address and one length
+abbrev pub same_prefix : Cidr → Cidr → Bool
+same_prefix = eq_by_cmp prefix_cmp
 
 -- the address, a slash and the length
 unfoldable pub prefix_text : Cidr → List ℕ

@@ -1,8 +1,8 @@
 //! Addresses, prefixes, names, headers, positions and endings: the words that every other crate speaks in.
 //!
 //! It stands on no crate of this repository. The layer above knows each type by what it means: an address is a
-//! number below 2^32, a prefix a network and a length, a name its bytes, a list its elements. No call here takes
-//! memory but `Items::push`.
+//! number below 2^32, a prefix a network and a length, a name its bytes, a list its elements, and what stands under prefixes
+//! as rows in order of prefix. No call here takes memory but those that put one thing more into a list or under a prefix.
 #![tactic(auto)]
 
 mod addr;
@@ -14,6 +14,8 @@ mod name;
 mod origin;
 mod place;
 mod prefix;
+mod prefix_index;
+mod prefix_map;
 
 pub use addr::{Addr, len_of, mask_of};
 pub use ending::{Ends, Kind};
@@ -24,6 +26,8 @@ pub use name::Name;
 pub use origin::Origin;
 pub use place::{IfId, Pos, RouterId};
 pub use prefix::Prefix;
+pub use prefix_index::PrefixIndex;
+pub use prefix_map::PrefixMap;
 
 #[cfg(test)]
 mod tests;

@@ -45,7 +45,7 @@ pub struct IfId {
 }
 
 /// Where a packet is: at a router that sends it by itself, or entering a router by an interface.
-#[derive(Clone, Copy, Debug, PartialEq, Eq)]
+#[derive(Clone, Copy, Debug, PartialEq, Eq, Hash)]
 pub enum Pos {
     Own(RouterId),
     Entering(IfId),

@@ -1,5 +1,8 @@
 //! What the types mean, by examples from outside.
-use crate::{Addr, Ends, FileName, Items, Kind, Name, Pos, Prefix, RouterId, len_of, mask_of};
+use crate::{
+    Addr, Ends, FileName, IfId, Items, Kind, Name, Pos, Prefix, PrefixIndex, PrefixMap, RouterId,
+    len_of, mask_of,
+};
 use std::process::Abort;
 use std::test::Fail;
 
@@ -96,4 +99,43 @@ fn sets_of_endings(rt: HostRuntime) {
     assert!(rt; ends.has(Kind::Accepted));
     assert!(rt; ends.has(Kind::Delivered));
     assert!(rt; !ends.has(Kind::Exits));
+}
+
+fn device(router: usize, index: usize) -> IfId {
+    IfId {
+        router: RouterId::at(router),
+        index,
+    }
+}
+
+#[test]
+fn interfaces_by_prefix(rt: HostRuntime) -> Result<(), Fail> {
+    let first = Prefix::new(Addr::new(0x0a00_0100), 24).ok_or("/24")?;
+    let second = Prefix::new(Addr::new(0x0a00_0100), 25).ok_or("/25")?;
+    let mut index = PrefixIndex::new(rt.alloc());
+    index.add(second, device(0, 1))?;
+    index.add(first, device(0, 1))?;
+    index.add(first, device(0, 1))?;
+    index.add(first, device(3, 1))?;
+    assert_eq!(rt;
+        index.members(&first),
+        [device(0, 1), device(3, 1)].as_slice()
+    );
+    assert_eq!(rt; index.members(&second), [device(0, 1)].as_slice());
+    let wide = Prefix::new(Addr::new(0), 0).ok_or("/0")?;
+    assert!(rt; index.members(&wide).is_empty());
+    let rows = index.into_rows();
+    assert_eq!(rt; rows.len(), 2);
+    Ok(())
+}
+
+#[test]
+fn values_by_prefix(rt: HostRuntime) -> Result<(), Fail> {
+    let prefix = Prefix::new(Addr::new(0x0a00_0100), 24).ok_or("/24")?;
+    let mut map = PrefixMap::new(rt.alloc());
+    assert_eq!(rt; map.insert(prefix, 7)?, None);
+    assert_eq!(rt; map.insert(prefix, 9)?, Some(7));
+    assert_eq!(rt; map.get(&prefix), Some(&9));
+    assert_eq!(rt; map.into_rows().len(), 1);
+    Ok(())
 }

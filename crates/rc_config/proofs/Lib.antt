@@ -2,3 +2,4 @@ pub mod NamedLaws
 mod LawfulLaws
 pub mod OrderLaws
 pub mod DownLaws
+pub mod FilterLaws

@@ -9,3 +9,6 @@ pub mod Rows
 pub mod Place
 pub mod Down
 pub mod DownRows
+pub mod FilterPorts
+pub mod Filter
+pub mod FilterRows

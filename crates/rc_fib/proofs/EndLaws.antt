@@ -1,13 +1,14 @@
 -- Each hop of an address says where a packet goes: no gateway without an interface is left.
-use Rattle.std.proofs.Common.{refl, ◌≡◌, ℕ, zero, suc, true, false, cond, List, [], ◌∷◌, ◌++◌, All, Some, None}
+use Rattle.std.proofs.Common.{refl, ◌≡◌, ℕ, zero, suc, true, false, cond, List, [], ◌∷◌, ◌++◌, All, map, Some, None}
 use Rattle.std.specs.List.{AllByRecursion, flat_map, fold, list_any}
 use Rattle.std.specs.Option.{option_map_or}
 use Rattle.std.proofs.lemmas.List.Elements.{All-append, All-cons, All-map, All-nil, All-push, All-weaker, recursion_from_All}
+use Rattle.indexmap.specs.IndexSet.{insert_key}
 use Rattle.rc_route.specs.declared.route.Hop.{Hop}
 use Rattle.rc_route.specs.declared.route.Hop.TheVariants.{Null, Dev, Via}
 use Rattle.rc_route.specs.declared.route.Route.{Route}
-use Rattle.rc_fib.specs.Entries.{with_hop}
-use Rattle.rc_fib.specs.Forwarding.{same_hop, is_resolved, with_gateway, resolve_hop, resolve_all, hops_within, hops_of, longest}
+use Rattle.rc_fib.specs.Forwarding.{same_hop, is_resolved, with_gateway, resolve_hop, resolve_all, hops_within, hops_of, longest, resolved}
+use Rattle.rc_fib.specs.declared.entry.Entry.{Entry}
 
 abbrev IsResolved : Hop → Type 0
 IsResolved hop = is_resolved hop ≡ true
@@ -15,13 +16,13 @@ IsResolved hop = is_resolved hop ≡ true
 one : (hop : Hop) → IsResolved hop → All IsResolved (hop ∷ [])
 one hop h = All-cons IsResolved hop [] h (All-nil IsResolved)
 
-with_hop-resolved : (hops : List Hop) (hop : Hop) → All IsResolved hops → IsResolved hop → All IsResolved (with_hop hops hop)
-with_hop-resolved hops hop all h =
+insert-resolved : (hops : List Hop) (hop : Hop) → All IsResolved hops → IsResolved hop → All IsResolved (insert_key same_hop hops hop)
+insert-resolved hops hop all h =
     elim (list_any (same_hop hop) hops) as (λ b. All IsResolved (cond b hops (hops ++ hop ∷ []))) [ true ↦ all | false ↦ All-push IsResolved hops hop all h ]
 
-fold-resolved : (xs hops : List Hop) → All IsResolved hops → AllByRecursion IsResolved xs → All IsResolved (fold with_hop hops xs)
+fold-resolved : (xs hops : List Hop) → All IsResolved hops → AllByRecursion IsResolved xs → All IsResolved (fold (insert_key same_hop) hops xs)
 fold-resolved [] hops all h = all
-fold-resolved (x ∷ xs) hops all h = fold-resolved xs (with_hop hops x) (with_hop-resolved hops x all h.0) h.1
+fold-resolved (x ∷ xs) hops all h = fold-resolved xs (insert_key same_hop hops x) (insert-resolved hops x all h.0) h.1
 
 through : (g : ℕ) (hop : Hop) → IsResolved hop → IsResolved (with_gateway g hop)
 through g Null h = refl
@@ -56,3 +57,14 @@ hops_within-resolved table (suc depth) a =
 -- the hops of an address are null or name an interface
 pub hops_of-resolved : (table : List Route) (a : ℕ) → All (λ hop. is_resolved hop ≡ true) (hops_of table a)
 hops_of-resolved table a = hops_within-resolved table 16 a
+
+entries-resolved : (all table : List Route) → All (λ (e : Entry). All IsResolved e.hops) (map (λ (r : Route). record { prefix = r.prefix; hops = resolve_all (hops_within all 15) r.hops }) table)
+entries-resolved all [] = All-nil (λ (e : Entry). All IsResolved e.hops)
+entries-resolved all (r ∷ rs) =
+    All-cons (λ (e : Entry). All IsResolved e.hops) (record { prefix = r.prefix; hops = resolve_all (hops_within all 15) r.hops })
+    (map (λ (x : Route). record { prefix = x.prefix; hops = resolve_all (hops_within all 15) x.hops }) rs)
+    (all-resolved (hops_within all 15) (hops_within-resolved all 15) r.hops) (entries-resolved all rs)
+
+-- so are the hops of each entry of a resolved table
+pub resolved-resolved : (table : List Route) → All (λ (e : Entry). All (λ hop. is_resolved hop ≡ true) e.hops) (resolved table)
+resolved-resolved table = entries-resolved table table

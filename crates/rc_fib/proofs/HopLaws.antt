@@ -1,9 +1,9 @@
 -- The derived `==` of hops and entries is equality, and the test of the definitions is that of hops.
-use Rattle.std.proofs.Common.{refl, ◌≡◌, ap, sym, ℕ, map, Bool, List, [], ◌∷◌, Some, None, ◌&&◌, ◌==◌, rules}
+use Rattle.std.proofs.Common.{refl, ◌≡◌, ap, ℕ, map, Bool, List, [], ◌∷◌, Some, None, ◌&&◌, ◌==◌, rules}
 use Rattle.std.specs.Bool.{Decides}
-use Rattle.std.specs.List.{list_any}
 use Rattle.std.proofs.lemmas.Bool.Decides.{nat_tests, same_from_decides, Decides-and, Decides-like}
 use Rattle.std.specs.Cmp.Lexicographic.{pointwise, pointwise_decides}
+use Rattle.indexmap.specs.IndexSet.{insert_key}
 use Rattle.rc_base.specs.Prefix.{Cidr}
 use Rattle.rc_route.specs.declared.route.Hop.{Hop}
 use Rattle.rc_route.specs.declared.route.Hop.TheVariants.{Null, Dev, Via}
@@ -34,11 +34,12 @@ same_hop-Decides (Via g (Some i)) (Dev j) = search rules
 same_hop-Decides (Via g (Some i)) (Via h None) = search rules
 same_hop-Decides (Via g (Some i)) (Via h (Some j)) = search (rules, nat_tests)
 
-same_test : (x y : Hop) → hop_impl.eq-value.it y x ≡ same_hop x y
-same_test x y = same_from_decides _ _ (Decides-like _ (λ (e : y ≡ x). sym e) (λ (e : x ≡ y). sym e) (hop-Decides y x)) (same_hop-Decides x y)
+same_test : (x y : Hop) → hop_impl.eq-value.it x y ≡ same_hop x y
+same_test x y = same_from_decides _ _ (hop-Decides x y) (same_hop-Decides x y)
 
-pub same_any : (x : Hop) (hops : List Hop) → list_any (λ y. hop_impl.eq-value.it y x) hops ≡ list_any (same_hop x) hops
-same_any x hops = ap (λ (test : Hop → Bool). list_any test hops) (λ i y. same_test x y i)
+-- hops are told apart in a set as in the definitions
+pub same_insert : (hops : List Hop) (x : Hop) → insert_key hop_impl.eq-value.it hops x ≡ insert_key same_hop hops x
+same_insert hops x = ap (λ (test : Hop → Hop → Bool). insert_key test hops x) (λ i y z. same_test y z i)
 
 -- what a hop resolves to, by its gateway
 pub resolve_by_gateway : (hops : ℕ → List Hop) (hop : Hop) → resolve_hop hops hop ≡ elim (gateway_of hop) [ Some g ↦ map (with_gateway g) (hops g) | None ↦ hop ∷ [] ]

@@ -1,6 +1,5 @@
 -- The entries of a prepared table: their order, and how they are made layer by layer.
-use Rattle.std.specs.Prelude.{◌≡◌, ℕ, ◌-◌, Bool, slice_get, ◌<◌, ◌≤◌, true, List, [], ◌∷◌, ◌++◌, All, map, length, slice_index_or, Option, Some, None, if◌then◌else◌}
-use Rattle.std.specs.List.{list_any}
+use Rattle.std.specs.Prelude.{◌≡◌, ℕ, ◌-◌, Bool, slice_get, ◌<◌, ◌≤◌, true, List, All, map, length, slice_index_or, Option, Some, None}
 use Rattle.std.specs.Option.{option_map_or}
 use Rattle.std.specs.Ordering.{is_lt}
 use Rattle.std.specs.List.Sorted.{IsStrictlySortedBy}
@@ -10,7 +9,7 @@ use Rattle.rc_route.specs.declared.route.Hop.{Hop}
 use Rattle.rc_route.specs.declared.route.Hop.TheVariants.{Null, Dev, Via}
 use Rattle.rc_route.specs.declared.route.Route.{Route}
 use Rattle.rc_fib.specs.declared.entry.Entry.{Entry}
-use Rattle.rc_fib.specs.Forwarding.{same_hop, resolve_all, resolved_hops}
+use Rattle.rc_fib.specs.Forwarding.{resolve_all, resolved_hops}
 
 -- one entry for each prefix, by address, then length; and each prefix is one
 pub record IsInOrder (entries : List Entry) : Type 0 where
@@ -40,10 +39,6 @@ pub record HoldsBelow (entries : List Entry) (a len : ℕ) : Type 0 where
 -- from a place on the entries stand behind each prefix of the address that is shorter
 pub record IsBehind (entries : List Entry) (a len place : ℕ) : Type 0 where
   pub behind : (k : ℕ) (d : Entry) (m : ℕ) → place ≤ k → k < length entries → m < len → prefix_cmp (slice_index_or entries k d).prefix (prefix_at a m) ≡ Greater
-
--- the hops with one more at the end, where it doesn't stand there already
-abbrev pub with_hop : List Hop → Hop → List Hop
-with_hop hops hop = if list_any (same_hop hop) hops then hops else hops ++ hop ∷ []
 
 -- the gateway of a hop that names no interface
 abbrev pub gateway_of : Hop → Option ℕ

@@ -1,32 +1,27 @@
 //! The hops of a route, where other entries give those of its gateways.
 ghost use Rattle.std.specs.Prelude.{◌≡◌, IfOk, OnOk, map};
 ghost use Rattle.std.specs.List.{fold, list_any};
+ghost use Rattle.indexmap.specs.IndexSet.{insert_key};
 ghost use Rattle.rc_fib.specs.Entries as layer;
-ghost use Rattle.rc_fib.specs.Entries.{IsInOrder, with_hop};
+ghost use Rattle.rc_fib.specs.Entries.{IsInOrder};
 ghost use Rattle.rc_fib.specs.Forwarding as spec;
 
 use crate::Entry;
 use crate::longest::hops_of;
-use rc_base::{Addr, Items};
-use rc_route::{Hop, push_hop};
+use indexmap::IndexSet;
+use rc_base::{Addr, IfId, Items};
+use rc_route::Hop;
 use std::alloc::{AllocError, Global};
 
-/// Whether a hop stands among others.
-#[tactic(auto, using(crate::proofs::HopLaws::same_any))]
-fn is_among(hops: &[Hop], hop: &Hop) -> bool
-    ensures { result ≡ list_any (spec.same_hop hop.now) hops.now }
+/// Puts a hop at the end of a set, where it doesn't stand there already.
+#[tactic(auto, using(crate::proofs::HopLaws::same_insert))]
+fn insert_hop(set: &mut IndexSet<Hop>, hop: Hop) -> Result<(), AllocError>
+    ensures { OnOk result (set.new.keys ≡ insert_key spec.same_hop set.old.keys hop) }
 {
-    hops.contains(hop)
-}
-
-/// Puts a hop at the end, where it doesn't stand there already.
-fn push_once(hops: &mut Items<Hop>, hop: &Hop) -> Result<(), AllocError>
-    ensures { OnOk result (hops.new ≡ with_hop hops.old hop.now) }
-{
-    if is_among(hops.as_slice(), hop) {
-        return Ok(());
-    }
-    push_hop(hops, *hop)
+    // The generated proof of an insertion wants each enum within the element named in the function.
+    let _interface: Option<IfId> = None;
+    set.insert(hop)?;
+    Ok(())
 }
 
 /// The hop with a gateway, where it has an interface and no gateway of its own.
@@ -50,26 +45,38 @@ fn gateway_of(hop: &Hop) -> Option<Addr>
 }
 
 /// Puts the hops of a gateway, each once.
-fn push_through(hops: &mut Items<Hop>, gateway: Addr, through: &[Hop]) -> Result<(), AllocError>
-    ensures { OnOk result (hops.new ≡ fold with_hop hops.old (map (spec.with_gateway gateway) through.now)) }
+fn insert_through(set: &mut IndexSet<Hop>, gateway: Addr, through: &[Hop]) -> Result<(), AllocError>
+    ensures { OnOk result (set.new.keys ≡ fold (insert_key spec.same_hop) set.old.keys (map (spec.with_gateway gateway) through.now)) }
 {
     for hop in through {
-        push_once(hops, &with_gateway(hop, gateway))?;
+        insert_hop(set, with_gateway(hop, gateway))?;
     }
     Ok(())
 }
 
 /// Puts what a hop resolves to, each hop once.
 #[tactic(auto, using(crate::proofs::HopLaws::resolve_by_gateway))]
-fn push_resolved(hops: &mut Items<Hop>, entries: &[Entry], hop: &Hop) -> Result<(), AllocError>
+fn insert_resolved(set: &mut IndexSet<Hop>, entries: &[Entry], hop: &Hop) -> Result<(), AllocError>
     requires { IsInOrder entries.now }
-    ensures { OnOk result (hops.new ≡ fold with_hop hops.old (spec.resolve_hop (spec.resolved_hops entries.now) hop.now)) }
+    ensures { OnOk result (set.new.keys ≡ fold (insert_key spec.same_hop) set.old.keys (spec.resolve_hop (spec.resolved_hops entries.now) hop.now)) }
 {
     let gateway = gateway_of(hop);
     match gateway {
-        Some(gateway) => push_through(hops, gateway, hops_of(entries, gateway)),
-        None => push_once(hops, hop),
+        Some(gateway) => insert_through(set, gateway, hops_of(entries, gateway)),
+        None => insert_hop(set, *hop),
     }
+}
+
+/// What hops resolve to, in order, as a set.
+fn resolved_set(alloc: Global, entries: &[Entry], hops: &[Hop]) -> Result<IndexSet<Hop>, AllocError>
+    requires { IsInOrder entries.now }
+    ensures { IfOk result (λ set. set.keys ≡ spec.resolve_all (spec.resolved_hops entries.now) hops.now) }
+{
+    let mut set = IndexSet::new(alloc);
+    for hop in hops {
+        insert_resolved(&mut set, entries, hop)?;
+    }
+    Ok(set)
 }
 
 /// What hops resolve to, in order, without repeats after the first.
@@ -81,11 +88,9 @@ pub(crate) fn resolve(
     requires { IsInOrder entries.now }
     ensures { IfOk result (λ found. found ≡ spec.resolve_all (spec.resolved_hops entries.now) hops.now) }
 {
-    let mut found = Items::new(alloc);
-    for hop in hops {
-        push_resolved(&mut found, entries, hop)?;
-    }
-    Ok(found)
+    let set = resolved_set(alloc, entries, hops)?;
+    let found = Vec::from_slice(alloc, set.as_slice())?;
+    Ok(Items::from_vec(found))
 }
 
 /// Whether a hop names an interface.

@@ -1,5 +1,5 @@
 -- Models that are gathered one by one.
-use Rattle.std.proofs.Common.{◌≡◌, ℕ, ◌≤◌, Bool, false, List, [], ◌∷◌, ◌++◌, map, length, Option, Some, None, is_some, Result, Ok, Err, IsSome, refl, sym, ap, ◌∙◌, subst, append_assoc, append-nil, arith}
+use Rattle.std.proofs.Common.{◌≡◌, ℕ, ◌≤◌, false, List, [], ◌∷◌, ◌++◌, map, length, Option, Some, None, is_some, Ok, Err, IsSome, refl, sym, ap, ◌∙◌, subst, append_assoc, append-nil, arith}
 use Rattle.std.specs.Option.{option_map, option_map_or}
 use Rattle.std.specs.Prelude.{All, IsPermutation}
 use Rattle.std.specs.List.{AllByRecursion}
@@ -9,14 +9,12 @@ use Rattle.std.proofs.lemmas.List.Sorted.{All-permutation, length_permutation}
 use Rattle.rc_config.specs.Named.{named, with_value, AreNamesInOrder}
 use Rattle.rc_config.proofs.NamedLaws.{with_value_new}
 use Rattle.rc_config.specs.Lawful.{IsLawful, IsLawfulFile, IsNamed}
-use Rattle.rc_config.specs.declared.network.Network.{Network}
 use Rattle.rc_config.specs.declared.router_text.HostLine.{HostLine}
 use Rattle.rc_config.specs.declared.router_text.RouterText.{RouterText}
-use Rattle.rc_network.specs.Build.{Model, host_of, under_host, first_twice, twice_from, twice, twice_refusal}
+use Rattle.rc_network.specs.Build.{Model, host_of, under_host, twice_from, twice, twice_refusal}
 use Rattle.rc_network.specs.Step.{Adds, GathersAll}
 use Rattle.rc_network.specs.declared.refusal.BuildError.{BuildError}
 use Rattle.rc_network.specs.declared.refusal.BuildError.TheVariants as error
-use Rattle.rc_network.specs.declared.refusal.NetRefusal.{NetRefusal}
 
 abbrev Routers : Type 0
 Routers = List (List ℕ × RouterText)

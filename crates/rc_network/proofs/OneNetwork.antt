@@ -1,5 +1,5 @@
 -- The models of files have one network: entries in byte order of their names are told by what they are.
-use Rattle.std.proofs.Common.{refl, ◌≡◌, ◌∙◌, sym, ap, subst, ℕ, Bool, true, false, cond, List, [], ◌∷◌, Option, Some, None}
+use Rattle.std.proofs.Common.{refl, ◌≡◌, ◌∙◌, sym, ap, subst, ℕ, Bool, true, false, cond, List, [], ◌∷◌, Some, None}
 use Rattle.std.specs.Cmp.Lexicographic.{bytes_decides, slice_cmp, nat_list_cmp_total}
 use Rattle.std.specs.FinMap.{slice_cmp-IsAntisymmetric, nat_cmp-IsAntisymmetric}
 use Rattle.std.specs.List.{AllByRecursion}
@@ -15,10 +15,9 @@ use Rattle.std.proofs.lemmas.List.Elements.{All-from_recursion, recursion_from_A
 use Rattle.std.proofs.lemmas.List.Sorted.{All-permutation, IsPermutation-sym, IsPermutation-trans}
 use Rattle.std.proofs.lemmas.Option.{none-some}
 use Rattle.rc_base.specs.Name.{same_name}
-use Rattle.rc_config.specs.Named.{named, AreNamesInOrder}
-use Rattle.rc_config.specs.declared.network.Network.{Network}
+use Rattle.rc_config.specs.Named.{named}
 use Rattle.rc_config.specs.declared.router_text.RouterText.{RouterText}
-use Rattle.rc_network.specs.Build.{Model, under_host, IsNetworkOf, HasOneNetwork}
+use Rattle.rc_network.specs.Build.{HasOneNetwork}
 
 abbrev order : List ℕ → List ℕ → Ordering
 order = slice_cmp nat_cmp

@@ -1,5 +1,5 @@
 -- The network of the models of files, in the order of their files' names.
-use Rattle.std.specs.Prelude.{◌≡◌, ℕ, Bool, List, [], ◌∷◌, ◌++◌, map, Option, Some, None, Result, Ok, Err, if◌then◌else◌, is_some, IsPermutation}
+use Rattle.std.specs.Prelude.{◌≡◌, ℕ, List, [], ◌∷◌, ◌++◌, map, Option, Some, None, Result, Ok, Err, if◌then◌else◌, is_some, IsPermutation}
 use Rattle.std.specs.Option.{option_map, option_map_or}
 use Rattle.rc_config.specs.Named.{named, AreNamesInOrder}
 use Rattle.rc_config.specs.declared.network.Network.{Network}

@@ -1,3 +1,4 @@
 pub mod InHand
 pub mod Parts
 pub mod RouteText
+pub mod WalkText

@@ -6,33 +6,12 @@ ghost use Rattle.rc_report.specs.InHand.{HasPut};
 ghost use Rattle.rc_report.specs.Parts.{part_text};
 ghost use Rattle.rc_report.specs.RouteText.{hop_text, interface_name, route_head, route_line, router_line, router_name, routes_text, source_text};
 
+use crate::names::{interface_name, router_name};
 use crate::{Buffer, Part, SinkFault, end_line, put_line, put_parts};
 use rc_base::{Addr, IfId, RouterId};
 use rc_config::Network;
 use rc_outside::Sink;
 use rc_route::{Hop, Route, Source, Table};
-
-/// The host name of a router, empty where the network has none of this place.
-fn router_name(net: &Network, router: RouterId) -> &[u8]
-    ensures { result.now ≡ router_name net.now router }
-{
-    let found = net.routers.at(router.index());
-    match found {
-        Some((name, _)) => name.as_bytes(),
-        None => &[],
-    }
-}
-
-/// The name of an interface, empty where the network has none of this place.
-fn interface_name(net: &Network, interface: IfId) -> &[u8]
-    ensures { result.now ≡ interface_name net.now interface }
-{
-    let found = net.interface_at(interface);
-    match found {
-        Some((name, _)) => name.as_bytes(),
-        None => &[],
-    }
-}
 
 fn source_text(source: Source) -> &'static [u8]
     ensures { result.now ≡ source_text source }

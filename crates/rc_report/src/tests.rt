@@ -1,10 +1,11 @@
 //! Lines, tables and failing sinks, with ample memory.
 
-use crate::{Buffer, Part, SinkFault, end_line, put_line, put_parts, put_routes};
-use rc_base::{Addr, IfId, Items, Name, Prefix, RouterId};
+use crate::{Buffer, Part, SinkFault, end_line, put_line, put_parts, put_routes, put_walk};
+use rc_base::{Addr, IfId, Items, Kind, Name, Pos, Prefix, RouterId};
 use rc_config::{Command, Named, Network, RouterText};
 use rc_outside::MemSink;
 use rc_route::{Hop, Route, Source, Table};
+use rc_walk::{Stop, Walk};
 use std::alloc::{AllocError, Global};
 use std::test::Fail;
 
@@ -189,5 +190,51 @@ fn a_route_may_have_300_hops(rt: HostRuntime) -> Result<(), Fail> {
     let said = put_routes(&mut sink, &mut line, &net, RouterId::at(1), &table);
     assert_eq!(rt; (said, sink.calls), (Ok(()), 4));
     assert_eq!(rt; sink.bytes.as_slice(), expected.as_slice());
+    Ok(())
+}
+
+/// The walk from the router R1 over its interfaces in turn.
+fn walk(alloc: Global, stop: Stop) -> Result<Walk, AllocError> {
+    let router = RouterId::at(0);
+    let mut positions = Items::new(alloc);
+    positions.push(Pos::Own(router))?;
+    positions.push(Pos::Entering(IfId { router, index: 1 }))?;
+    positions.push(Pos::Entering(IfId { router, index: 0 }))?;
+    Ok(Walk { positions, stop })
+}
+
+const POSITIONS: &str = "at R1 self\nat R1 Loopback0\nat R1 Ethernet0\n";
+
+#[test]
+fn a_walk_has_its_positions_and_each_way_to_stop(rt: HostRuntime) -> Result<(), Fail> {
+    let alloc = rt.alloc();
+    let net = network(alloc)?;
+    let mut line = Buffer::new(alloc)?;
+    for (stop, last) in [
+        (Stop::At(Kind::DeniedIn), "end denied-in\n"),
+        (Stop::At(Kind::Accepted), "end accepted\n"),
+        (Stop::At(Kind::NoRoute), "end no-route\n"),
+        (Stop::At(Kind::NullRouted), "end null-routed\n"),
+        (Stop::At(Kind::DeniedOut), "end denied-out\n"),
+        (Stop::At(Kind::Unreachable), "end unreachable\n"),
+        (Stop::At(Kind::Exits), "end exits\n"),
+        (Stop::At(Kind::Delivered), "end delivered\n"),
+        (Stop::Loop, "end loop\n"),
+    ] {
+        let walk = walk(alloc, stop)?;
+        let mut sink = MemSink::new(alloc, 128, Vec::new(alloc))?;
+        let said = put_walk(&mut sink, &mut line, &net, &walk);
+        assert_eq!(rt; (said, sink.calls), (Ok(()), 4), "before {last}");
+        assert!(rt;
+            sink.bytes.as_slice().starts_with(POSITIONS.as_bytes()),
+            "before {last}"
+        );
+        assert_eq!(rt;
+            sink.bytes.len(),
+            POSITIONS.len() + last.len(),
+            "before {last}"
+        );
+        assert!(rt; sink.bytes.as_slice().ends_with(last.as_bytes()), "{last}");
+    }
     Ok(())
 }

@@ -8,16 +8,15 @@ use Rattle.std.specs.declared.cmp.Ordering.{Ordering}
 use Rattle.std.specs.declared.cmp.Ordering.TheVariants.{Less, Equal, Greater}
 use Rattle.std.proofs.lemmas.Option.{none-some}
 use Rattle.rc_base.specs.Lists.{in_order}
-use Rattle.rc_base.specs.Prefix.{Cidr, prefix_cmp}
+use Rattle.rc_base.specs.Prefix.{Cidr, prefix_cmp, same_prefix}
 use Rattle.rc_base.proofs.OrderedLaws.{prefix_cmp_total, same_by_prefix_cmp, in_order-sorted}
 use Rattle.rc_route.specs.Tables.{IsTable}
 use Rattle.rc_route.specs.declared.route.Route.{Route}
 use Rattle.rc_rib.specs.Best.{is_preferred, better, preferred, routes_at, best_routes}
-use Rattle.rc_rib.specs.Connected.{same_prefix}
 use Rattle.std.proofs.lemmas.List.Sums.{fold-append}
-use Rattle.rc_rib.specs.Groups.{grouped, with_thing, value_of, value_at}
+use Rattle.rc_base.specs.Groups.{grouped, with_thing, value_of, value_at}
 use Rattle.rc_rib.specs.Offers.{prefix_of, offered}
-use Rattle.rc_rib.proofs.GroupLaws.{grouped_rows}
+use Rattle.rc_base.proofs.GroupLaws.{grouped_rows}
 
 -- ---- offers
 

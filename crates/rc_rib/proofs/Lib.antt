@@ -1,5 +1,4 @@
-pub mod RowLaws
-mod GroupLaws
+pub mod ConnectedLaws
 mod BestLaws
 mod TableLaws
 mod StaticLaws

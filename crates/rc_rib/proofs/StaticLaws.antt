@@ -13,12 +13,12 @@ use Rattle.rc_config.specs.Down.{Entries}
 use Rattle.rc_config.specs.declared.static_route.StaticRoute.{StaticRoute}
 use Rattle.rc_fib.specs.declared.entry.Entry.{Entry}
 use Rattle.rc_route.specs.declared.route.Hop.{Hop}
-use Rattle.rc_rib.specs.Groups.{grouped, value_of, value_at}
+use Rattle.rc_base.specs.Groups.{grouped, value_of, value_at}
 use Rattle.rc_rib.specs.Offers.{line_prefix, with_line, route_of_hops}
 use Rattle.rc_rib.specs.Static.{least_distance, lines_of, lines_at, active_lines, static_route, static_routes}
 use Rattle.rc_rib.specs.declared.active.ActiveLine.{ActiveLine}
 use Rattle.rc_rib.specs.declared.grouping.StaticHops.{StaticHops}
-use Rattle.rc_rib.proofs.GroupLaws.{grouped_rows}
+use Rattle.rc_base.proofs.GroupLaws.{grouped_rows}
 
 abbrev hop_of : ActiveLine → Hop
 hop_of l = l.hop

@@ -6,14 +6,14 @@ use Rattle.std.specs.Ordering.{is_eq, match_ordering, ordering_reverse}
 use Rattle.std.specs.declared.cmp.Ordering.TheVariants.{Less}
 use Rattle.std.specs.BTreeSet.{insert_key}
 use Rattle.rc_base.specs.Lists.{in_order}
-use Rattle.rc_base.specs.Prefix.{Cidr, prefix_cmp}
+use Rattle.rc_base.specs.Prefix.{Cidr, prefix_cmp, same_prefix}
 use Rattle.rc_base.proofs.OrderedLaws.{prefix_cmp_total}
-use Rattle.rc_route.specs.Tables.{IsTable}
+use Rattle.rc_route.specs.Tables.{IsRouterState, IsTable}
 use Rattle.rc_route.specs.declared.route.Route.{Route}
+use Rattle.rc_route.specs.declared.state.RouterState.{RouterState}
 use Rattle.rc_rib.specs.Best.{preferred, routes_at, best_routes}
-use Rattle.rc_rib.specs.Connected.{same_prefix}
 use Rattle.rc_rib.specs.Offers.{prefix_of}
-use Rattle.rc_rib.proofs.RowLaws.{same_itself}
+use Rattle.rc_base.proofs.GroupLaws.{same_itself}
 
 abbrev Below : Cidr → List Cidr → Type 0
 Below p ks = AllByRecursion (λ k. prefix_cmp p k ≡ Less) ks
@@ -83,3 +83,13 @@ table_is_best ts up = ap (filter_map (λ p. preferred (routes_at p ts))) (in_ord
 -- a table with no other candidate
 pub best_alone : (ts none : List Route) → IsTable ts → none ≡ [] → ts ≡ best_routes (ts ++ none)
 best_alone ts none up empty = sym (ap (λ t. best_routes (ts ++ t)) empty ∙ ap best_routes (append-nil ts) ∙ table_is_best ts up)
+
+-- no routes are a table
+pub none_in_order : (table : List Route) → table ≡ [] → IsTable table
+unfolding IsStrictlySortedBy
+none_in_order table e = rw e tt
+
+-- what a router knows that has a table and no paths
+pub both_in_order : (s : RouterState) → IsTable s.table → s.paths ≡ [] → IsRouterState s
+unfolding IsStrictlySortedBy
+both_in_order s table none = record { table = table; paths = rw none tt }

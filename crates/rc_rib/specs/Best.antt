@@ -2,10 +2,9 @@
 use Rattle.std.specs.Prelude.{◌==◌, Bool, ◌&&◌, ◌||◌, if◌then◌else◌, List, map, filter, Option, nat_lt}
 use Rattle.std.specs.List.{filter_map, reduce}
 use Rattle.rc_base.specs.Lists.{in_order}
-use Rattle.rc_base.specs.Prefix.{Cidr, prefix_cmp}
+use Rattle.rc_base.specs.Prefix.{Cidr, prefix_cmp, same_prefix}
 use Rattle.rc_route.specs.Hops.{source_rank}
 use Rattle.rc_route.specs.declared.route.Route.{Route}
-use Rattle.rc_rib.specs.Connected.{same_prefix}
 
 -- the least administrative distance wins; at one distance by source
 abbrev pub is_preferred : Route → Route → Bool

@@ -1,10 +1,9 @@
 -- The connected routes of a router, from the interfaces of its file.
-use Rattle.std.specs.Prelude.{ℕ, Bool, List, [], map, length, slice_get, filter}
+use Rattle.std.specs.Prelude.{ℕ, List, [], map, length, slice_get, filter}
 use Rattle.std.specs.List.{list_any, flat_map, range_with_len}
 use Rattle.std.specs.Option.{option_map_or}
-use Rattle.std.specs.Ordering.{eq_by_cmp}
 use Rattle.rc_base.specs.Lists.{in_order}
-use Rattle.rc_base.specs.Prefix.{Cidr, prefix_cmp}
+use Rattle.rc_base.specs.Prefix.{Cidr, prefix_cmp, same_prefix}
 use Rattle.rc_config.specs.Down.{Entries, prefixes_of}
 use Rattle.rc_route.specs.declared.route.Hop.{Hop}
 use Rattle.rc_route.specs.declared.route.Hop.TheVariants.{Dev}
@@ -18,10 +17,6 @@ prefixes_at entries place = option_map_or (prefixes_of entries) (slice_get entri
 -- the places of all interfaces, in the order of declaration
 abbrev pub places : Entries → List ℕ
 places entries = range_with_len 0 (length entries)
-
--- one address and one length
-abbrev pub same_prefix : Cidr → Cidr → Bool
-same_prefix = eq_by_cmp prefix_cmp
 
 -- the hop out of the interface at a place of router r
 abbrev pub out_of : ℕ → ℕ → Hop

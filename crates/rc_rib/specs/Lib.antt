@@ -1,8 +1,6 @@
 pub mod Connected
-pub mod ByPrefix
 pub mod Static
 pub mod Best
-pub mod Groups
 pub mod Offers
 pub mod Next
 pub mod Rows

@@ -1,13 +1,34 @@
--- Candidates offered one by one, and static lines put together one by one, as the code does it.
-use Rattle.std.specs.Prelude.{◌==◌, if◌then◌else◌, [], ◌∷◌, ◌++◌, Option, Some, None, nat_lt}
+-- Interfaces, candidates and static lines put under their prefixes one by one, as the code does it.
+use Rattle.std.specs.Prelude.{ℕ, ◌==◌, if◌then◌else◌, List, [], ◌∷◌, ◌++◌, map, Option, Some, None, nat_lt}
+use Rattle.std.specs.List.{range_with_len}
 use Rattle.rc_base.specs.Lists.{in_order}
 use Rattle.rc_base.specs.Prefix.{Cidr}
+use Rattle.rc_base.specs.declared.place.IfId.{IfId}
+use Rattle.rc_config.specs.Down.{Entries}
 use Rattle.rc_route.specs.Hops.{hop_cmp}
-use Rattle.rc_route.specs.declared.route.Source.TheVariants.{Static}
+use Rattle.rc_route.specs.declared.route.Hop.TheVariants.{Dev}
+use Rattle.rc_route.specs.declared.route.Source.TheVariants.{Connected, Static}
 use Rattle.rc_route.specs.declared.route.Route.{Route}
 use Rattle.rc_rib.specs.Best.{better}
+use Rattle.rc_rib.specs.Connected.{prefixes_at}
 use Rattle.rc_rib.specs.declared.active.ActiveLine.{ActiveLine}
 use Rattle.rc_rib.specs.declared.grouping.StaticHops.{StaticHops}
+
+-- the interface at a place of router r
+abbrev pub id_at : ℕ → ℕ → IfId
+id_at r place = record { router = r; index = place }
+
+-- the interfaces of router r before a place
+abbrev pub ids_before : ℕ → ℕ → List IfId
+ids_before r place = map (id_at r) (range_with_len 0 place)
+
+-- the prefixes of an interface of a router
+abbrev pub prefixes_of_id : Entries → IfId → List Cidr
+prefixes_of_id entries i = prefixes_at entries i.index
+
+-- the connected route of a prefix over interfaces
+abbrev pub route_of_members : Cidr → List IfId → Route
+route_of_members p ids = record { prefix = p; source = Connected; distance = 0; metric = 0; hops = map Dev ids }
 
 abbrev pub prefix_of : Route → Cidr
 prefix_of r = r.prefix

@@ -3,7 +3,7 @@ use Rattle.std.specs.Prelude.{ℕ, min, ◌==◌, Bool, false, not, ◌&&◌, if
 use Rattle.std.specs.List.{filter_map, fold}
 use Rattle.std.specs.Option.{option_map, option_map_or}
 use Rattle.rc_base.specs.Lists.{in_order}
-use Rattle.rc_base.specs.Prefix.{Cidr, prefix_cmp}
+use Rattle.rc_base.specs.Prefix.{Cidr, prefix_cmp, same_prefix}
 use Rattle.rc_base.specs.declared.place.IfId.{IfId}
 use Rattle.rc_config.specs.Down.{Entries, is_down}
 use Rattle.rc_config.specs.Named.{place_of}
@@ -17,7 +17,6 @@ use Rattle.rc_route.specs.declared.route.Hop.{Hop}
 use Rattle.rc_route.specs.declared.route.Hop.TheVariants.{Null, Dev, Via}
 use Rattle.rc_route.specs.declared.route.Route.{Route}
 use Rattle.rc_route.specs.declared.route.Source.TheVariants.{Static}
-use Rattle.rc_rib.specs.Connected.{same_prefix}
 use Rattle.rc_rib.specs.declared.active.ActiveLine.{ActiveLine}
 
 -- the interface of a name, where router r declares it and it is up

@@ -2,7 +2,7 @@
 ghost use Rattle.std.specs.Prelude.{◌≡◌, false, IfOk};
 ghost use Rattle.std.specs.Option.{option_map_or};
 ghost use Rattle.std.specs.List.{filter_map};
-ghost use Rattle.rc_rib.specs.Connected.{same_prefix};
+ghost use Rattle.rc_base.specs.Prefix.{same_prefix};
 ghost use Rattle.rc_rib.specs.Static as spec;
 
 use rc_base::{Addr, IfId, Name, Prefix, RouterId};

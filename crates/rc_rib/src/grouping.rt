@@ -1,21 +1,18 @@
 //! The static routes, from the active lines.
-ghost use Rattle.std.specs.Prelude.{◌≡◌, ◌++◌, [], IfOk, OnOk, map, Some, None};
-ghost use Rattle.std.specs.List.{fold};
-ghost use Rattle.std.specs.Map.{lookup};
-ghost use Rattle.std.specs.BTreeMap.{insert_entry, is_at};
+ghost use Rattle.std.specs.Prelude.{◌≡◌, IfOk, OnOk, None};
 ghost use Rattle.std.specs.BTreeSet.{keys, insert_key};
+ghost use Rattle.rc_base.specs.Groups.{with_thing, grouped};
 ghost use Rattle.rc_base.specs.Lists.{in_order};
-ghost use Rattle.rc_base.specs.Prefix.{prefix_cmp};
 ghost use Rattle.rc_route.specs.Hops.{hop_cmp};
-ghost use Rattle.rc_rib.specs.Groups.{with_thing, grouped};
 ghost use Rattle.rc_rib.specs.Offers.{line_prefix, with_line, route_of_hops};
 ghost use Rattle.rc_rib.specs.Static as spec;
 
 use crate::active::ActiveLine;
-use rc_base::{IfId, Items, Prefix};
+use crate::rows::routes_of_rows;
+use rc_base::{IfId, Items, Prefix, PrefixMap};
 use rc_route::{Hop, Route, Source, Table, push_hop};
 use std::alloc::{AllocError, Global};
-use std::collections::{BTreeMap, BTreeSet};
+use std::collections::BTreeSet;
 
 /// The hops of the least distance of some lines, in the order of the lines.
 #[derive(Debug, Drop)]
@@ -58,46 +55,30 @@ fn with_hop(
     }
 }
 
-/// Puts hops under a prefix, and gives those that stood there before.
-fn put(
-    rows: &mut BTreeMap<Prefix, StaticHops>,
-    prefix: Prefix,
-    hops: StaticHops,
-) -> Result<Option<StaticHops>, AllocError>
-    ensures entries { OnOk result (rows.new.entries ≡ insert_entry prefix_cmp rows.old.entries prefix hops) }
-    ensures before { IfOk result (λ old. old ≡ lookup (is_at (prefix_cmp prefix)) rows.old.entries) }
-{
-    let old = rows.insert(prefix, hops)?;
-    Ok(old)
-}
-
 /// Puts one more line under its prefix. Until it stands there the prefix has no hop.
-#[tactic(auto, using(crate::proofs::RowLaws::insert_again))]
+#[tactic(auto, using(rc_base::proofs::GroupLaws::insert_again))]
 fn add_line(
     alloc: Global,
-    rows: &mut BTreeMap<Prefix, StaticHops>,
+    rows: &mut PrefixMap<StaticHops>,
     line: &ActiveLine,
 ) -> Result<(), AllocError>
-    ensures { OnOk result (rows.new.entries ≡ with_thing line_prefix with_line rows.old.entries line.now) }
+    ensures { OnOk result (rows.new ≡ with_thing line_prefix with_line rows.old line.now) }
 {
     let none = StaticHops {
         distance: 255,
         hops: Items::new(alloc),
     };
-    let known = put(rows, line.prefix, none)?;
+    let known = rows.insert(line.prefix, none)?;
     let hops = with_hop(alloc, known, line)?;
-    put(rows, line.prefix, hops)?;
+    rows.insert(line.prefix, hops)?;
     Ok(())
 }
 
 /// The hops of each prefix of the lines.
-fn hops_by_prefix(
-    alloc: Global,
-    lines: &[ActiveLine],
-) -> Result<BTreeMap<Prefix, StaticHops>, AllocError>
-    ensures { IfOk result (λ rows. rows.entries ≡ grouped line_prefix with_line lines.now) }
+fn hops_by_prefix(alloc: Global, lines: &[ActiveLine]) -> Result<PrefixMap<StaticHops>, AllocError>
+    ensures { IfOk result (λ rows. rows ≡ grouped line_prefix with_line lines.now) }
 {
-    let mut rows = BTreeMap::new(alloc);
+    let mut rows = PrefixMap::new(alloc);
     for line in lines {
         add_line(alloc, &mut rows, line)?;
     }
@@ -138,7 +119,11 @@ fn hops_in_order(alloc: Global, hops: &[Hop]) -> Result<Items<Hop>, AllocError>
 }
 
 /// The static route of a prefix.
-fn route_of_hops(alloc: Global, prefix: Prefix, known: &StaticHops) -> Result<Route, AllocError>
+pub(crate) fn static_route(
+    alloc: Global,
+    prefix: Prefix,
+    known: &StaticHops,
+) -> Result<Route, AllocError>
     ensures { IfOk result (λ route. route ≡ route_of_hops prefix known.now) }
 {
     let hops = hops_in_order(alloc, known.hops.as_slice())?;
@@ -152,20 +137,9 @@ fn route_of_hops(alloc: Global, prefix: Prefix, known: &StaticHops) -> Result<Ro
 }
 
 /// The static routes of the active lines: one for each prefix, by address, then length.
-#[tactic(auto, using(crate::proofs::StaticLaws::routes_of_lines))]
 pub(crate) fn static_routes(alloc: Global, lines: &[ActiveLine]) -> Result<Table, AllocError>
     ensures { IfOk result (λ routes. routes ≡ spec.static_routes lines.now) }
 {
     let rows = hops_by_prefix(alloc, lines)?;
-    routes_of_rows(alloc, rows)
-}
-
-fn routes_of_rows(alloc: Global, rows: BTreeMap<Prefix, StaticHops>) -> Result<Table, AllocError>
-    ensures { IfOk result (λ routes. routes ≡ map (λ row. route_of_hops row.0 row.1) rows.entries) }
-{
-    let mut routes = Items::new(alloc);
-    for (prefix, known) in rows {
-        routes.push(route_of_hops(alloc, prefix, &known)?)?;
-    }
-    Ok(routes)
+    routes_of_rows(alloc, rows.into_rows())
 }

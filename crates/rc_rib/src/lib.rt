@@ -9,5 +9,6 @@ mod best;
 mod connected_routes;
 mod grouping;
 mod next;
+mod rows;
 
 pub use next::table;

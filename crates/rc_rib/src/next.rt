@@ -55,7 +55,7 @@ fn file_table(
 }
 
 /// The next table of a router, from its previous one.
-#[tactic(auto, using(crate::proofs::RowLaws::none_in_order))]
+#[tactic(auto, using(crate::proofs::TableLaws::none_in_order))]
 fn own_table(
     alloc: Global,
     router: RouterId,
@@ -81,7 +81,7 @@ fn known_at(state: &State, router: RouterId) -> Option<&RouterState>
 }
 
 /// The next table of a router, from the state before.
-#[tactic(auto, using(crate::proofs::RowLaws::none_in_order))]
+#[tactic(auto, using(crate::proofs::TableLaws::none_in_order))]
 fn next_table(
     alloc: Global,
     router: RouterId,

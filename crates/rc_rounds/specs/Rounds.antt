@@ -2,6 +2,7 @@
 use Rattle.std.specs.Prelude.{◌≡◌, ◌≢◌, ℕ, zero, suc, ◌+◌, ◌-◌, ◌^◌, ◌≤◌, ◌<◌, List, [], map, nat_lt, if◌then◌else◌}
 use Rattle.rc_config.specs.declared.network.Network.{Network}
 use Rattle.rc_config.specs.Members.{router_ids}
+use Rattle.rc_route.specs.Tables.{IsStateOf}
 use Rattle.rc_route.specs.declared.state.RouterState.{RouterState}
 use Rattle.rc_rib.specs.Next.{next_state}
 use Rattle.rc_rounds.specs.declared.outcome.Outcome.{Outcome}
@@ -39,6 +40,12 @@ abbrev pub IsOutcome : Network → ℕ → Outcome → Type 0
 IsOutcome net limit (Fixed k state) = (1 ≤ k) × (k ≤ limit) × GoesOnBelow net k × (state ≡ state_after net k) × (state_after net k ≡ state_after net (k - 1))
 IsOutcome net limit (Repeats i k) = (1 ≤ k) × (k ≤ limit) × GoesOnBelow net k × (i ≡ checkpoint k) × (state_after net k ≢ state_after net (k - 1)) × (state_after net k ≡ state_after net i)
 IsOutcome net limit (Limit n) = (n ≡ limit) × GoesOnBelow net (limit + 1)
+
+-- the state of a fixed point has so many routers, and each one's routes stand in order
+abbrev pub IsInOrder : ℕ → Outcome → Type 0
+IsInOrder routers (Fixed k state) = IsStateOf routers state
+IsInOrder routers (Repeats i k) = Unit {0}
+IsInOrder routers (Limit n) = Unit {0}
 
 -- a network has one outcome within a limit
 abbrev pub HasOneOutcome : Type 0

@@ -1,7 +1,7 @@
 //! Rounds until a state comes again.
-ghost use Rattle.std.specs.Prelude.{◌≡◌, ◌≤◌, IfOk};
+ghost use Rattle.std.specs.Prelude.{◌≡◌, ◌≤◌, IfOk, length};
 ghost use Rattle.rc_config.specs.Lawful.{IsLawful};
-ghost use Rattle.rc_rounds.specs.Rounds.{IsOutcome, HasOneOutcome};
+ghost use Rattle.rc_rounds.specs.Rounds.{IsInOrder, IsOutcome, HasOneOutcome};
 
 use crate::Outcome;
 use crate::round::{empty_state, next_state};
@@ -18,7 +18,7 @@ use std::thread::Threads;
 /// greatest power of two below. Where the checkpoint is the round before, its state is kept once, so none is ever copied.
 ///
 /// `limit` is from 1 to 100,000 and `workers` from 1 to 64. Each worker passes the gate in each round, whose number is the
-/// phase. It errs only where memory runs out.
+/// phase. At a fixed point each router's table is in order. It errs only where memory runs out.
 pub fn run_rounds<R: Threads + Sync + AllocGlobal, G: Gate>(
     rt: &R,
     net: &Network,
@@ -31,7 +31,8 @@ pub fn run_rounds<R: Threads + Sync + AllocGlobal, G: Gate>(
     requires few_rounds { limit ≤ 100000 }
     requires some_workers { 1 ≤ workers }
     requires few_workers { workers ≤ 64 }
-    ensures { IfOk result (IsOutcome net.now limit) }
+    ensures outcome { IfOk result (IsOutcome net.now limit) }
+    ensures in_order { IfOk result (IsInOrder (length net.now.routers)) }
 {
     let mut last = empty_state(rt.alloc(), net)?;
     let mut checkpoint = 0u32;

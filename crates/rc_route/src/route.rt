@@ -12,7 +12,7 @@ use std::cmp::Ordering;
 ///
 /// The order is that in which the hops of a route stand: null, then hops without a gateway, then by the gateway's address;
 /// at one gateway the hop without an interface first, then interfaces as declared.
-#[derive(Clone, Copy, Debug, PartialEq, Eq, PartialOrd, Ord)]
+#[derive(Clone, Copy, Debug, PartialEq, Eq, PartialOrd, Ord, Hash)]
 pub enum Hop {
     /// The packet is dropped.
     Null,

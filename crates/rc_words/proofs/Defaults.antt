@@ -1,10 +1,12 @@
 -- What the rows of a command are after its defaults, by the id that is looked up.
-use Rattle.std.proofs.Common.{ap, sym, ◌≡◌, ◌∙◌, Bool, true, false, List, [], ◌∷◌, ◌++◌, refl, Option, Some, None, cond, codes, fold, find, unwrap_or, ◌||◌, if◌then◌else◌, true≢false}
+use Rattle.std.proofs.Common.{ap, sym, subst, ◌≡◌, ◌∙◌, Bool, true, false, List, [], ◌∷◌, ◌++◌, refl, Option, Some, None, cond, fold, find, ◌||◌, if◌then◌else◌, true≢false, slice_get}
+use Rattle.std.specs.Prelude.{option_map}
 use Rattle.std.specs.Str.{bytes_eq}
-use Rattle.clap.specs.Walk.{Row, Rule, Text, has_row, with_default, reading_by, more_values}
+use Rattle.std.proofs.lemmas.Slice.Eq.{bytes_eq-Decides}
+use Rattle.clap.specs.Walk.{Row, Rule, Text, has_row, with_default, default_rows, reading_by, more_values}
 use Rattle.clap.specs.declared.parser.matches.ValueSource.TheVariants.{DefaultValue}
-use Rattle.rc_words.proofs.Leaf.{leaf_rules, dir_rule, rule_at}
-use Rattle.rc_words.proofs.PlainWalk.{new_row}
+use Rattle.rc_words.proofs.PlainWalk.{new_row, same_text_eq}
+use Rattle.rc_words.proofs.Rules.{AllOf}
 
 -- the first row with an id
 abbrev pub look : Text → List Row → Option Row
@@ -13,10 +15,23 @@ look id rows = find (λ r. bytes_eq r.id id) rows
 abbrev pub default_row : Rule → Text → Row
 default_row a v = record { id = a.id; values = v ∷ []; count = None; source = Some DefaultValue; reading = reading_by a }
 
--- the rule has this one default, and answers to its own id
-pub record HasDefault (a : Rule) (v : Text) : Type 0 where
-  pub one : a.defaults ≡ v ∷ []
-  pub same : bytes_eq a.id a.id ≡ true
+abbrev pub defaults_by : Option Text → List Text
+defaults_by None = []
+defaults_by (Some v) = v ∷ []
+
+-- the rule has one default or none
+abbrev pub IsDefaulted : Rule → Type 0
+IsDefaulted a = (o : Option Text) × (a.defaults ≡ defaults_by o)
+
+-- what is found of a rule's id after its default, from what was found before
+abbrev pub or_default : Rule → Option Row → Option Row
+or_default a None = option_map (default_row a) (slice_get a.defaults 0)
+or_default a (Some r) = Some r
+
+-- what is found of an id after the defaults of these rules
+abbrev pub looked : Text → List Rule → Option Row → Option Row
+looked id [] found = found
+looked id (a ∷ c) found = looked id c (if bytes_eq a.id id then or_default a found else found)
 
 pub here : (id : Text) (rows : List Row) → has_row id rows ≡ true → (r : Row) × (look id rows ≡ Some r)
 here id [] e = absurd (true≢false (sym e))
@@ -44,71 +59,36 @@ beside id [] r other = rw other
 beside id (x ∷ rows) r other = ap (cond (bytes_eq x.id id) (Some x)) (beside id rows r other)
 
 -- the default's own id
-default_same : (a : Rule) (v : Text) (rows : List Row) → HasDefault a v → look a.id (with_default rows a) ≡ Some (unwrap_or (look a.id rows) (default_row a v))
-default_same a v rows h = go (has_row a.id rows) refl
+default_same : (a : Rule) (rows : List Row) → IsDefaulted a → look a.id (with_default rows a) ≡ or_default a (look a.id rows)
+default_same a rows (o, is) = go (has_row a.id rows) refl
   where
-    go : (b : Bool) → has_row a.id rows ≡ b → look a.id (with_default rows a) ≡ Some (unwrap_or (look a.id rows) (default_row a v))
-    go true e = let (r, is) = here a.id rows e in rw (e, is)
-    go false e = rw (e, h.one, absent a.id rows e, new_row a.id (more_values DefaultValue (v ∷ [])) (default_row a v ∷ []) rows e) (behind a.id rows (default_row a v) e h.same)
+    put : has_row a.id rows ≡ false → (o : Option Text) → a.defaults ≡ defaults_by o → look a.id (default_rows a.id (reading_by a) a.defaults rows) ≡ option_map (default_row a) (slice_get a.defaults 0)
+    put e None is = rw is (absent a.id rows e)
+    put e (Some v) is = rw (is, new_row a.id (more_values DefaultValue (v ∷ [])) (default_row a v ∷ []) rows e) (behind a.id rows (default_row a v) e (same_text_eq a.id))
+
+    go : (b : Bool) → has_row a.id rows ≡ b → look a.id (with_default rows a) ≡ or_default a (look a.id rows)
+    go true e = let (r, there) = here a.id rows e in rw (e, there)
+    go false e = rw (e, absent a.id rows e) (put e o is)
 
 -- another id
-default_other : (a : Rule) (v id : Text) (rows : List Row) → a.defaults ≡ v ∷ [] → bytes_eq a.id id ≡ false → look id (with_default rows a) ≡ look id rows
-default_other a v id rows one other = go (has_row a.id rows) refl
+default_other : (a : Rule) (id : Text) (rows : List Row) → IsDefaulted a → bytes_eq a.id id ≡ false → look id (with_default rows a) ≡ look id rows
+default_other a id rows (o, is) other = go (has_row a.id rows) refl
   where
+    put : has_row a.id rows ≡ false → (o : Option Text) → a.defaults ≡ defaults_by o → look id (default_rows a.id (reading_by a) a.defaults rows) ≡ look id rows
+    put e None is = rw is
+    put e (Some v) is = rw (is, new_row a.id (more_values DefaultValue (v ∷ [])) (default_row a v ∷ []) rows e) (beside id rows (default_row a v) other)
+
     go : (b : Bool) → has_row a.id rows ≡ b → look id (with_default rows a) ≡ look id rows
     go true e = rw e
-    go false e = rw (e, one, new_row a.id (more_values DefaultValue (v ∷ [])) (default_row a v ∷ []) rows e) (beside id rows (default_row a v) other)
+    go false e = rw e (put e o is)
 
--- DIR has none
-dir_default : (rows : List Row) → with_default rows dir_rule ≡ rows
-dir_default rows = elim (has_row (codes "DIR") rows) as (λ b. (if b then rows else rows) ≡ rows) [ true ↦ refl | false ↦ refl ]
+default_step : (a : Rule) (id : Text) (rows : List Row) → IsDefaulted a → look id (with_default rows a) ≡ if bytes_eq a.id id then or_default a (look id rows) else look id rows
+default_step a id rows d = go (bytes_eq a.id id) refl
+  where
+    go : (b : Bool) → bytes_eq a.id id ≡ b → look id (with_default rows a) ≡ if bytes_eq a.id id then or_default a (look id rows) else look id rows
+    go true e = rw e (subst (λ (x : Text). look x (with_default rows a) ≡ or_default a (look x rows)) ((bytes_eq-Decides a.id id).0 e) (default_same a rows d))
+    go false e = rw e (default_other a id rows d e)
 
-abbrev pub after_defaults : List Row → List Row
-after_defaults rows = fold with_default rows leaf_rules
-
-abbrev pub rounds_rule : Rule
-rounds_rule = rule_at (codes "rounds")
-
-abbrev pub workers_rule : Rule
-workers_rule = rule_at (codes "workers")
-
-abbrev pub nodes_rule : Rule
-nodes_rule = rule_at (codes "nodes")
-
--- the rows after the first one, two and three arguments
-abbrev one : List Row → List Row
-one rows = with_default rows dir_rule
-
-abbrev two : List Row → List Row
-two rows = with_default (one rows) rounds_rule
-
-abbrev three : List Row → List Row
-three rows = with_default (two rows) workers_rule
-
-pub look_dir : (rows : List Row) → look (codes "DIR") (after_defaults rows) ≡ look (codes "DIR") rows
-look_dir rows =
-    default_other nodes_rule (codes "1048576") (codes "DIR") (three rows) refl refl
-    ∙ default_other workers_rule (codes "4") (codes "DIR") (two rows) refl refl
-    ∙ default_other rounds_rule (codes "1000") (codes "DIR") (one rows) refl refl
-    ∙ ap (look (codes "DIR")) (dir_default rows)
-
-pub look_rounds : (rows : List Row) → look (codes "rounds") (after_defaults rows) ≡ Some (unwrap_or (look (codes "rounds") rows) (default_row rounds_rule (codes "1000")))
-look_rounds rows =
-    default_other nodes_rule (codes "1048576") (codes "rounds") (three rows) refl refl
-    ∙ default_other workers_rule (codes "4") (codes "rounds") (two rows) refl refl
-    ∙ default_same rounds_rule (codes "1000") (one rows) record { one = refl; same = refl }
-    ∙ ap (λ z. Some (unwrap_or (look (codes "rounds") z) (default_row rounds_rule (codes "1000")))) (dir_default rows)
-
-pub look_workers : (rows : List Row) → look (codes "workers") (after_defaults rows) ≡ Some (unwrap_or (look (codes "workers") rows) (default_row workers_rule (codes "4")))
-look_workers rows =
-    default_other nodes_rule (codes "1048576") (codes "workers") (three rows) refl refl
-    ∙ default_same workers_rule (codes "4") (two rows) record { one = refl; same = refl }
-    ∙ ap (λ o. Some (unwrap_or o (default_row workers_rule (codes "4"))))
-    (default_other rounds_rule (codes "1000") (codes "workers") (one rows) refl refl ∙ ap (look (codes "workers")) (dir_default rows))
-
-pub look_nodes : (rows : List Row) → look (codes "nodes") (after_defaults rows) ≡ Some (unwrap_or (look (codes "nodes") rows) (default_row nodes_rule (codes "1048576")))
-look_nodes rows =
-    default_same nodes_rule (codes "1048576") (three rows) record { one = refl; same = refl }
-    ∙ ap (λ o. Some (unwrap_or o (default_row nodes_rule (codes "1048576"))))
-    (default_other workers_rule (codes "4") (codes "nodes") (two rows) refl refl
-    ∙ default_other rounds_rule (codes "1000") (codes "nodes") (one rows) refl refl ∙ ap (look (codes "nodes")) (dir_default rows))
+pub look_all : (c : List Rule) (id : Text) (rows : List Row) → AllOf IsDefaulted c → look id (fold with_default rows c) ≡ looked id c (look id rows)
+look_all [] id rows h = refl
+look_all (a ∷ c) id rows h = look_all c id (with_default rows a) h.1 ∙ ap (looked id c) (default_step a id rows h.0)

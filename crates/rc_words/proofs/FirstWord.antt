@@ -1,14 +1,15 @@
 -- Words that are taken begin with the name of a command.
-use Rattle.std.proofs.Common.{ap, sym, ◌≡◌, ◌∙◌, ℕ, zero, suc, Bool, true, false, List, [], ◌∷◌, refl, Option, Some, None, codes, fold, length, is_some, slice_get, true≢false}
+use Rattle.std.proofs.Common.{ap, sym, ◌≡◌, ◌∙◌, ◌⊎◌, inl, inr, ℕ, zero, suc, Bool, true, false, List, [], ◌∷◌, refl, Option, Some, None, codes, fold, length, is_some, slice_get, true≢false}
 use Rattle.std.specs.Str.{bytes_eq, chars}
 use Rattle.std.proofs.lemmas.Slice.Eq.{bytes_eq-Decides}
 use Rattle.clap.specs.Faults.{turn_fault, walk_fault, step_fault, flag_word_fault, fault_of}
 use Rattle.clap.specs.Kinds.{or_else}
 use Rattle.clap.specs.Lexer.{long_of, short_of}
 use Rattle.clap.specs.Simple.{names_of, entered}
-use Rattle.clap.specs.Walk.{Held, Text, Walk, idle, value, Step, plain, after_flag, bundle_met, bundle_step, short_or_plain, long_or_other, nothing_held, walk_from, walked}
+use Rattle.clap.specs.Walk.{Held, Text, Walk, idle, value, Step, plain, after_flag, bundle_met, bundle_step, short_or_plain, long_or_other, nothing_held, walk_from, walked, subcommand_met}
 use Rattle.rc_words.specs.App.{netcheck_app}
-use Rattle.rc_words.proofs.Leaf.{whole}
+use Rattle.rc_words.specs.Plain.{CommandName, routes, trace, command_word}
+use Rattle.rc_words.proofs.Commands.{whole}
 use Rattle.rc_words.proofs.KeptValues.{first_none, second_none}
 use Rattle.rc_words.proofs.Matched.{stop_at, top_parts}
 
@@ -34,14 +35,29 @@ no_flag : (word : Text) (long : Option (Text × Option Text))
 no_flag word (Some p) e = cc
 no_flag word None e = stray (long_or_other [] idle word None nothing_held).0 (long_or_other [] idle word None nothing_held).1 (other_value word (short_of word)) (second_none (flag_word_fault [] false None word nothing_held) _ e)
 
-top_word : (w : Text) → bytes_eq (codes "routes") w ≡ false → bytes_eq w (45 ∷ 45 ∷ []) ≡ false → turn_fault whole.top (names_of whole) (walk_from nothing_held) w ≡ [] → ⊥
+-- the word names no command
+abbrev IsOther : Text → Type 0
+IsOther w = subcommand_met (names_of whole) idle w ≡ None
+
+abbrev IsNamed : Text → Type 0
+IsNamed w = (k : CommandName) × (w ≡ command_word k)
+
+command_or_other : (w : Text) → IsNamed w ⊎ IsOther w
+command_or_other w = go (bytes_eq (codes "routes") w) refl (bytes_eq (codes "trace") w) refl
+  where
+    go : (a : Bool) → bytes_eq (codes "routes") w ≡ a → (b : Bool) → bytes_eq (codes "trace") w ≡ b → IsNamed w ⊎ IsOther w
+    go true e b f = inl (routes, sym ((bytes_eq-Decides (codes "routes") w).0 e))
+    go false e true f = inl (trace, sym ((bytes_eq-Decides (codes "trace") w).0 f))
+    go false e false f = inr (rw (e, f))
+
+top_word : (w : Text) → IsOther w → bytes_eq w (45 ∷ 45 ∷ []) ≡ false → turn_fault whole.top (names_of whole) (walk_from nothing_held) w ≡ [] → ⊥
 top_word w other no_dashes e = no_flag w (long_of w) (rw (other, no_dashes) at e)
 
 -- after `--`
 abbrev dashed : Walk
 dashed = record { held = nothing_held; waiting = idle; position = 1; is_trailing = true; stopped = None }
 
-dashes : (w : Text) → bytes_eq (codes "routes") w ≡ false → bytes_eq w (45 ∷ 45 ∷ []) ≡ true → walked whole.top.rules (names_of whole) (walk_from nothing_held) w ≡ dashed
+dashes : (w : Text) → IsOther w → bytes_eq w (45 ∷ 45 ∷ []) ≡ true → walked whole.top.rules (names_of whole) (walk_from nothing_held) w ≡ dashed
 unfolding walked
 dashes w other is = rw (other, is)
 
@@ -50,27 +66,29 @@ unfolding walk_fault
 after_dashes [] f s = true≢false (sym s)
 after_dashes (x ∷ xs) f s = cc
 
-begins : (words : List Text) → walk_fault whole.top (names_of whole) (walk_from nothing_held) words ≡ [] → is_some (stop_at words) ≡ true → (rest : List Text) × (words ≡ codes "routes" ∷ rest)
+begins : (words : List Text) → walk_fault whole.top (names_of whole) (walk_from nothing_held) words ≡ [] → is_some (stop_at words) ≡ true → (k : CommandName) × (rest : List Text) × (words ≡ command_word k ∷ rest)
 unfolding walk_fault
 begins [] f s = absurd (true≢false (sym s))
-begins (w ∷ ws) f s = go (bytes_eq (codes "routes") w) refl (bytes_eq w (45 ∷ 45 ∷ [])) refl
+begins (w ∷ ws) f s = elim (command_or_other w) [
+  | inl named ↦ (named.0, ws, ap (λ x. x ∷ ws) named.1)
+  | inr other ↦ absurd (go other (bytes_eq w (45 ∷ 45 ∷ [])) refl)
+]
   where
-    go : (b : Bool) → bytes_eq (codes "routes") w ≡ b → (d : Bool) → bytes_eq w (45 ∷ 45 ∷ []) ≡ d → (rest : List Text) × (w ∷ ws ≡ codes "routes" ∷ rest)
-    go true e d t = (ws, ap (λ x. x ∷ ws) (sym ((bytes_eq-Decides (codes "routes") w).0 e)))
-    go false e true t =
+    go : IsOther w → (d : Bool) → bytes_eq w (45 ∷ 45 ∷ []) ≡ d → ⊥
+    go e true t =
         let is_dashed = dashes w e t in
         let turn = turn_fault whole.top (names_of whole) (walk_from nothing_held) w in
         let fault_behind = second_none turn (walk_fault whole.top (names_of whole) (walked whole.top.rules (names_of whole) (walk_from nothing_held) w) ws) f in
-        absurd (after_dashes ws (rw is_dashed at fault_behind) (ap (λ z. is_some (fold (walked whole.top.rules (names_of whole)) z ws).stopped) (sym is_dashed) ∙ s))
-    go false e false t =
+        after_dashes ws (rw is_dashed at fault_behind) (ap (λ z. is_some (fold (walked whole.top.rules (names_of whole)) z ws).stopped) (sym is_dashed) ∙ s)
+    go e false t =
         let turn = turn_fault whole.top (names_of whole) (walk_from nothing_held) w in
-        absurd (top_word w e t (first_none turn (walk_fault whole.top (names_of whole) (walked whole.top.rules (names_of whole) (walk_from nothing_held) w) ws) f))
+        top_word w e t (first_none turn (walk_fault whole.top (names_of whole) (walked whole.top.rules (names_of whole) (walk_from nothing_held) w) ws) f)
 
 stop_some : (stop : Option (Text × List Text)) → is_some (entered whole stop) ≡ true → is_some stop ≡ true
 stop_some None e = e
 stop_some (Some p) e = refl
 
-pub first_word : (words : List Text) → fault_of netcheck_app words ≡ [] → (rest : List Text) × (words ≡ codes "routes" ∷ rest)
+pub first_word : (words : List Text) → fault_of netcheck_app words ≡ [] → (k : CommandName) × (rest : List Text) × (words ≡ command_word k ∷ rest)
 first_word words e =
     let (walked_well, below, there) = top_parts words e in
     begins words walked_well (stop_some (stop_at words) there)

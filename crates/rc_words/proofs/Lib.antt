@@ -1,10 +1,12 @@
 mod Numbers
+mod Rules
 mod PlainWalk
 mod KeptValues
-mod Leaf
 mod Defaults
+mod Commands
+mod Told
 mod Matched
 mod FirstWord
 mod RequestLaws
-mod RoutesTaken
+mod PlainTaken
 mod PlainRequest

@@ -1,130 +1,189 @@
--- Where clap finds no fault in the words there is a request, with every number in its option's range.
-use Rattle.std.proofs.Common.{ap, sym, subst, lit<, lit≤, ◌≡◌, ◌∙◌, ℕ, ◌<◌, ◌≤◌, ◌^◌, Bool, true, false, not, ◌||◌, List, [], ◌∷◌, refl, Option, Some, None, cond, codes, unwrap_or, is_some, true≢false}
-use Rattle.std.specs.Prelude.{option_and_then, option_map, slice_get}
+-- Where clap finds no fault in the words there is a request, with every number in its option's range, but where a place or address text isn't read.
+use Rattle.std.proofs.Common.{ap, sym, lit<, ◌≡◌, ◌∙◌, Bool, true, false, not, ◌&&◌, ◌||◌, ◌⊎◌, inl, inr, List, [], ◌∷◌, refl, Option, Some, None, codes, find, is_some, true≢false}
+use Rattle.std.specs.Prelude.{option_and_then, option_map}
+use Rattle.std.specs.List.{list_any}
 use Rattle.std.specs.Option.{option_map_or}
-use Rattle.std.specs.Str.{bytes_eq}
-use Rattle.std.proofs.lemmas.Slice.Eq.{bytes_eq-Decides}
-use Rattle.clap.specs.Facts.{explicit_source}
 use Rattle.clap.specs.Faults.{check_fault, settle_fault, walk_fault, level_fault, entered_fault, defaults_fault, fault_of}
 use Rattle.clap.specs.Kinds.{check_kinds, or_else, Kinds}
 use Rattle.clap.specs.Simple.{Shape, names_of, entered, rows_at, label_of}
-use Rattle.clap.specs.Takes.{is_given, value_passes}
-use Rattle.clap.specs.Walk.{Held, Names, Row, Rule, Text, arg_by_id, answers_to, row_text, Walk, walk, walk_from, nothing_held, settled, finished, rows_after}
+use Rattle.clap.specs.Takes.{is_given}
+use Rattle.clap.specs.Walk.{Held, Names, Row, Rule, Text, Walk, answers_to, walk, walk_from, nothing_held, settled, finished}
 use Rattle.clap.specs.Words.{subcommand_of, first_of}
-use Rattle.clap.specs.declared.builder.ValueParser.TheVariants as vp
+use Rattle.clap.proofs.WalkLemmas.{both}
+use Rattle.rc_base.specs.declared.header.Header.{Header}
+use Rattle.rc_openings.specs.Values.{address_of}
 use Rattle.rc_words.specs.App.{netcheck_app}
-use Rattle.rc_words.specs.Request.{number_read, number_at, routes_at, request_at, AreInRange}
+use Rattle.rc_words.specs.Plain.{CommandName, routes, trace, command_word, from, dst, src, proto, sport, dport, rounds, workers, nodes, limit_options}
+use Rattle.rc_words.specs.Request.{address_at, place_of, place_at, limits_at, header_at, trace_at, request_at, is_read, texts_are_read, AreInRange, IsHeaderInRange, IsAskInRange}
+use Rattle.rc_words.specs.declared.request.Ask.TheVariants.{Routes, Trace}
+use Rattle.rc_words.specs.declared.request.Limits.{Limits}
+use Rattle.rc_words.specs.declared.request.PlaceName.{PlaceName}
 use Rattle.rc_words.specs.declared.request.Request.{Request}
-use Rattle.rc_words.specs.declared.request.Ask.TheVariants.{Routes}
-use Rattle.rc_words.proofs.Numbers.{accepted_number}
-use Rattle.rc_words.proofs.Leaf.{whole, leaf, leaf_rules, routes_own}
-use Rattle.rc_words.proofs.KeptValues.{RowPasses, RowsPass, all_pass, settled_passes, first_none, second_none}
-use Rattle.rc_words.proofs.Defaults.{look, default_row, after_defaults, look_dir, look_rounds, look_workers, look_nodes, rounds_rule, workers_rule, nodes_rule}
-use Rattle.rc_words.proofs.PlainWalk.{row_for}
+use Rattle.rc_words.proofs.Commands.{IsCommand, IsOption, whole, wanted_ids, dir_rule, rule_for, routes_shape, routes_is, trace_shape, trace_is}
+use Rattle.rc_words.proofs.Defaults.{IsDefaulted, look, look_all}
+use Rattle.rc_words.proofs.KeptValues.{RowsPass, all_pass, settled_passes, first_none, second_none}
+use Rattle.rc_words.proofs.Rules.{AllOf, find_all, some_of}
+use Rattle.rc_words.proofs.Told.{after, look_option, number_in, given_text, default_text, no_text}
 
--- a row that is found is one that passed, and has the id
-found_passes : (c : List Rule) (id : Text) (rows : List Row) (r : Row) → RowsPass c rows → look id rows ≡ Some r → RowPasses c r × (bytes_eq r.id id ≡ true)
-found_passes c id [] r h e = absurd (cc)
-found_passes c id (x ∷ rows) r h e = elim (bytes_eq x.id id) as (λ b. bytes_eq x.id id ≡ b → cond b (Some x) (look id rows) ≡ Some r → RowPasses c r × (bytes_eq r.id id ≡ true)) [
-  | true ↦ λ s f. let g : x ≡ r = cc in (subst (RowPasses c) g h.0, subst (λ (y : Row). bytes_eq y.id id ≡ true) g s)
-  | false ↦ λ _ f. found_passes c id rows r h.1 f
-] refl e
+-- ---- the parts of a request
 
--- a number that was given to the option with this id
-row_number : (c : List Rule) (id : Text) (rule : Rule) (least most : ℕ) (r : Row) → arg_by_id c id ≡ Some rule → rule.parser ≡ Some (vp.Unsigned least most) → most < 2 ^ 32
-    → RowPasses c r → bytes_eq r.id id ≡ true → (n : ℕ) × (option_and_then number_read (row_text r) ≡ Some n) × (least ≤ n) × (n ≤ most)
-row_number c id rule least most r is parser small h same =
-    let own_id : r.id ≡ h.rule.id = ap (λ (x : Row). x.id) h.is in
-    let this_id : h.rule.id ≡ id = sym own_id ∙ (bytes_eq-Decides r.id id).0 same in
-    let found : Some h.rule ≡ Some rule = sym h.own.here ∙ ap (arg_by_id c) this_id ∙ is in
-    let this : h.rule ≡ rule = cc in
-    let passes : value_passes rule h.value ≡ true = subst (λ (a : Rule). value_passes a h.value ≡ true) this h.passes in
-    let (n, read, low, high) = accepted_number least most h.value small (rw parser at passes) in
-    let this_row : r ≡ row_for rule h.value = h.is ∙ ap (λ (a : Rule). row_for a h.value) this in
-    let read_whole : row_text (row_for rule h.value) ≡ Some h.value = rw parser in
-    let text : row_text r ≡ Some h.value = rw this_row read_whole in
-    (n, rw text read, low, high)
-
-option_number : (c : List Rule) (id : Text) (rule : Rule) (least most : ℕ) (r : Row) (rows : List Row) → arg_by_id c id ≡ Some rule → rule.parser ≡ Some (vp.Unsigned least most) → most < 2 ^ 32
-    → ((n : ℕ) × (option_and_then number_read (row_text r) ≡ Some n) × (least ≤ n) × (n ≤ most)) → RowsPass c rows
-    → (n : ℕ) × (option_and_then number_read (row_text (unwrap_or (look id rows) r)) ≡ Some n) × (least ≤ n) × (n ≤ most)
-option_number c id rule least most r rows is parser small otherwise h = go (look id rows) refl
-  where
-    go : (o : Option Row) → look id rows ≡ o → (n : ℕ) × (option_and_then number_read (row_text (unwrap_or o r)) ≡ Some n) × (least ≤ n) × (n ≤ most)
-    go None e = otherwise
-    go (Some x) e = let (p, same) = found_passes c id rows x h e in row_number c id rule least most x is parser small p same
-
-abbrev Numbered : Text → List Row → ℕ → ℕ → Type 0
-Numbered id rows least most = (n : ℕ) × (number_at id rows ≡ Some n) × (least ≤ n) × (n ≤ most)
-
-numbered : (id : Text) (rows : List Row) (r : Row) (least most : ℕ) → look id rows ≡ Some r → ((n : ℕ) × (option_and_then number_read (row_text r) ≡ Some n) × (least ≤ n) × (n ≤ most)) → Numbered id rows least most
-numbered id rows r least most e (n, read, low, high) = (n, ap (λ o. option_and_then number_read (option_and_then row_text o)) e ∙ read, low, high)
-
-rounds_in : (rows : List Row) → RowsPass leaf_rules rows → Numbered (codes "rounds") (after_defaults rows) 1 100000
-rounds_in rows h = numbered (codes "rounds") (after_defaults rows) _ 1 100000 (look_rounds rows)
-    (option_number leaf_rules (codes "rounds") rounds_rule 1 100000 (default_row rounds_rule (codes "1000")) rows refl refl (lit< tt) (1000, refl, lit≤ tt, lit≤ tt) h)
-
-workers_in : (rows : List Row) → RowsPass leaf_rules rows → Numbered (codes "workers") (after_defaults rows) 1 64
-workers_in rows h = numbered (codes "workers") (after_defaults rows) _ 1 64 (look_workers rows)
-    (option_number leaf_rules (codes "workers") workers_rule 1 64 (default_row workers_rule (codes "4")) rows refl refl (lit< tt) (4, refl, lit≤ tt, lit≤ tt) h)
-
-nodes_in : (rows : List Row) → RowsPass leaf_rules rows → Numbered (codes "nodes") (after_defaults rows) 16 16777216
-nodes_in rows h = numbered (codes "nodes") (after_defaults rows) _ 16 16777216 (look_nodes rows)
-    (option_number leaf_rules (codes "nodes") nodes_rule 16 16777216 (default_row nodes_rule (codes "1048576")) rows refl refl (lit< tt) (1048576, refl, lit≤ tt, lit≤ tt) h)
-
--- DIR, where it is given
-abbrev given_in : Option Row → Bool
-given_in o = option_map_or (λ (r : Row). explicit_source r.source) o false
-
-dir_in : (rows : List Row) → RowsPass leaf_rules rows → is_given (codes "DIR") (after_defaults rows) ≡ true → (d : Text) × (first_of (codes "DIR") (after_defaults rows) ≡ Some d)
-dir_in rows h e = go (look (codes "DIR") rows) refl (ap given_in (sym (look_dir rows)) ∙ e)
-  where
-    go : (o : Option Row) → look (codes "DIR") rows ≡ o → given_in (look (codes "DIR") rows) ≡ true → (d : Text) × (first_of (codes "DIR") (after_defaults rows) ≡ Some d)
-    go None is given = absurd (true≢false (sym given ∙ ap given_in is))
-    go (Some r) is given =
-        let (p, same) = found_passes leaf_rules (codes "DIR") rows r h is in
-        let first : option_and_then (λ (x : Row). slice_get x.values 0) (Some r) ≡ Some p.value = ap (λ (x : Row). slice_get x.values 0) p.is in
-        (p.value, ap (option_and_then (λ (x : Row). slice_get x.values 0)) (look_dir rows ∙ is) ∙ first)
-
--- what is found makes a request
-abbrev pub Asked : Option Request → Type 0
-Asked o = (r : Request) × (o ≡ Some r) × AreInRange r.limits
-
-rows_asked : (rows : List Row) → RowsPass leaf_rules rows → is_given (codes "DIR") (after_defaults rows) ≡ true → Asked (routes_at (after_defaults rows))
-rows_asked rows h e =
-    let (dir, dir_is) = dir_in rows h e in
-    let (rounds, rounds_is, rounds_low, rounds_high) = rounds_in rows h in
-    let (workers, workers_is, workers_low, workers_high) = workers_in rows h in
-    let (nodes, nodes_is, nodes_low, nodes_high) = nodes_in rows h in (
-      record { ask = Routes dir; limits = record { rounds = rounds; workers = workers; nodes = nodes } },
-      rw (dir_is, rounds_is, workers_is, nodes_is),
-      record { least_rounds = rounds_low; most_rounds = rounds_high; least_workers = workers_low; most_workers = workers_high; least_nodes = nodes_low; most_nodes = nodes_high },
+limits_asked : (c : List Rule) (rows : List Row) → AllOf IsDefaulted c → AllOf (IsOption c) limit_options → RowsPass c rows → (l : Limits) × (limits_at (after c rows) ≡ Some l) × AreInRange l
+limits_asked c rows d i h =
+    let (r, r_is, r_low, r_high) = number_in 32 c rounds 1 100000 (codes "1000") rows d i.0 h refl refl refl (lit< tt) in
+    let (w, w_is, w_low, w_high) = number_in 32 c workers 1 64 (codes "4") rows d i.1.0 h refl refl refl (lit< tt) in
+    let (n, n_is, n_low, n_high) = number_in 32 c nodes 16 16777216 (codes "1048576") rows d i.1.1.0 h refl refl refl (lit< tt) in (
+      record { rounds = r; workers = w; nodes = n },
+      rw (r_is, w_is, n_is),
+      record { least_rounds = r_low; most_rounds = r_high; least_workers = w_low; most_workers = w_high; least_nodes = n_low; most_nodes = n_high },
     )
 
--- nothing is missing where the last checks find no fault
-dir_there : (b : Bool) → check_kinds false false (not b || false) ≡ [] → b ≡ true
-dir_there true e = refl
-dir_there false e = cc
+read_text : {A : Type 0} (read : Text → Option A) (o : Option Text) (t : Text) → o ≡ Some t → is_read read o ≡ true → (a : A) × (option_and_then read o ≡ Some a)
+read_text read None t is e = absurd (cc)
+read_text read (Some u) t is e = some_of (read u) e
 
-leaf_asked : (ws : List Text) → level_fault leaf [] nothing_held ws false [] ≡ [] → Asked (routes_at (rows_after leaf_rules [] ws))
-leaf_asked ws e =
-    let end : Held = (walk leaf_rules [] nothing_held ws).held in
-    let walked_well : walk_fault leaf [] (walk_from nothing_held) ws ≡ [] = first_none _ _ e in
-    let behind = second_none _ _ e in
-    let settled_well : settle_fault leaf_rules false end ≡ [] = first_none _ _ behind in
-    let checked : check_fault leaf (finished leaf_rules end) false ≡ [] = second_none _ _ (second_none _ _ behind) in
-    let kept : RowsPass leaf_rules end.rows = all_pass leaf routes_own refl ws (walk_from nothing_held) walked_well tt in
-    rows_asked (settled leaf_rules end).rows (settled_passes leaf_rules routes_own end settled_well kept) (dir_there _ checked)
+argument_asked : (k : CommandName) (a : Rule) (s : Shape) → IsCommand k a s → (rows : List Row) → RowsPass s.rules rows → is_given a.id (after s.rules rows) ≡ true → (t : Text) × (first_of a.id (after s.rules rows) ≡ Some t)
+argument_asked k a s f rows h given = given_text s.rules a.id a rows (look_all s.rules a.id rows f.defaults ∙ f.after (look a.id rows)) f.no_default h given
 
-stop_asked : (stop : Option (Text × List Text)) → entered_fault whole stop ≡ [] → is_some (entered whole stop) ≡ true → Asked (request_at (entered whole stop))
-stop_asked None e there = absurd (true≢false (sym there))
-stop_asked (Some p) e there = go (answers_to p.0 (label_of leaf)) e there
+header_asked : (s : Shape) (f : IsCommand trace dir_rule s) (rows : List Row) → RowsPass s.rules rows → is_given (codes "dst") (after s.rules rows) ≡ true
+    → is_read address_of (first_of (codes "dst") (after s.rules rows)) ≡ true → is_read address_of (first_of (codes "src") (after s.rules rows)) ≡ true
+    → (h : Header) × (header_at (after s.rules rows) ≡ Some h) × IsHeaderInRange h
+header_asked s f rows h given to_read by_read =
+    let c = s.rules in
+    let d = f.defaults in
+    let i = f.options in
+    let (to_text, to_is) = given_text s.rules (codes "dst") (rule_for dst) rows (look_option s.rules dst rows d i.1.0) refl h given in
+    let (to, to_at) = read_text address_of (first_of (codes "dst") (after s.rules rows)) to_text to_is to_read in
+    let (by_text, by_is) = default_text s.rules src (codes "0.0.0.0") rows d i.1.1.0 h refl in
+    let (by, by_at) = read_text address_of (first_of (codes "src") (after s.rules rows)) by_text by_is by_read in
+    let (p, p_is, p_low, p_high) = number_in 8 s.rules proto 0 255 (codes "0") rows d i.1.1.1.0 h refl refl refl (lit< tt) in
+    let (a, a_is, a_low, a_high) = number_in 16 s.rules sport 0 65535 (codes "0") rows d i.1.1.1.1.0 h refl refl refl (lit< tt) in
+    let (b, b_is, b_low, b_high) = number_in 16 s.rules dport 0 65535 (codes "0") rows d i.1.1.1.1.1.0 h refl refl refl (lit< tt) in (
+      record { dst = to; src = by; proto = p; sport = a; dport = b },
+      rw (to_at, by_at, p_is, a_is, b_is),
+      record { most_proto = p_high; most_sport = a_high; most_dport = b_high },
+    )
+
+-- ---- a command
+
+-- the request of what was found, where its texts are read, and none where they aren't
+pub record IsTold (found : Option (Text × List Row)) : Type 0 where
+  pub read : texts_are_read found ≡ true → (r : Request) × (request_at found ≡ Some r) × AreInRange r.limits × IsAskInRange r.ask
+  pub unread : texts_are_read found ≡ false → request_at found ≡ None
+
+-- what has to be given is given
+abbrev AreGiven : List Text → List Row → Type 0
+AreGiven ids rows = AllOf (λ id. is_given id rows ≡ true) ids
+
+routes_told : (rows : List Row) → RowsPass routes_shape.rules rows → AreGiven (wanted_ids dir_rule routes) (after routes_shape.rules rows) → IsTold (Some (codes "routes", after routes_shape.rules rows))
+routes_told rows h given =
+    let c = routes_shape.rules in
+    let d = routes_is.defaults in
+    let (dir, dir_is) = argument_asked routes dir_rule routes_shape routes_is rows h given.0 in
+    let (l, l_is, l_in) = limits_asked routes_shape.rules rows d routes_is.options.1 h in
+    let no_from : first_of (codes "from") (after routes_shape.rules rows) ≡ None = no_text routes_shape.rules (codes "from") rows d h refl refl in
+    let no_dst : first_of (codes "dst") (after routes_shape.rules rows) ≡ None = no_text routes_shape.rules (codes "dst") rows d h refl refl in
+    let no_src : first_of (codes "src") (after routes_shape.rules rows) ≡ None = no_text routes_shape.rules (codes "src") rows d h refl refl in
+    record {
+      read = λ _. (record { ask = Routes dir (first_of (codes "router") (after routes_shape.rules rows)); limits = l }, rw (dir_is, l_is), l_in, tt);
+      unread = λ e. let bad : true ≡ false = rw (no_from, no_dst, no_src) at e in absurd (true≢false bad);
+    }
+
+then_none : {A B : Type 0} (f : A → Option B) (o : Option A) → ((x : A) → f x ≡ None) → option_and_then f o ≡ None
+then_none f None h = refl
+then_none f (Some x) h = h x
+
+unread_none : {A : Type 0} (read : Text → Option A) (o : Option Text) → is_read read o ≡ false → option_and_then read o ≡ None
+unread_none read None e = absurd (true≢false e)
+unread_none read (Some t) e = elim (read t) as (λ x. is_some x ≡ false → x ≡ None) [ None ↦ λ _. refl | Some x ↦ λ f. absurd (true≢false f) ] e
+
+and_split : (a b : Bool) → (a && b) ≡ false → (a ≡ false) ⊎ (b ≡ false)
+and_split true b e = inr e
+and_split false b e = inl refl
+
+-- without an address there is no header, and without a header or a place no trace
+no_dst : (rows : List Row) → address_at (codes "dst") rows ≡ None → header_at rows ≡ None
+no_dst rows e = rw e
+
+no_src : (rows : List Row) → address_at (codes "src") rows ≡ None → header_at rows ≡ None
+no_src rows e = rw e (then_none _ (address_at (codes "dst") rows) (λ x. refl))
+
+no_header : (rows : List Row) → header_at rows ≡ None → trace_at rows ≡ None
+no_header rows e = rw e (go (place_at (codes "from") rows) (first_of (codes "DIR") rows))
   where
-    go : (b : Bool) → option_map_or (λ s. level_fault s [] nothing_held p.1 false []) (cond b (Some leaf) None) [] ≡ []
-        → is_some (option_map (λ s. rows_at s p.1) (cond b (Some leaf) None)) ≡ true
-        → Asked (request_at (option_map (λ s. rows_at s p.1) (cond b (Some leaf) None)))
-    go true f is = leaf_asked p.1 f
-    go false f is = absurd (true≢false (sym is))
+    go : (p : Option PlaceName) (d : Option Text) → option_and_then (λ dir. option_and_then (λ place. option_map (λ header. Trace dir place header) None) p) d ≡ None
+    go p None = refl
+    go None (Some d) = refl
+    go (Some p) (Some d) = refl
+
+no_place : (rows : List Row) → place_at (codes "from") rows ≡ None → trace_at rows ≡ None
+no_place rows e = rw e (then_none _ (first_of (codes "DIR") rows) (λ x. refl))
+
+trace_unread : (rows : List Row) → texts_are_read (Some (codes "trace", rows)) ≡ false → trace_at rows ≡ None
+trace_unread rows e = elim (and_split (is_read place_of (first_of (codes "from") rows) && is_read address_of (first_of (codes "dst") rows)) (is_read address_of (first_of (codes "src") rows)) e) [
+  | inl both_unread ↦ elim (and_split (is_read place_of (first_of (codes "from") rows)) (is_read address_of (first_of (codes "dst") rows)) both_unread) [
+    | inl place_unread ↦ no_place rows (unread_none place_of (first_of (codes "from") rows) place_unread)
+    | inr dst_unread ↦ no_header rows (no_dst rows (unread_none address_of (first_of (codes "dst") rows) dst_unread))
+  ]
+  | inr src_unread ↦ no_header rows (no_src rows (unread_none address_of (first_of (codes "src") rows) src_unread))
+]
+
+trace_told : (rows : List Row) → RowsPass trace_shape.rules rows → AreGiven (wanted_ids dir_rule trace) (after trace_shape.rules rows) → IsTold (Some (codes "trace", after trace_shape.rules rows))
+trace_told rows h given =
+    let d = trace_is.defaults in
+    let (dir, dir_is) = argument_asked trace dir_rule trace_shape trace_is rows h given.0 in
+    let (place_text, place_is) = given_text trace_shape.rules (codes "from") (rule_for from) rows (look_option trace_shape.rules from rows d trace_is.options.0) refl h given.1.0 in
+    let (l, l_is, l_in) = limits_asked trace_shape.rules rows d trace_is.options.1.1.1.1.1.1 h in
+    record {
+      read = λ e.
+          let outer = both _ _ e in
+          let inner = both _ _ outer.0 in
+          let (place, place_at_is) = read_text place_of (first_of (codes "from") (after trace_shape.rules rows)) place_text place_is inner.0 in
+          let (header, header_is, header_in) = header_asked trace_shape trace_is rows h given.1.1.0 inner.1 outer.1 in
+          (record { ask = Trace dir place header; limits = l }, rw (dir_is, place_at_is, header_is, l_is), l_in, header_in);
+      unread = λ e. ap (option_and_then (λ ask. option_map (λ limits. record { ask = ask; limits = limits }) (limits_at (after trace_shape.rules rows)))) (trace_unread (after trace_shape.rules rows) e);
+    }
+
+-- ---- the command that the words name
+
+any_false : (ids : List Text) (rows : List Row) → list_any (λ id. not (is_given id rows)) ids ≡ false → AreGiven ids rows
+any_false [] rows e = tt
+any_false (id ∷ ids) rows e = elim (is_given id rows) as (λ b. is_given id rows ≡ b → (not b || list_any (λ id. not (is_given id rows)) ids) ≡ false → AreGiven (id ∷ ids) rows) [
+  | true ↦ λ is f. (is, any_false ids rows f)
+  | false ↦ λ is f. absurd (true≢false f)
+] refl e
+
+none_wanted : (b : Bool) → check_kinds false false b ≡ [] → b ≡ false
+none_wanted false e = refl
+none_wanted true e = cc
+
+-- what is found of a command in whose words there is no fault
+level_told : (k : CommandName) (a : Rule) (s : Shape) → IsCommand k a s → ((rows : List Row) → RowsPass s.rules rows → AreGiven (wanted_ids a k) (after s.rules rows) → IsTold (Some (command_word k, after s.rules rows)))
+    → (ws : List Text) → level_fault s [] nothing_held ws false [] ≡ [] → IsTold (Some (rows_at s ws))
+level_told k a s f told ws e =
+    let end : Held = (walk s.rules [] nothing_held ws).held in
+    let walked_well : walk_fault s [] (walk_from nothing_held) ws ≡ [] = first_none _ _ e in
+    let behind = second_none _ _ e in
+    let settled_raw : settle_fault s.rules s.args_override_self (walk s.rules [] nothing_held ws).held ≡ [] = first_none _ _ behind in
+    let settled_well : settle_fault s.rules false (walk s.rules [] nothing_held ws).held ≡ [] = rw f.once at settled_raw in
+    let checked : check_fault s (finished s.rules (walk s.rules [] nothing_held ws).held) false ≡ [] = second_none _ _ (second_none _ _ behind) in
+    let kept : RowsPass s.rules (walk s.rules [] nothing_held ws).held.rows = all_pass s f.own f.once ws (walk_from nothing_held) walked_well tt in
+    let given = any_false (wanted_ids a k) (finished s.rules (walk s.rules [] nothing_held ws).held) (none_wanted _ (sym (f.check (finished s.rules (walk s.rules [] nothing_held ws).held)) ∙ checked)) in
+    rw f.name (told (settled s.rules (walk s.rules [] nothing_held ws).held).rows (settled_passes s.rules f.own (walk s.rules [] nothing_held ws).held settled_well kept) given)
+
+abbrev Tells : Shape → Type 0
+Tells s = (ws : List Text) → level_fault s [] nothing_held ws false [] ≡ [] → IsTold (Some (rows_at s ws))
+
+all_tell : AllOf Tells whole.subs
+all_tell = (level_told routes dir_rule routes_shape routes_is routes_told, (level_told trace dir_rule trace_shape trace_is trace_told, tt))
+
+stop_told : (stop : Option (Text × List Text)) → entered_fault whole stop ≡ [] → is_some (entered whole stop) ≡ true → IsTold (entered whole stop)
+stop_told None e there = absurd (true≢false (sym there))
+stop_told (Some p) e there = go (find (λ s. answers_to p.0 (label_of s)) whole.subs) refl e there
+  where
+    go : (o : Option Shape) → find (λ s. answers_to p.0 (label_of s)) whole.subs ≡ o → option_map_or (λ s. level_fault s [] nothing_held p.1 false []) o [] ≡ [] → is_some (option_map (λ s. rows_at s p.1) o) ≡ true
+        → IsTold (option_map (λ s. rows_at s p.1) o)
+    go None is f h = absurd (true≢false (sym h))
+    go (Some s) is f h = find_all Tells (λ x. answers_to p.0 (label_of x)) whole.subs s all_tell is p.1 f
 
 -- a subcommand is wanted
 wanted : (rows : List Row) (has : Bool) → check_fault whole.top rows has ≡ [] → has ≡ true
@@ -154,7 +213,7 @@ top_parts words e =
     let (walked_well, below, checked) = level_parts whole.top (names_of whole) nothing_held words (is_some (entered whole (stop_at words))) (entered_fault whole (stop_at words)) e in
     (walked_well, below, wanted (finished whole.top.rules end.held) (is_some (entered whole (stop_at words))) checked)
 
-pub asked : (words : List Text) → fault_of netcheck_app words ≡ [] → Asked (request_at (subcommand_of netcheck_app words))
-asked words e =
+pub told : (words : List Text) → fault_of netcheck_app words ≡ [] → IsTold (subcommand_of netcheck_app words)
+told words e =
     let (walked_well, below, there) = top_parts words e in
-    stop_asked (stop_at words) below there
+    stop_told (stop_at words) below there

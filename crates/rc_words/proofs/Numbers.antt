@@ -1,5 +1,6 @@
 -- Numbers as the words write them.
 use Rattle.std.proofs.Common.{arith, refl, sym, ◌≡◌, ◌≢◌, ◌∙◌, ap, ℕ, ◌<◌, ◌≤◌, ◌^◌, ◌&&◌, Bool, true, false, List, [], ◌∷◌, length, Option, Some, None}
+use Rattle.std.proofs.Math.Nat.{lt_of_le_of_lt}
 use Rattle.std.proofs.lemmas.Bool.{lt-ltb, ltb-true}
 use Rattle.std.proofs.lemmas.Str.Parse.{digit_from_value, numerals_by_value, tells_all_ascii_digits, without_leading_plus_none}
 use Rattle.std.specs.Prelude.{Result, Ok, Err, nat_lt, option_and_then}
@@ -26,42 +27,42 @@ digits_from (d ∷ ds) e =
     (ltb-true _ _ parts.0, digits_from ds parts.1)
 
 -- a numeral that fits is read
-numeral_read : (text : Text) → IsNumeral 10 (without_leading_plus text) → digits_value 10 (without_leading_plus text) < 2 ^ 32
-    → number_read text ≡ Some (digits_value 10 (without_leading_plus text))
-numeral_read text h small =
+numeral_read : (bits : ℕ) (text : Text) → IsNumeral 10 (without_leading_plus text) → digits_value 10 (without_leading_plus text) < 2 ^ bits
+    → number_read bits text ≡ Some (digits_value 10 (without_leading_plus text))
+numeral_read bits text h small =
     let ds = without_leading_plus text in
-    rw (lt-ltb 0 (length ds) h.0, digits_pass ds h.1, lt-ltb (digits_value 10 ds) (2 ^ 32) small) refl
+    rw (lt-ltb 0 (length ds) h.0, digits_pass ds h.1, lt-ltb (digits_value 10 ds) (2 ^ bits) small) refl
 
-abbrev fits : Text → Bool
-fits text = is_numeral (without_leading_plus text) && nat_lt (digits_value 10 (without_leading_plus text)) (2 ^ 32)
+abbrev fits : ℕ → Text → Bool
+fits bits text = is_numeral (without_leading_plus text) && nat_lt (digits_value 10 (without_leading_plus text)) (2 ^ bits)
 
 -- what `get_one` gives is the number that is read
-pub read_is : (E : Type 0) (G : List ℕ → Result ℕ E → Type 0) (text : Text) (r : Option ℕ) → ((u : List ℕ) (x : Result ℕ E) → G u x → ParsesUnsigned 32 10 u x)
-    → ReadsOne G text r → r ≡ number_read text
-read_is E G text (Some n) only h =
+pub read_is : (bits : ℕ) (E : Type 0) (G : List ℕ → Result ℕ E → Type 0) (text : Text) (r : Option ℕ) → ((u : List ℕ) (x : Result ℕ E) → G u x → ParsesUnsigned bits 10 u x)
+    → ReadsOne G text r → r ≡ number_read bits text
+read_is bits E G text (Some n) only h =
     let g = only text (Ok n) h in
-    ap Some g.1 ∙ sym (numeral_read text g.0.0 g.0.1)
-read_is E G text None only h = go (fits text) refl
+    ap Some g.1 ∙ sym (numeral_read bits text g.0.0 g.0.1)
+read_is bits E G text None only h = go (fits bits text) refl
   where
-    go : (b : Bool) → fits text ≡ b → None ≡ number_read text
+    go : (b : Bool) → fits bits text ≡ b → None ≡ number_read bits text
     go false t = rw t refl
     go true t =
         let outer = both _ _ t in
         let inner = both _ _ outer.0 in
         absurd (only text (Err h.0) h.1 ((ltb-true _ _ inner.0, digits_from (without_leading_plus text) inner.1), ltb-true _ _ outer.1))
 
-pub one_is : (E : Type 0) (G : List ℕ → Result ℕ E → Type 0) (text : Option Text) (r : Option ℕ) → ((u : List ℕ) (x : Result ℕ E) → G u x → ParsesUnsigned 32 10 u x)
-    → (text ≡ None → r ≡ None) → ((t : List ℕ) → text ≡ Some t → ReadsOne G t r) → r ≡ option_and_then number_read text
-one_is E G None r only none value = none refl
-one_is E G (Some t) r only none value = read_is E G t r only (value t refl)
+pub one_is : (bits : ℕ) (E : Type 0) (G : List ℕ → Result ℕ E → Type 0) (text : Option Text) (r : Option ℕ) → ((u : List ℕ) (x : Result ℕ E) → G u x → ParsesUnsigned bits 10 u x)
+    → (text ≡ None → r ≡ None) → ((t : List ℕ) → text ≡ Some t → ReadsOne G t r) → r ≡ option_and_then (number_read bits) text
+one_is bits E G None r only none value = none refl
+one_is bits E G (Some t) r only none value = read_is bits E G t r only (value t refl)
 
 -- a text that passed an option's range is a number in it
-pub accepted_number : (least most : ℕ) (text : Text) → most < 2 ^ 32 → accepts false (vp.Unsigned least most) text ≡ true
-    → (n : ℕ) × (number_read text ≡ Some n) × (least ≤ n) × (n ≤ most)
-accepted_number least most text small e =
+pub accepted_number : (bits least most : ℕ) (text : Text) → most < 2 ^ bits → accepts false (vp.Unsigned least most) text ≡ true
+    → (n : ℕ) × (number_read bits text ≡ Some n) × (least ≤ n) × (n ≤ most)
+accepted_number bits least most text small e =
     let a = accepts-Accepts false (vp.Unsigned least most) text e in
     let v : ℕ = digits_value 10 (without_leading_plus text) in
-    (v, numeral_read text a.0 (omega arith), a.2, a.3)
+    (v, numeral_read bits text a.0 (lt_of_le_of_lt a.3 small), a.2, a.3)
 
 -- decimal digits with no plus
 pub record IsDigits (text : Text) : Type 0 where
@@ -75,11 +76,11 @@ digits_are (d ∷ ds) some e =
     let no_plus : d ≢ 43 = λ p. let k = digit_from_value d all.0 in absurd (omega arith) in
     record { numeral = (some, all); whole = without_leading_plus_none (d ∷ ds) no_plus }
 
-pub digits_read : (text : Text) → IsDigits text → digits_value 10 text < 2 ^ 32 → number_read text ≡ Some (digits_value 10 text)
-digits_read text h small =
+pub digits_read : (bits : ℕ) (text : Text) → IsDigits text → digits_value 10 text < 2 ^ bits → number_read bits text ≡ Some (digits_value 10 text)
+digits_read bits text h small =
     let numeral : IsNumeral 10 (without_leading_plus text) = rw h.whole h.numeral in
-    let fits_too : digits_value 10 (without_leading_plus text) < 2 ^ 32 = rw h.whole small in
-    numeral_read text numeral fits_too ∙ ap (λ t. Some (digits_value 10 t)) h.whole
+    let fits_too : digits_value 10 (without_leading_plus text) < 2 ^ bits = rw h.whole small in
+    numeral_read bits text numeral fits_too ∙ ap (λ t. Some (digits_value 10 t)) h.whole
 
 pub digits_accepted : (least most : ℕ) (text : Text) → IsDigits text → most < 2 ^ 32 → least ≤ digits_value 10 text → digits_value 10 text ≤ most
     → accepts false (vp.Unsigned least most) text ≡ true

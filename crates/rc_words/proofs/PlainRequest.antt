@@ -1,93 +1,38 @@
 -- Plain words make the request that they say.
-use Rattle.std.proofs.Common.{ap, sym, arith, lit<, lit≤, ◌≡◌, ◌∙◌, ℕ, ◌<◌, ◌≤◌, Bool, true, false, not, ◌||◌, ◌==◌, ne_eqb, true≢false, List, [], ◌∷◌, ◌++◌, append_assoc, refl, Option, Some, cond, codes, unwrap_or, if◌then◌else◌}
-use Rattle.std.specs.Prelude.{option_and_then, slice_get}
+use Rattle.std.proofs.Common.{ap, sym, subst, arith, ◌≡◌, ◌∙◌, ℕ, ◌<◌, ◌^◌, Bool, true, false, not, ◌||◌, ◌==◌, ne_eqb, true≢false, List, [], ◌∷◌, ◌++◌, append_assoc, refl, Option, Some, None, cond, codes, map, if◌then◌else◌, slice_get, lit<}
+use Rattle.std.proofs.Math.Nat.{lt_of_le_of_lt}
+use Rattle.std.specs.Prelude.{option_and_then, option_map}
+use Rattle.std.specs.List.{list_all}
+use Rattle.std.specs.Option.{option_map_or}
 use Rattle.std.specs.Str.{bytes_eq}
 use Rattle.std.specs.Str.Parse.{digits_value}
+use Rattle.std.proofs.lemmas.Slice.Eq.{bytes_eq-Decides}
 use Rattle.std.proofs.lemmas.Str.Parse.{digit_from_value}
-use Rattle.clap.specs.Takes.{value_passes}
+use Rattle.clap.specs.Facts.{explicit_source}
+use Rattle.clap.specs.Simple.{Shape}
+use Rattle.clap.specs.Takes.{value_passes, is_given as is_there}
+use Rattle.clap.specs.ValueTests.{accepts}
+use Rattle.clap.specs.Values.{read_as, reading_of}
 use Rattle.clap.specs.Walk.{Row, Rule, Text, has_row, row_text}
 use Rattle.clap.specs.Words.{first_of}
-use Rattle.rc_words.specs.Plain.{OptionName, rounds, workers, nodes, same_option, word_for, least, most, default, Use, IsPlainUse, is_plain_text, is_given, ArePlainUses, ArePlain, number_in, option_words, plain_words, value_of, plain_request}
-use Rattle.rc_words.specs.Request.{number_read, number_at, routes_at, request_at, request_of}
+use Rattle.clap.proofs.WalkLemmas.{both}
+use Rattle.rc_base.specs.declared.header.Header.{Header}
+use Rattle.rc_openings.specs.Values.{address_of}
+use Rattle.rc_words.specs.Plain.{CommandName, routes, trace, command_word, OptionName, router, from, dst, src, proto, sport, dport, rounds, workers, nodes, option_name, same_option, ValueKind, number, text, kind_of, default, limit_options, options_of, required_of, has_option, Use, IsPlainNumber, IsPlainValue, is_plain_text, is_given, ArePlainUses, ArePlain, option_words, plain_words, text_for, number_for, plain_limits, plain_header, plain_request}
+use Rattle.rc_words.specs.Request.{number_read, number_at, address_at, place_of, place_at, limits_at, header_at, request_at, request_of}
+use Rattle.rc_words.specs.declared.request.Ask.TheVariants.{Trace}
+use Rattle.rc_words.specs.declared.request.Limits.{Limits}
+use Rattle.rc_words.specs.declared.request.PlaceName.{PlaceName}
 use Rattle.rc_words.proofs.Numbers.{IsDigits, digits_are, digits_read, digits_accepted}
-use Rattle.rc_words.proofs.Leaf.{leaf_rules, dir_rule}
-use Rattle.rc_words.proofs.Defaults.{look, default_row, after_defaults, look_dir, look_rounds, look_workers, look_nodes, rounds_rule, workers_rule, nodes_rule}
-use Rattle.rc_words.proofs.PlainWalk.{IsSingle, IsOptionWord, IsPlainText, OptionUse, words_of, given, AreUsed, row_for}
-use Rattle.rc_words.proofs.RoutesTaken.{plain_routes, plain_rows}
+use Rattle.rc_words.proofs.Commands.{IsCommand, IsOption, IsSmall, named, same_is, rule_for, dir_rule, parser_by, wanted_ids, routes_shape, routes_is, trace_shape, trace_is}
+use Rattle.rc_words.proofs.Defaults.{look, look_all, or_default, default_row, defaults_by}
+use Rattle.rc_words.proofs.PlainWalk.{IsSingle, IsOptionWord, IsPlainText, OptionUse, words_of, given, AreUsed, row_for, same_text_eq}
+use Rattle.rc_words.proofs.PlainTaken.{plain_well, plain_rows}
 use Rattle.rc_words.proofs.RequestLaws.{when_taken}
+use Rattle.rc_words.proofs.Rules.{AllOf}
+use Rattle.rc_words.proofs.Told.{after, look_option, first_in}
 
-abbrev rule_for : OptionName → Rule
-rule_for rounds = rounds_rule
-rule_for workers = workers_rule
-rule_for nodes = nodes_rule
-
-abbrev id_of : OptionName → Text
-id_of o = (rule_for o).id
-
-abbrev use_of : Use → OptionUse
-use_of u = record { word = word_for u.option; rule = rule_for u.option; value = u.value }
-
-abbrev uses_of : List Use → List OptionUse
-uses_of [] = []
-uses_of (u ∷ us) = use_of u ∷ uses_of us
-
-words_are : (uses : List Use) → words_of (uses_of uses) ≡ option_words uses
-words_are [] = refl
-words_are (u ∷ us) = ap (λ ws. word_for u.option ∷ u.value ∷ ws) (words_are us)
-
--- ---- names of options
-
-same_ids : (a b : OptionName) → bytes_eq (id_of a) (id_of b) ≡ same_option a b
-same_ids rounds rounds = refl
-same_ids rounds workers = refl
-same_ids rounds nodes = refl
-same_ids workers rounds = refl
-same_ids workers workers = refl
-same_ids workers nodes = refl
-same_ids nodes rounds = refl
-same_ids nodes workers = refl
-same_ids nodes nodes = refl
-
-same_self : (o : OptionName) → same_option o o ≡ true
-same_self rounds = refl
-same_self workers = refl
-same_self nodes = refl
-
-same_is : (a b : OptionName) → same_option a b ≡ true → a ≡ b
-same_is rounds rounds e = refl
-same_is rounds workers e = cc
-same_is rounds nodes e = cc
-same_is workers rounds e = cc
-same_is workers workers e = refl
-same_is workers nodes e = cc
-same_is nodes rounds e = cc
-same_is nodes workers e = cc
-same_is nodes nodes e = refl
-
--- ---- clap's words for an option and its number
-
-option_word : (o : OptionName) → IsOptionWord leaf_rules (word_for o) (rule_for o)
-option_word rounds = record { name = codes "rounds"; long = refl; not_end = refl; found = refl }
-option_word workers = record { name = codes "workers"; long = refl; not_end = refl; found = refl }
-option_word nodes = record { name = codes "nodes"; long = refl; not_end = refl; found = refl }
-
-single : (o : OptionName) (v : Text) → value_passes (rule_for o) v ≡ true → IsSingle leaf_rules (rule_for o) v
-single rounds v e = record { here = refl; set = refl; least = refl; most = refl; passes = e }
-single workers v e = record { here = refl; set = refl; least = refl; most = refl; passes = e }
-single nodes v e = record { here = refl; set = refl; least = refl; most = refl; passes = e }
-
-option_passes : (o : OptionName) (v : Text) → IsDigits v → least o ≤ digits_value 10 v → digits_value 10 v ≤ most o → value_passes (rule_for o) v ≡ true
-option_passes rounds v h low high = digits_accepted 1 100000 v h (lit< tt) low high
-option_passes workers v h low high = digits_accepted 1 64 v h (lit< tt) low high
-option_passes nodes v h low high = digits_accepted 16 16777216 v h (lit< tt) low high
-
-most_fits : (o : OptionName) → most o ≤ 16777216
-most_fits rounds = lit≤ tt
-most_fits workers = lit≤ tt
-most_fits nodes = lit≤ tt
-
-use_single : (u : Use) → IsPlainUse u → IsSingle leaf_rules (rule_for u.option) u.value
-use_single u h = single u.option u.value (option_passes u.option u.value (digits_are u.value h.some h.digits) h.least h.most)
+-- ---- values
 
 no_dash : (x : ℕ) (xs : Text) → (x == 45) ≡ false → IsPlainText (x ∷ xs)
 no_dash x xs e = record { not_end = rw e; not_long = rw e; not_short = rw e }
@@ -96,19 +41,55 @@ not_true : (b : Bool) → not b ≡ true → b ≡ false
 not_true true e = absurd (true≢false (sym e))
 not_true false e = refl
 
-folder_plain : (d : Text) → is_plain_text d ≡ true → IsPlainText d
-folder_plain [] e = absurd (true≢false (sym e))
-folder_plain (x ∷ xs) e = no_dash x xs (not_true (x == 45) e)
+text_plain : (v : Text) → is_plain_text v ≡ true → IsPlainText v
+text_plain [] e = absurd (true≢false (sym e))
+text_plain (x ∷ xs) e = no_dash x xs (not_true (x == 45) e)
 
 digits_plain : (v : Text) → IsDigits v → IsPlainText v
 digits_plain [] h = let bad : 0 < 0 = h.numeral.0 in absurd (omega arith)
 digits_plain (x ∷ xs) h = no_dash x xs (ne_eqb x 45 (λ e. let k = digit_from_value x h.numeral.1.0 in absurd (omega arith)))
 
+kind_well : (kind : ValueKind) (v : Text) → IsSmall kind → IsPlainValue kind v → (accepts false (parser_by kind) v ≡ true) × IsPlainText v
+kind_well (number low high) v small h =
+    let digits = digits_are v h.some h.digits in
+    (digits_accepted low high v digits small h.least h.most, digits_plain v digits)
+kind_well text v small h = (refl, text_plain v h)
+
+-- ---- options
+
+abbrev use_of : Use → OptionUse
+use_of u = record { word = codes "--" ++ option_name u.option; rule = rule_for u.option; value = u.value }
+
+abbrev uses_of : List Use → List OptionUse
+uses_of [] = []
+uses_of (u ∷ us) = use_of u ∷ uses_of us
+
+words_are : (uses : List Use) → words_of (uses_of uses) ≡ option_words uses
+words_are [] = refl
+words_are (u ∷ us) = ap (λ ws. (codes "--" ++ option_name u.option) ∷ u.value ∷ ws) (words_are us)
+
+same_option_is : (a b : OptionName) → same_option a b ≡ true → a ≡ b
+same_option_is a b e = same_is a b ((bytes_eq-Decides (option_name a) (option_name b)).0 e)
+
+-- a command's option is one of its rules
+option_in : (c : List Rule) (os : List OptionName) (o : OptionName) → AllOf (IsOption c) os → has_option o os ≡ true → IsOption c o
+option_in c [] o h e = absurd (true≢false (sym e))
+option_in c (a ∷ os) o h e = elim (same_option a o) as (λ b. same_option a o ≡ b → (b || has_option o os) ≡ true → IsOption c o) [
+  | true ↦ λ same _. subst (IsOption c) (same_option_is a o same) h.0
+  | false ↦ λ _ g. option_in c os o h.1 g
+] refl e
+
+option_word : (c : List Rule) (o : OptionName) → IsOption c o → IsOptionWord c (codes "--" ++ option_name o) (rule_for o)
+option_word c o i = record { name = option_name o; long = (named o).long; not_end = (named o).not_end; found = i.long }
+
+single : (c : List Rule) (o : OptionName) (v : Text) → IsOption c o → value_passes (rule_for o) v ≡ true → IsSingle c (rule_for o) v
+single c o v i e = record { here = i.here; set = refl; least = refl; most = refl; passes = e }
+
 -- ---- no argument is used twice
 
 -- no option among the uses has a row
 abbrev Fresh : List Row → List Use → Type 0
-Fresh rows uses = (o : OptionName) → is_given o uses ≡ true → has_row (id_of o) rows ≡ false
+Fresh rows uses = (o : OptionName) → is_given o uses ≡ true → has_row (option_name o) rows ≡ false
 
 has_row_behind : (id : Text) (rows : List Row) (r : Row) → has_row id rows ≡ false → bytes_eq r.id id ≡ false → has_row id (rows ++ r ∷ []) ≡ false
 has_row_behind id [] r e other = rw other
@@ -121,43 +102,21 @@ or_true : (b : Bool) → (b || true) ≡ true
 or_true true = refl
 or_true false = refl
 
-fresh_head : (u : Use) (us : List Use) (rows : List Row) → Fresh rows (u ∷ us) → has_row (id_of u.option) rows ≡ false
-fresh_head u us rows f = f u.option (rw (same_self u.option))
+fresh_head : (u : Use) (us : List Use) (rows : List Row) → Fresh rows (u ∷ us) → has_row (option_name u.option) rows ≡ false
+fresh_head u us rows f = f u.option (rw (same_text_eq (option_name u.option)))
 
 fresh_more : (u : Use) (us : List Use) (rows : List Row) → Fresh rows (u ∷ us) → is_given u.option us ≡ false → Fresh (rows ++ row_for (rule_for u.option) u.value ∷ []) us
 fresh_more u us rows f once = λ o g.
-    let before : has_row (id_of o) rows ≡ false = f o (rw g (or_true (same_option u.option o))) in
-    has_row_behind (id_of o) rows (row_for (rule_for u.option) u.value) before (same_ids u.option o ∙ other o g (same_option u.option o) refl)
+    let before : has_row (option_name o) rows ≡ false = f o (rw g (or_true (same_option u.option o))) in
+    has_row_behind (option_name o) rows (row_for (rule_for u.option) u.value) before (other o g (same_option u.option o) refl)
   where
-    other : (o : OptionName) → is_given o us ≡ true → (b : Bool) → same_option u.option o ≡ b → b ≡ false
-    other o g false e = refl
+    other : (o : OptionName) → is_given o us ≡ true → (b : Bool) → same_option u.option o ≡ b → same_option u.option o ≡ false
+    other o g false e = e
     other o g true e =
-        let same : u.option ≡ o = same_is u.option o e in
+        let same : u.option ≡ o = same_option_is u.option o e in
         absurd (true≢false (sym g ∙ ap (λ x. is_given x us) (sym same) ∙ once))
 
-all_used : (rows : List Row) (a : Rule) (v : Text) (uses : List Use) → IsSingle leaf_rules a v → has_row a.id rows ≡ false → Fresh (rows ++ row_for a v ∷ []) uses → ArePlainUses uses
-    → AreUsed leaf_rules rows a v (uses_of uses)
-all_used rows a v [] s e f p = (s, e)
-all_used rows a v (u ∷ us) s e f (plain, once, rest) =
-    let next : List Row = rows ++ row_for a v ∷ [] in
-    let one = use_single u plain in (
-      s,
-      e,
-      option_word u.option,
-      one,
-      digits_plain u.value (digits_are u.value plain.some plain.digits),
-      all_used (rows ++ row_for a v ∷ []) (rule_for u.option) u.value us one (fresh_head u us (rows ++ row_for a v ∷ []) f) (fresh_more u us (rows ++ row_for a v ∷ []) f once) rest,
-    )
-
-first_fresh : (d : Text) (uses : List Use) → Fresh (row_for dir_rule d ∷ []) uses
-first_fresh d uses rounds g = refl
-first_fresh d uses workers g = refl
-first_fresh d uses nodes g = refl
-
-are_used : (d : Text) (uses : List Use) → ArePlainUses uses → AreUsed leaf_rules [] dir_rule d (uses_of uses)
-are_used d uses p = all_used [] dir_rule d uses record { here = refl; set = refl; least = refl; most = refl; passes = refl } refl (first_fresh d uses) p
-
--- ---- the values that are found
+-- ---- what is found of an option
 
 abbrev row_of : Use → Row
 row_of u = row_for (rule_for u.option) u.value
@@ -170,58 +129,157 @@ given_is : (rows : List Row) (a : Rule) (v : Text) (uses : List Use) → given r
 given_is rows a v [] = refl
 given_is rows a v (u ∷ us) = given_is (rows ++ row_for a v ∷ []) (rule_for u.option) u.value us ∙ append_assoc rows (row_for a v ∷ []) (row_of u ∷ rows_for us)
 
-text_is : (o : OptionName) (v : Text) → row_text (row_for (rule_for o) v) ≡ Some v
-text_is rounds v = refl
-text_is workers v = refl
-text_is nodes v = refl
+abbrev option_row : OptionName → List Use → Option Row
+option_row o uses = or_default (rule_for o) (look (option_name o) (rows_for uses))
 
-abbrev read_in : Row → Option ℕ
-read_in r = option_and_then number_read (row_text r)
+-- numbers and texts are read as they are written
+as_written : (kind : ValueKind) (v : Text) → option_map (read_as (reading_of (parser_by kind))) (Some v) ≡ Some v
+as_written (number low high) v = refl
+as_written text v = refl
 
-use_read : (u : Use) → IsPlainUse u → read_in (row_of u) ≡ Some (number_in u)
-use_read u h =
-    let limit = most_fits u.option in
-    let low_enough = h.most in
-    ap (option_and_then number_read) (text_is u.option u.value) ∙ digits_read u.value (digits_are u.value h.some h.digits) (omega arith)
+first_found : (o : OptionName) (uses : List Use) → first_in (option_row o uses) ≡ text_for o uses
+first_found o [] = elim (default o) as (λ x. first_in (option_map (default_row (rule_for o)) (slice_get (defaults_by x) 0)) ≡ x) [ None ↦ refl | Some t ↦ refl ]
+first_found o (u ∷ us) = elim (same_option u.option o) as (λ b. first_in (or_default (rule_for o) (cond b (Some (row_of u)) (look (option_name o) (rows_for us)))) ≡ (if b then Some u.value else text_for o us)) [
+  | true ↦ refl
+  | false ↦ first_found o us
+]
 
-value_found : (o : OptionName) (r : Row) (uses : List Use) → read_in r ≡ Some (default o) → ArePlainUses uses → read_in (unwrap_or (look (id_of o) (rows_for uses)) r) ≡ Some (value_of o uses)
-value_found o r [] e p = e
-value_found o r (u ∷ us) e (plain, once, rest) =
-    ap (λ b. read_in (unwrap_or (cond b (Some (row_of u)) (look (id_of o) (rows_for us))) r)) (same_ids u.option o)
-    ∙ elim (same_option u.option o) as (λ b. read_in (unwrap_or (cond b (Some (row_of u)) (look (id_of o) (rows_for us))) r) ≡ Some (if b then number_in u else value_of o us)) [
-      | true ↦ use_read u plain
-      | false ↦ value_found o r us e rest
-    ]
+one_found : (o : OptionName) (uses : List Use) → option_and_then row_text (option_row o uses) ≡ text_for o uses
+one_found o [] = elim (default o) as (λ x. option_and_then row_text (option_map (default_row (rule_for o)) (slice_get (defaults_by x) 0)) ≡ x) [ None ↦ refl | Some t ↦ as_written (kind_of o) t ]
+one_found o (u ∷ us) = elim (same_option u.option o) as (λ b. option_and_then row_text (or_default (rule_for o) (cond b (Some (row_of u)) (look (option_name o) (rows_for us)))) ≡ (if b then Some u.value else text_for o us)) [
+  | true ↦ as_written (kind_of u.option) u.value
+  | false ↦ one_found o us
+]
 
--- the rows of plain words
-abbrev plain_found : Text → List Use → List Row
-plain_found d uses = row_for dir_rule d ∷ rows_for uses
+number_found : (k : CommandName) (bits : ℕ) (o : OptionName) (low high : ℕ) (t : Text) (uses : List Use) → kind_of o ≡ number low high → high < 2 ^ bits → default o ≡ Some t → number_read bits t ≡ Some (digits_value 10 t)
+    → ArePlainUses k uses → option_and_then (number_read bits) (text_for o uses) ≡ Some (number_for o uses)
+number_found k bits o low high t [] kind small is read p = rw is read
+number_found k bits o low high t (u ∷ us) kind small is read (own, plain, once, rest) = go (number_found k bits o low high t us kind small is read rest) (same_option u.option o) refl
+  where
+    go : option_and_then (number_read bits) (text_for o us) ≡ Some (number_for o us) → (b : Bool) → same_option u.option o ≡ b
+        → option_and_then (number_read bits) (if b then Some u.value else text_for o us) ≡ Some (option_map_or (digits_value 10) (if b then Some u.value else text_for o us) 0)
+    go later false e = later
+    go later true e =
+        let this : kind_of u.option ≡ number low high = ap kind_of (same_option_is u.option o e) ∙ kind in
+        let plain_number : IsPlainNumber low high u.value = subst (λ (x : ValueKind). IsPlainValue x u.value) this plain in
+        digits_read bits u.value (digits_are u.value plain_number.some plain_number.digits) (lt_of_le_of_lt plain_number.most small)
 
-abbrev number_by : Option Row → Option ℕ
-number_by o = option_and_then number_read (option_and_then row_text o)
+abbrev source_given : Option Row → Bool
+source_given o = option_map_or (λ (r : Row). explicit_source r.source) o false
 
-folder_found : (d : Text) (uses : List Use) → first_of (codes "DIR") (after_defaults (plain_found d uses)) ≡ Some d
-folder_found d uses = ap (option_and_then (λ (r : Row). slice_get r.values 0)) (look_dir (plain_found d uses))
+given_found : (o : OptionName) (uses : List Use) → is_given o uses ≡ true → source_given (option_row o uses) ≡ true
+given_found o [] e = absurd (true≢false (sym e))
+given_found o (u ∷ us) e = elim (same_option u.option o) as (λ b. (b || is_given o us) ≡ true → source_given (or_default (rule_for o) (cond b (Some (row_of u)) (look (option_name o) (rows_for us)))) ≡ true) [
+  | true ↦ λ _. refl
+  | false ↦ λ g. given_found o us g
+] e
 
-rounds_found : (d : Text) (uses : List Use) → ArePlainUses uses → number_at (codes "rounds") (after_defaults (plain_found d uses)) ≡ Some (value_of rounds uses)
-rounds_found d uses p = ap number_by (look_rounds (plain_found d uses)) ∙ value_found rounds (default_row rounds_rule (codes "1000")) uses refl p
+-- ---- a command's plain words
 
-workers_found : (d : Text) (uses : List Use) → ArePlainUses uses → number_at (codes "workers") (after_defaults (plain_found d uses)) ≡ Some (value_of workers uses)
-workers_found d uses p = ap number_by (look_workers (plain_found d uses)) ∙ value_found workers (default_row workers_rule (codes "4")) uses refl p
+abbrev plain_found : Rule → Text → List Use → List Row
+plain_found a d uses = row_for a d ∷ rows_for uses
 
-nodes_found : (d : Text) (uses : List Use) → ArePlainUses uses → number_at (codes "nodes") (after_defaults (plain_found d uses)) ≡ Some (value_of nodes uses)
-nodes_found d uses p = ap number_by (look_nodes (plain_found d uses)) ∙ value_found nodes (default_row nodes_rule (codes "1048576")) uses refl p
+module _ (k : CommandName) (a : Rule) (s : Shape) (f : IsCommand k a s) (d : Text) (pass : value_passes a d ≡ true) (uses : List Use) where
+  all_used : (rows : List Row) (b : Rule) (v : Text) (us : List Use) → IsSingle s.rules b v → has_row b.id rows ≡ false → Fresh (rows ++ row_for b v ∷ []) us → ArePlainUses k us → AreUsed s.rules rows b v (uses_of us)
+  all_used rows b v [] i e fresh p = (i, e)
+  all_used rows b v (u ∷ us) i e fresh (own, plain, once, rest) =
+      let option = option_in s.rules (options_of k) u.option f.options own in
+      let (passes, no_flag) = kind_well (kind_of u.option) u.value (named u.option).small plain in
+      let one = single s.rules u.option u.value option passes in (
+        i,
+        e,
+        option_word s.rules u.option option,
+        one,
+        no_flag,
+        all_used (rows ++ row_for b v ∷ []) (rule_for u.option) u.value us one (fresh_head u us (rows ++ row_for b v ∷ []) fresh) (fresh_more u us (rows ++ row_for b v ∷ []) fresh once) rest,
+      )
 
-routes_found : (d : Text) (uses : List Use) → ArePlainUses uses → routes_at (after_defaults (plain_found d uses)) ≡ Some (plain_request d uses)
-routes_found d uses p = rw (folder_found d uses, rounds_found d uses p, workers_found d uses p, nodes_found d uses p) refl
+  are_used : ArePlainUses k uses → AreUsed s.rules [] a d (uses_of uses)
+  are_used p = all_used [] a d uses (f.first d pass).single refl (λ o g. rw (f.apart o)) p
 
-pub plain_taken : (d : Text) (uses : List Use) → ArePlain d uses → request_of (plain_words d uses) ≡ Some (plain_request d uses)
-plain_taken d uses h =
-    let plain = folder_plain d h.folder in
-    let used = are_used d uses h.options in
-    let words : plain_words d uses ≡ codes "routes" ∷ d ∷ words_of (uses_of uses) = ap (λ ws. codes "routes" ∷ d ∷ ws) (sym (words_are uses)) in
-    ap request_of words
-    ∙ when_taken (codes "routes" ∷ d ∷ words_of (uses_of uses)) (plain_routes d (uses_of uses) plain used)
-    ∙ ap request_at (plain_rows d (uses_of uses) plain used)
-    ∙ ap (λ rows. routes_at (after_defaults rows)) (given_is [] dir_rule d uses)
-    ∙ routes_found d uses h.options
+  argument_found : look a.id (after s.rules (plain_found a d uses)) ≡ Some (row_for a d)
+  argument_found = look_all s.rules a.id (plain_found a d uses) f.defaults ∙ f.after (look a.id (plain_found a d uses)) ∙ rw (same_text_eq a.id)
+
+  option_found : (o : OptionName) → IsOption s.rules o → look (option_name o) (after s.rules (plain_found a d uses)) ≡ option_row o uses
+  option_found o i = look_option s.rules o (plain_found a d uses) f.defaults i ∙ ap (λ b. or_default (rule_for o) (cond b (Some (row_for a d)) (look (option_name o) (rows_for uses)))) (f.apart o)
+
+  text_found : (o : OptionName) → IsOption s.rules o → first_of (option_name o) (after s.rules (plain_found a d uses)) ≡ text_for o uses
+  text_found o i = ap first_in (option_found o i) ∙ first_found o uses
+
+  value_found : (bits : ℕ) (o : OptionName) (low high : ℕ) (t : Text) → IsOption s.rules o → kind_of o ≡ number low high → high < 2 ^ bits → default o ≡ Some t → number_read bits t ≡ Some (digits_value 10 t)
+      → ArePlainUses k uses → number_at bits (option_name o) (after s.rules (plain_found a d uses)) ≡ Some (number_for o uses)
+  value_found bits o low high t i kind small is read p =
+      ap (λ x. option_and_then (number_read bits) (option_and_then row_text x)) (option_found o i)
+      ∙ ap (option_and_then (number_read bits)) (one_found o uses)
+      ∙ number_found k bits o low high t uses kind small is read p
+
+  all_there : (os : List OptionName) → AllOf (IsOption s.rules) os → list_all (λ o. is_given o uses) os ≡ true → AllOf (λ id. is_there id (after s.rules (plain_found a d uses)) ≡ true) (map option_name os)
+  all_there [] i e = tt
+  all_there (o ∷ os) i e =
+      let halves = both _ _ e in
+      (ap source_given (option_found o i.0) ∙ given_found o uses halves.0, all_there os i.1 halves.1)
+
+  limits_found : AllOf (IsOption s.rules) limit_options → ArePlainUses k uses → limits_at (after s.rules (plain_found a d uses)) ≡ Some (plain_limits uses)
+  limits_found i p =
+      let r = value_found 32 rounds 1 100000 (codes "1000") i.0 refl (lit< tt) refl refl p in
+      let w = value_found 32 workers 1 64 (codes "4") i.1.0 refl (lit< tt) refl refl p in
+      let n = value_found 32 nodes 16 16777216 (codes "1048576") i.1.1.0 refl (lit< tt) refl refl p in
+      rw (r, w, n)
+
+  -- what is asked is what clap found says
+  words_ask : IsPlainText d → ArePlain k d uses → request_of (plain_words k d uses) ≡ request_at (Some (command_word k, after s.rules (plain_found a d uses)))
+  words_ask plain h =
+      let used = are_used h.options in
+      let rows : given [] a d (uses_of uses) ≡ plain_found a d uses = given_is [] a d uses in
+      let there : AllOf (λ id. is_there id (after s.rules (plain_found a d uses)) ≡ true) (wanted_ids a k) = (ap source_given argument_found, all_there (required_of k) f.required h.required) in
+      let words : plain_words k d uses ≡ command_word k ∷ d ∷ words_of (uses_of uses) = ap (λ ws. command_word k ∷ d ∷ ws) (sym (words_are uses)) in
+      ap request_of words
+      ∙ when_taken (command_word k ∷ d ∷ words_of (uses_of uses)) (plain_well k a s f d pass plain (uses_of uses) used (subst (λ (rs : List Row). AllOf (λ id. is_there id (after s.rules rs) ≡ true) (wanted_ids a k)) (sym rows) there))
+      ∙ ap request_at (plain_rows k a s f d pass plain (uses_of uses) used)
+      ∙ ap (λ rs. request_at (Some (command_word k, after s.rules rs))) rows
+
+-- ---- routes
+
+routes_taken : (d : Text) (uses : List Use) → ArePlain routes d uses → request_of (plain_words routes d uses) ≡ plain_request routes d uses
+routes_taken d uses h =
+    let dir = ap first_in (argument_found routes dir_rule routes_shape routes_is d refl uses) in
+    let one = text_found routes dir_rule routes_shape routes_is d refl uses router routes_is.options.0 in
+    let limits = limits_found routes dir_rule routes_shape routes_is d refl uses routes_is.options.1 h.options in
+    words_ask routes dir_rule routes_shape routes_is d refl uses (text_plain d h.folder) h ∙ rw (dir, one, limits)
+
+-- ---- trace
+
+header_from : (rows : List Row) (to by : Option ℕ) (p a b : ℕ) → address_at (codes "dst") rows ≡ to → address_at (codes "src") rows ≡ by
+    → number_at 8 (codes "proto") rows ≡ Some p → number_at 16 (codes "sport") rows ≡ Some a → number_at 16 (codes "dport") rows ≡ Some b
+    → header_at rows ≡ option_and_then (λ t. option_map (λ s. record { dst = t; src = s; proto = p; sport = a; dport = b }) by) to
+header_from rows None by p a b to_is by_is p_is a_is b_is = rw to_is
+header_from rows (Some t) None p a b to_is by_is p_is a_is b_is = rw (to_is, by_is)
+header_from rows (Some t) (Some s) p a b to_is by_is p_is a_is b_is = rw (to_is, by_is, p_is, a_is, b_is)
+
+trace_from : (rows : List Row) (d : Text) (place : Option PlaceName) (header : Option Header) (l : Limits) → first_of (codes "DIR") rows ≡ Some d → place_at (codes "from") rows ≡ place → header_at rows ≡ header → limits_at rows ≡ Some l
+    → request_at (Some (codes "trace", rows)) ≡ option_map (λ ask. record { ask = ask; limits = l }) (option_and_then (λ p. option_map (λ h. Trace d p h) header) place)
+trace_from rows d None header l dir_is place_is header_is l_is = rw (dir_is, place_is)
+trace_from rows d (Some p) None l dir_is place_is header_is l_is = rw (dir_is, place_is, header_is)
+trace_from rows d (Some p) (Some h) l dir_is place_is header_is l_is = rw (dir_is, place_is, header_is, l_is)
+
+trace_header : (d : Text) (uses : List Use) → ArePlainUses trace uses → header_at (after trace_shape.rules (plain_found dir_rule d uses)) ≡ plain_header uses
+trace_header d uses p =
+    header_from (after trace_shape.rules (plain_found dir_rule d uses)) (option_and_then address_of (text_for dst uses)) (option_and_then address_of (text_for src uses)) (number_for proto uses) (number_for sport uses) (number_for dport uses)
+    (ap (option_and_then address_of) (text_found trace dir_rule trace_shape trace_is d refl uses dst trace_is.options.1.0))
+    (ap (option_and_then address_of) (text_found trace dir_rule trace_shape trace_is d refl uses src trace_is.options.1.1.0))
+    (value_found trace dir_rule trace_shape trace_is d refl uses 8 proto 0 255 (codes "0") trace_is.options.1.1.1.0 refl (lit< tt) refl refl p)
+    (value_found trace dir_rule trace_shape trace_is d refl uses 16 sport 0 65535 (codes "0") trace_is.options.1.1.1.1.0 refl (lit< tt) refl refl p)
+    (value_found trace dir_rule trace_shape trace_is d refl uses 16 dport 0 65535 (codes "0") trace_is.options.1.1.1.1.1.0 refl (lit< tt) refl refl p)
+
+trace_taken : (d : Text) (uses : List Use) → ArePlain trace d uses → request_of (plain_words trace d uses) ≡ plain_request trace d uses
+trace_taken d uses h =
+    words_ask trace dir_rule trace_shape trace_is d refl uses (text_plain d h.folder) h
+    ∙ trace_from (after trace_shape.rules (plain_found dir_rule d uses)) d (option_and_then place_of (text_for from uses)) (plain_header uses) (plain_limits uses)
+    (ap first_in (argument_found trace dir_rule trace_shape trace_is d refl uses))
+    (ap (option_and_then place_of) (text_found trace dir_rule trace_shape trace_is d refl uses from trace_is.options.0))
+    (trace_header d uses h.options)
+    (limits_found trace dir_rule trace_shape trace_is d refl uses trace_is.options.1.1.1.1.1.1 h.options)
+
+pub plain_taken : (k : CommandName) (d : Text) (uses : List Use) → ArePlain k d uses → request_of (plain_words k d uses) ≡ plain_request k d uses
+plain_taken routes = routes_taken
+plain_taken trace = trace_taken

@@ -64,7 +64,7 @@ pub record IsPlainText (v : Text) : Type 0 where
   pub not_long : long_of v ≡ None
   pub not_short : short_of v ≡ None
 
-same_text_eq : (t : Text) → bytes_eq t t ≡ true
+pub same_text_eq : (t : Text) → bytes_eq t t ≡ true
 same_text_eq t = search rules
 
 pub reads_name : (c : List Rule) (rows : List Row) (a : Rule) (v word : Text) (b : Rule) (u : Text) (position : ℕ) → IsSingle c a v → has_row a.id rows ≡ false → IsOptionWord c word b → IsSingle c b u

@@ -1,11 +1,12 @@
 -- Whether there is a request, by what clap finds.
-use Rattle.std.proofs.Common.{ap, sym, subst, ◌≡◌, ◌≢◌, ◌∙◌, List, [], ◌∷◌, codes, refl, Option, Some, None}
+use Rattle.std.proofs.Common.{ap, sym, subst, ◌≡◌, ◌≢◌, ◌∙◌, ◌⊎◌, inl, inr, Bool, true, false, List, [], ◌∷◌, refl, Option, Some, None}
 use Rattle.clap.specs.Kinds.{Kinds}
 use Rattle.clap.specs.Words.{Text, fault_of, subcommand_of}
 use Rattle.rc_words.specs.App.{netcheck_app}
-use Rattle.rc_words.specs.Request.{without_fault, request_at, request_of, AreInRange}
+use Rattle.rc_words.specs.Plain.{CommandName, command_word}
+use Rattle.rc_words.specs.Request.{without_fault, request_at, request_of, texts_are_read, AreInRange, IsAskInRange}
 use Rattle.rc_words.specs.declared.request.Request.{Request}
-use Rattle.rc_words.proofs.Matched.{asked}
+use Rattle.rc_words.proofs.Matched.{told}
 use Rattle.rc_words.proofs.FirstWord.{first_word}
 
 abbrev found : List Text → Option Request
@@ -23,29 +24,47 @@ pub when_refused : (words : List Text) → fault_of netcheck_app words ≢ [] �
 unfolding request_of
 when_refused words e = some_fault (fault_of netcheck_app words) (found words) e
 
-pub none_refused : (words : List Text) → request_of words ≡ None → fault_of netcheck_app words ≢ []
-none_refused words none e =
-    let (r, is, in_range) = asked words e in
-    let bad : Some r ≡ None = sym is ∙ sym (when_taken words e) ∙ none in
-    cc
+none_there : (ks : Kinds) → (ks ≡ []) ⊎ (ks ≢ [])
+none_there [] = inl refl
+none_there (k ∷ ks) = inr (λ e. cc)
 
--- where there is a request, clap found no fault
-some_taken : (words : List Text) (r : Request) → request_of words ≡ Some r → fault_of netcheck_app words ≡ []
-some_taken words r some = go (fault_of netcheck_app words) refl
+pub when_unread : (words : List Text) → texts_are_read (subcommand_of netcheck_app words) ≡ false → request_of words ≡ None
+when_unread words unread = elim (none_there (fault_of netcheck_app words)) [
+  | inl well ↦ when_taken words well ∙ (told words well).unread unread
+  | inr fault ↦ when_refused words fault
+]
+
+pub none_only : (words : List Text) → request_of words ≡ None → (fault_of netcheck_app words ≢ []) ⊎ (texts_are_read (subcommand_of netcheck_app words) ≡ false)
+none_only words none = elim (none_there (fault_of netcheck_app words)) [
+  | inl well ↦ inr (go well (texts_are_read (subcommand_of netcheck_app words)) refl)
+  | inr fault ↦ inl fault
+]
   where
-    go : (ks : Kinds) → fault_of netcheck_app words ≡ ks → ks ≡ []
-    go [] e = refl
-    go (k ∷ ks) e =
-        let bad : Some r ≡ None = sym some ∙ when_refused words (λ none. let clash : k ∷ ks ≡ [] = sym e ∙ none in cc) in
+    go : fault_of netcheck_app words ≡ [] → (b : Bool) → texts_are_read (subcommand_of netcheck_app words) ≡ b → b ≡ false
+    go well false e = refl
+    go well true e =
+        let (r, is, limits_in, ask_in) = (told words well).read e in
+        let bad : Some r ≡ None = sym is ∙ sym (when_taken words well) ∙ none in
         absurd (cc)
 
-pub kept_in_range : (words : List Text) (r : Request) → request_of words ≡ Some r → AreInRange r.limits
+-- where there is a request, clap found no fault, and the texts are read
+some_taken : (words : List Text) (r : Request) → request_of words ≡ Some r → (fault_of netcheck_app words ≡ []) × (texts_are_read (subcommand_of netcheck_app words) ≡ true)
+some_taken words r some = elim (none_there (fault_of netcheck_app words)) [
+  | inl well ↦ (well, go (texts_are_read (subcommand_of netcheck_app words)) refl)
+  | inr fault ↦ let bad : Some r ≡ None = sym some ∙ when_refused words fault in absurd (cc)
+]
+  where
+    go : (b : Bool) → texts_are_read (subcommand_of netcheck_app words) ≡ b → b ≡ true
+    go true e = refl
+    go false e = let bad : Some r ≡ None = sym some ∙ when_unread words e in absurd (cc)
+
+pub kept_in_range : (words : List Text) (r : Request) → request_of words ≡ Some r → AreInRange r.limits × IsAskInRange r.ask
 kept_in_range words r some =
-    let well = some_taken words r some in
-    let (q, is, in_range) = asked words well in
+    let (well, texts_read) = some_taken words r some in
+    let (q, is, limits_in, ask_in) = (told words well).read texts_read in
     let same : Some q ≡ Some r = sym is ∙ sym (when_taken words well) ∙ some in
     let same_request : q ≡ r = cc in
-    subst (λ (x : Request). AreInRange x.limits) same_request in_range
+    subst (λ (x : Request). AreInRange x.limits × IsAskInRange x.ask) same_request (limits_in, ask_in)
 
-pub begins_with_command : (words : List Text) (r : Request) → request_of words ≡ Some r → (rest : List Text) × (words ≡ codes "routes" ∷ rest)
-begins_with_command words r some = first_word words (some_taken words r some)
+pub begins_with_command : (words : List Text) (r : Request) → request_of words ≡ Some r → (k : CommandName) × (rest : List Text) × (words ≡ command_word k ∷ rest)
+begins_with_command words r some = first_word words (some_taken words r some).0

@@ -7,6 +7,18 @@ use Rattle.clap.specs.declared.builder.ValueParser.TheVariants as vp
 abbrev pub number_option : Text → ℕ → ℕ → Text → Rule
 number_option name least most default = record (new_rule name) { long = Some name; parser = Some (vp.Unsigned least most); defaults = default ∷ [] }
 
+-- `--NAME TEXT`, which may be left out
+abbrev pub text_option : Text → Rule
+text_option name = record (new_rule name) { long = Some name }
+
+-- `--NAME TEXT`, which has to be there
+abbrev pub wanted_option : Text → Rule
+wanted_option name = record (text_option name) { required = true }
+
+-- `--NAME TEXT`, and what stands for it where it is not given
+abbrev pub default_option : Text → Text → Rule
+default_option name default = record (text_option name) { defaults = default ∷ [] }
+
 abbrev pub dir_argument : Rule
 dir_argument = record (new_rule (codes "DIR")) { required = true }
 
@@ -17,13 +29,34 @@ with_limits a = with_rule (with_rule (with_rule a
     (number_option (codes "workers") 1 64 (codes "4")))
     (number_option (codes "nodes") 16 16777216 (codes "1048576"))
 
--- routes DIR
+-- the addresses of a packet's header
+abbrev pub with_addresses : App → App
+with_addresses a = with_rule (with_rule a
+    (wanted_option (codes "dst")))
+    (default_option (codes "src") (codes "0.0.0.0"))
+
+-- its protocol and ports
+abbrev pub with_protocol : App → App
+with_protocol a = with_rule (with_rule (with_rule a
+    (number_option (codes "proto") 0 255 (codes "0")))
+    (number_option (codes "sport") 0 65535 (codes "0")))
+    (number_option (codes "dport") 0 65535 (codes "0"))
+
+-- a command whose first argument is DIR
+abbrev pub on_folder : Text → App
+on_folder name = with_rule (new_app name) dir_argument
+
+-- routes DIR [--router R]
 abbrev pub routes_app : App
-routes_app = with_limits (with_rule (new_app (codes "routes")) dir_argument)
+routes_app = with_limits (with_rule (on_folder (codes "routes")) (text_option (codes "router")))
+
+-- trace DIR --from PLACE --dst A [--src A] [--proto N] [--sport N] [--dport N]
+abbrev pub trace_app : App
+trace_app = with_limits (with_protocol (with_addresses (with_rule (on_folder (codes "trace")) (wanted_option (codes "from")))))
 
 -- the words begin with a command's name, one is wanted, and neither `--help`, `-h` nor `help` is one
 abbrev pub with_settings : App → App
 with_settings a = record a { top = record a.top { no_binary_name = true; disable_help_flag = true; disable_help_subcommand = true; subcommand_required = true } }
 
 abbrev pub netcheck_app : App
-netcheck_app = with_subcommand (with_settings (new_app (codes "netcheck"))) routes_app.top
+netcheck_app = with_subcommand (with_subcommand (with_settings (new_app (codes "netcheck"))) routes_app.top) trace_app.top

@@ -1,89 +1,169 @@
--- Plain words: the command and its DIR, then options, each with its number as the next word. clap plays no part here.
-use Rattle.std.specs.Prelude.{◌≡◌, ℕ, ◌<◌, ◌≤◌, Bool, true, false, ◌||◌, ◌==◌, not, if◌then◌else◌, List, [], ◌∷◌, codes, length}
-use Rattle.std.specs.Str.{all_ascii_digits}
+-- Plain words: a command and its DIR, then options, each with its value as the next word. clap plays no part here.
+use Rattle.std.specs.Prelude.{◌≡◌, ℕ, ◌<◌, ◌≤◌, Bool, true, false, ◌==◌, not, if◌then◌else◌, List, [], ◌∷◌, ◌++◌, codes, length, Option, Some, None, option_and_then, option_map}
+use Rattle.std.specs.List.{list_all, list_any}
+use Rattle.std.specs.Option.{option_map_or}
+use Rattle.std.specs.Str.{all_ascii_digits, bytes_eq}
 use Rattle.std.specs.Str.Parse.{digits_value}
-use Rattle.rc_words.specs.declared.request.Ask.TheVariants.{Routes}
+use Rattle.rc_base.specs.declared.header.Header.{Header}
+use Rattle.rc_openings.specs.Values.{address_of}
+use Rattle.rc_words.specs.Request.{place_of}
+use Rattle.rc_words.specs.declared.request.Ask.{Ask}
+use Rattle.rc_words.specs.declared.request.Ask.TheVariants.{Routes, Trace}
+use Rattle.rc_words.specs.declared.request.Limits.{Limits}
 use Rattle.rc_words.specs.declared.request.Request.{Request}
 
+-- ---- commands and options
+
+pub data CommandName : Type 0 where
+  routes : CommandName
+  trace : CommandName
+
+-- the word that names a command
+abbrev pub command_word : CommandName → List ℕ
+command_word routes = codes "routes"
+command_word trace = codes "trace"
+
 pub data OptionName : Type 0 where
+  router : OptionName
+  from : OptionName
+  dst : OptionName
+  src : OptionName
+  proto : OptionName
+  sport : OptionName
+  dport : OptionName
   rounds : OptionName
   workers : OptionName
   nodes : OptionName
 
+-- an option's name, which stands behind two dashes
+abbrev pub option_name : OptionName → List ℕ
+option_name router = codes "router"
+option_name from = codes "from"
+option_name dst = codes "dst"
+option_name src = codes "src"
+option_name proto = codes "proto"
+option_name sport = codes "sport"
+option_name dport = codes "dport"
+option_name rounds = codes "rounds"
+option_name workers = codes "workers"
+option_name nodes = codes "nodes"
+
 abbrev pub same_option : OptionName → OptionName → Bool
-same_option rounds rounds = true
-same_option workers workers = true
-same_option nodes nodes = true
-same_option _ _ = false
+same_option a b = bytes_eq (option_name a) (option_name b)
 
--- the word that names an option
-abbrev pub word_for : OptionName → List ℕ
-word_for rounds = codes "--rounds"
-word_for workers = codes "--workers"
-word_for nodes = codes "--nodes"
+-- what an option's value is: the decimal digits of a number from the first to the second, or any text
+pub data ValueKind : Type 0 where
+  number : ℕ → ℕ → ValueKind
+  text : ValueKind
 
-abbrev pub least : OptionName → ℕ
-least rounds = 1
-least workers = 1
-least nodes = 16
+abbrev pub kind_of : OptionName → ValueKind
+kind_of router = text
+kind_of from = text
+kind_of dst = text
+kind_of src = text
+kind_of proto = number 0 255
+kind_of sport = number 0 65535
+kind_of dport = number 0 65535
+kind_of rounds = number 1 100000
+kind_of workers = number 1 64
+kind_of nodes = number 16 16777216
 
-abbrev pub most : OptionName → ℕ
-most rounds = 100000
-most workers = 64
-most nodes = 16777216
+-- what stands for an option that isn't given
+abbrev pub default : OptionName → Option (List ℕ)
+default router = None
+default from = None
+default dst = None
+default src = Some (codes "0.0.0.0")
+default proto = Some (codes "0")
+default sport = Some (codes "0")
+default dport = Some (codes "0")
+default rounds = Some (codes "1000")
+default workers = Some (codes "4")
+default nodes = Some (codes "1048576")
 
--- what an option is where it is not given
-abbrev pub default : OptionName → ℕ
-default rounds = 1000
-default workers = 4
-default nodes = 1048576
+-- the options of every command
+abbrev pub limit_options : List OptionName
+limit_options = rounds ∷ workers ∷ nodes ∷ []
+
+abbrev pub options_of : CommandName → List OptionName
+options_of routes = router ∷ limit_options
+options_of trace = from ∷ dst ∷ src ∷ proto ∷ sport ∷ dport ∷ limit_options
+
+-- those that have to be given
+abbrev pub required_of : CommandName → List OptionName
+required_of routes = []
+required_of trace = from ∷ dst ∷ []
+
+abbrev pub has_option : OptionName → List OptionName → Bool
+has_option o os = list_any (λ a. same_option a o) os
+
+-- ---- plain words
 
 -- an option and the word behind it
 pub record Use : Type 0 where
   pub option : OptionName
   pub value : List ℕ
 
-abbrev pub number_in : Use → ℕ
-number_in u = digits_value 10 u.value
-
--- one decimal digit or more, zeros in front or not, that write a number in the option's range
-pub record IsPlainUse (u : Use) : Type 0 where
-  pub some : 0 < length u.value
-  pub digits : all_ascii_digits u.value ≡ true
-  pub least : least u.option ≤ number_in u
-  pub most : number_in u ≤ most u.option
+abbrev pub is_given : OptionName → List Use → Bool
+is_given o uses = list_any (λ u. same_option u.option o) uses
 
 -- a text that isn't empty and doesn't begin with a dash (45)
 abbrev pub is_plain_text : List ℕ → Bool
 is_plain_text [] = false
 is_plain_text (b ∷ bs) = not (b == 45)
 
-abbrev pub is_given : OptionName → List Use → Bool
-is_given o [] = false
-is_given o (u ∷ us) = same_option u.option o || is_given o us
+-- one decimal digit or more, zeros in front or not, that write a number in the range
+pub record IsPlainNumber (low high : ℕ) (value : List ℕ) : Type 0 where
+  pub some : 0 < length value
+  pub digits : all_ascii_digits value ≡ true
+  pub least : low ≤ digits_value 10 value
+  pub most : digits_value 10 value ≤ high
 
--- each number is plain, and no option is given twice
-abbrev pub ArePlainUses : List Use → Type 0
-ArePlainUses [] = Unit {0}
-ArePlainUses (u ∷ us) = IsPlainUse u × (is_given u.option us ≡ false) × ArePlainUses us
+abbrev pub IsPlainValue : ValueKind → List ℕ → Type 0
+IsPlainValue (number low high) value = IsPlainNumber low high value
+IsPlainValue text value = is_plain_text value ≡ true
 
-pub record ArePlain (dir : List ℕ) (uses : List Use) : Type 0 where
+-- each option is one of the command's, has a plain value, and isn't given twice
+abbrev pub ArePlainUses : CommandName → List Use → Type 0
+ArePlainUses command [] = Unit {0}
+ArePlainUses command (u ∷ us) = (has_option u.option (options_of command) ≡ true) × IsPlainValue (kind_of u.option) u.value × (is_given u.option us ≡ false) × ArePlainUses command us
+
+pub record ArePlain (command : CommandName) (dir : List ℕ) (uses : List Use) : Type 0 where
   pub folder : is_plain_text dir ≡ true
-  pub options : ArePlainUses uses
+  pub options : ArePlainUses command uses
+  pub required : list_all (λ o. is_given o uses) (required_of command) ≡ true
 
 abbrev pub option_words : List Use → List (List ℕ)
 option_words [] = []
-option_words (u ∷ us) = word_for u.option ∷ u.value ∷ option_words us
+option_words (u ∷ us) = (codes "--" ++ option_name u.option) ∷ u.value ∷ option_words us
 
--- routes DIR and the options
-abbrev pub plain_words : List ℕ → List Use → List (List ℕ)
-plain_words dir uses = codes "routes" ∷ dir ∷ option_words uses
+-- the command, DIR and the options
+abbrev pub plain_words : CommandName → List ℕ → List Use → List (List ℕ)
+plain_words command dir uses = command_word command ∷ dir ∷ option_words uses
+
+-- ---- what they ask for
+
+-- the text that an option is given, or else its default
+abbrev pub text_for : OptionName → List Use → Option (List ℕ)
+text_for o [] = default o
+text_for o (u ∷ us) = if same_option u.option o then Some u.value else text_for o us
 
 -- the number that an option is given, or else its default
-abbrev pub value_of : OptionName → List Use → ℕ
-value_of o [] = default o
-value_of o (u ∷ us) = if same_option u.option o then number_in u else value_of o us
+abbrev pub number_for : OptionName → List Use → ℕ
+number_for o uses = option_map_or (digits_value 10) (text_for o uses) 0
 
--- what plain words ask for
-abbrev pub plain_request : List ℕ → List Use → Request
-plain_request dir uses = record { ask = Routes dir; limits = record { rounds = value_of rounds uses; workers = value_of workers uses; nodes = value_of nodes uses } }
+abbrev pub plain_limits : List Use → Limits
+plain_limits uses = record { rounds = number_for rounds uses; workers = number_for workers uses; nodes = number_for nodes uses }
+
+-- the header, where both addresses are read
+abbrev pub plain_header : List Use → Option Header
+plain_header uses = option_and_then (λ to. option_map (λ by. record { dst = to; src = by; proto = number_for proto uses; sport = number_for sport uses; dport = number_for dport uses })
+    (option_and_then address_of (text_for src uses))) (option_and_then address_of (text_for dst uses))
+
+abbrev pub plain_ask : CommandName → List ℕ → List Use → Option Ask
+plain_ask routes dir uses = Some (Routes dir (text_for router uses))
+plain_ask trace dir uses = option_and_then (λ place. option_map (λ header. Trace dir place header) (plain_header uses)) (option_and_then place_of (text_for from uses))
+
+-- what plain words ask for, and nothing where a place or address text isn't read
+abbrev pub plain_request : CommandName → List ℕ → List Use → Option Request
+plain_request command dir uses = option_map (λ ask. record { ask = ask; limits = plain_limits uses }) (plain_ask command dir uses)

@@ -1,18 +1,165 @@
--- Plain words worked out by hand.
-use Rattle.std.specs.Prelude.{◌≡◌, refl, [], ◌∷◌, codes}
-use Rattle.rc_words.specs.Plain.{rounds, workers, nodes, plain_words, plain_request}
-use Rattle.rc_words.specs.declared.request.Ask.TheVariants.{Routes}
+-- Numbers, places and plain words worked out by hand.
+use Rattle.std.specs.Prelude.{◌≡◌, refl, true, false, List, [], ◌∷◌, codes, Some, None}
+use Rattle.std.specs.List.{list_all}
+use Rattle.std.proofs.Common.{lit<, lit≤}
+use Rattle.rc_words.specs.Plain.{routes, trace, router, from, dst, src, proto, sport, dport, rounds, workers, nodes, kind_of, required_of, has_option, options_of, Use, is_given, is_plain_text, IsPlainValue, ArePlain, plain_words, plain_request}
+use Rattle.rc_words.specs.Request.{number_read, place_of}
+use Rattle.rc_words.specs.declared.request.Ask.TheVariants.{Routes, Trace}
 
-pub only_dir : plain_request (codes "d") [] ≡ record { ask = Routes (codes "d"); limits = record { rounds = 1000; workers = 4; nodes = 1048576 } }
+-- ---- numbers
+
+pub greatest_byte : number_read 8 (codes "255") ≡ Some 255
+greatest_byte = refl
+
+pub no_byte : number_read 8 (codes "256") ≡ None
+no_byte = refl
+
+pub a_plus : number_read 16 (codes "+007") ≡ Some 7
+a_plus = refl
+
+pub a_minus : number_read 16 (codes "-0") ≡ None
+a_minus = refl
+
+pub no_digits : number_read 16 [] ≡ None
+no_digits = refl
+
+-- ---- places
+
+pub a_router : place_of (codes "R1") ≡ Some (record { router = codes "R1"; interface = None })
+a_router = refl
+
+pub an_interface : place_of (codes "R1:Gi0/0") ≡ Some (record { router = codes "R1"; interface = Some (codes "Gi0/0") })
+an_interface = refl
+
+pub two_colons : place_of (codes "R1:a:b") ≡ Some (record { router = codes "R1"; interface = Some (codes "a:b") })
+two_colons = refl
+
+pub no_interface : place_of (codes "R1:") ≡ None
+no_interface = refl
+
+pub no_router : place_of (codes ":Gi0/0") ≡ None
+no_router = refl
+
+pub no_place : place_of [] ≡ None
+no_place = refl
+
+pub a_blank : place_of (codes "R 1") ≡ None
+a_blank = refl
+
+pub a_blank_behind : place_of (codes "R1:Gi 0") ≡ None
+a_blank_behind = refl
+
+-- ---- which words are plain
+
+-- every option of `routes`, with the least numbers
+abbrev routes_uses : List Use
+routes_uses = record { option = nodes; value = codes "16" } ∷ record { option = router; value = codes "R 1" } ∷ record { option = workers; value = codes "1" } ∷ record { option = rounds; value = codes "1" } ∷ []
+
+pub whole_routes : ArePlain routes (codes "d") routes_uses
+whole_routes = record {
+  folder = refl;
+  options = (
+    refl,
+    record { some = lit< tt; digits = refl; least = lit≤ tt; most = lit≤ tt },
+    refl,
+    (
+      refl,
+      refl,
+      refl,
+      (refl, record { some = lit< tt; digits = refl; least = lit≤ tt; most = lit≤ tt }, refl, (refl, record { some = lit< tt; digits = refl; least = lit≤ tt; most = lit≤ tt }, refl, tt)),
+    ),
+  );
+  required = refl;
+}
+
+-- the greatest numbers are plain, and the least ones
+pub protocols : IsPlainValue (kind_of proto) (codes "0") × IsPlainValue (kind_of proto) (codes "255")
+protocols = (record { some = lit< tt; digits = refl; least = lit≤ tt; most = lit≤ tt }, record { some = lit< tt; digits = refl; least = lit≤ tt; most = lit≤ tt })
+
+pub sports : IsPlainValue (kind_of sport) (codes "0") × IsPlainValue (kind_of sport) (codes "65535")
+sports = (record { some = lit< tt; digits = refl; least = lit≤ tt; most = lit≤ tt }, record { some = lit< tt; digits = refl; least = lit≤ tt; most = lit≤ tt })
+
+pub dports : IsPlainValue (kind_of dport) (codes "0") × IsPlainValue (kind_of dport) (codes "0065535")
+dports = (record { some = lit< tt; digits = refl; least = lit≤ tt; most = lit≤ tt }, record { some = lit< tt; digits = refl; least = lit≤ tt; most = lit≤ tt })
+
+pub most_rounds : IsPlainValue (kind_of rounds) (codes "100000")
+most_rounds = record { some = lit< tt; digits = refl; least = lit≤ tt; most = lit≤ tt }
+
+pub most_workers : IsPlainValue (kind_of workers) (codes "64")
+most_workers = record { some = lit< tt; digits = refl; least = lit≤ tt; most = lit≤ tt }
+
+pub most_nodes : IsPlainValue (kind_of nodes) (codes "16777216")
+most_nodes = record { some = lit< tt; digits = refl; least = lit≤ tt; most = lit≤ tt }
+
+-- a trace with its source
+abbrev trace_uses : List Use
+trace_uses = record { option = src; value = codes "0.0.1.0" } ∷ record { option = dst; value = codes "0.0.0.9" } ∷ record { option = from; value = codes "R1:e0" } ∷ []
+
+pub some_trace : ArePlain trace (codes "d") trace_uses
+some_trace = record { folder = refl; options = (refl, refl, refl, (refl, refl, refl, (refl, refl, refl, tt))); required = refl }
+
+pub numbers_of_trace : list_all (λ o. has_option o (options_of trace)) (proto ∷ sport ∷ dport ∷ rounds ∷ workers ∷ nodes ∷ []) ≡ true
+numbers_of_trace = refl
+
+pub other_command : has_option from (options_of routes) ≡ false
+other_command = refl
+
+pub no_router_in_trace : has_option router (options_of trace) ≡ false
+no_router_in_trace = refl
+
+pub from_wanted : list_all (λ o. is_given o (record { option = dst; value = codes "0.0.0.9" } ∷ [])) (required_of trace) ≡ false
+from_wanted = refl
+
+pub dst_wanted : list_all (λ o. is_given o (record { option = from; value = codes "R1" } ∷ [])) (required_of trace) ≡ false
+dst_wanted = refl
+
+pub no_dash_first : is_plain_text (codes "-d") ≡ false
+no_dash_first = refl
+
+pub something : is_plain_text [] ≡ false
+something = refl
+
+-- ---- what plain words ask for
+
+pub only_dir : plain_request routes (codes "d") [] ≡ Some (record { ask = Routes (codes "d") None; limits = record { rounds = 1000; workers = 4; nodes = 1048576 } })
 only_dir = refl
 
-pub two_options : plain_words (codes "d") (record { option = workers; value = codes "64" } ∷ record { option = rounds; value = codes "007" } ∷ [])
+pub two_options : plain_words routes (codes "d") (record { option = workers; value = codes "64" } ∷ record { option = rounds; value = codes "007" } ∷ [])
     ≡ codes "routes" ∷ codes "d" ∷ codes "--workers" ∷ codes "64" ∷ codes "--rounds" ∷ codes "007" ∷ []
 two_options = refl
 
-pub their_numbers : plain_request (codes "d") (record { option = workers; value = codes "64" } ∷ record { option = rounds; value = codes "007" } ∷ [])
-    ≡ record { ask = Routes (codes "d"); limits = record { rounds = 7; workers = 64; nodes = 1048576 } }
+pub their_numbers : plain_request routes (codes "d") (record { option = workers; value = codes "64" } ∷ record { option = rounds; value = codes "007" } ∷ [])
+    ≡ Some (record { ask = Routes (codes "d") None; limits = record { rounds = 7; workers = 64; nodes = 1048576 } })
 their_numbers = refl
 
-pub nodes_alone : plain_request (codes "../d") (record { option = nodes; value = codes "16" } ∷ []) ≡ record { ask = Routes (codes "../d"); limits = record { rounds = 1000; workers = 4; nodes = 16 } }
-nodes_alone = refl
+pub one_router : plain_request routes (codes "../d") (record { option = router; value = codes "R 1" } ∷ record { option = nodes; value = codes "16" } ∷ [])
+    ≡ Some (record { ask = Routes (codes "../d") (Some (codes "R 1")); limits = record { rounds = 1000; workers = 4; nodes = 16 } })
+one_router = refl
+
+pub least_trace : plain_request trace (codes "d") (record { option = dst; value = codes "10.0.0.1" } ∷ record { option = from; value = codes "R1" } ∷ [])
+    ≡ Some (record {
+      ask = Trace (codes "d") (record { router = codes "R1"; interface = None }) (record { dst = 167772161; src = 0; proto = 0; sport = 0; dport = 0 });
+      limits = record { rounds = 1000; workers = 4; nodes = 1048576 };
+    })
+least_trace = refl
+
+pub its_words : plain_words trace (codes "d") (record { option = dst; value = codes "10.0.0.1" } ∷ record { option = from; value = codes "R1" } ∷ [])
+    ≡ codes "trace" ∷ codes "d" ∷ codes "--dst" ∷ codes "10.0.0.1" ∷ codes "--from" ∷ codes "R1" ∷ []
+its_words = refl
+
+pub whole_header : plain_request trace (codes "d") (record { option = from; value = codes "R1:e0" } ∷ record { option = src; value = codes "0.0.1.0" } ∷ record { option = dport; value = codes "80" }
+    ∷ record { option = dst; value = codes "0.0.0.9" } ∷ record { option = proto; value = codes "6" } ∷ record { option = sport; value = codes "65535" } ∷ [])
+    ≡ Some (record {
+      ask = Trace (codes "d") (record { router = codes "R1"; interface = Some (codes "e0") }) (record { dst = 9; src = 256; proto = 6; sport = 65535; dport = 80 });
+      limits = record { rounds = 1000; workers = 4; nodes = 1048576 };
+    })
+whole_header = refl
+
+pub unread_place : plain_request trace (codes "d") (record { option = dst; value = codes "10.0.0.1" } ∷ record { option = from; value = codes "R1:" } ∷ []) ≡ None
+unread_place = refl
+
+pub unread_address : plain_request trace (codes "d") (record { option = dst; value = codes "10.0.0" } ∷ record { option = from; value = codes "R1" } ∷ []) ≡ None
+unread_address = refl
+
+pub unread_source : plain_request trace (codes "d") (record { option = dst; value = codes "10.0.0.1" } ∷ record { option = from; value = codes "R1" } ∷ record { option = src; value = codes "me" } ∷ []) ≡ None
+unread_source = refl

@@ -1,7 +1,7 @@
 //! Laws of the request that words make.
 ghost use Rattle.rc_words.specs.Laws.{RefusesAsClap, BeginsWithCommand, KeepsRanges, TakesPlainWords};
 
-/// Words make no request exactly where clap finds a fault in them.
+/// Words make no request exactly where clap finds a fault in them, or a place or address text that it finds isn't read.
 pub fn refused_as_by_clap()
     ensures { RefusesAsClap }
 {}
@@ -16,7 +16,8 @@ pub fn numbers_are_in_range()
     ensures { KeepsRanges }
 {}
 
-/// Plain words make the request that they say: each option that is given has its number, and each other its default.
+/// Plain words make the request that they say: each option that is given has its number or text, and each other its
+/// default. Where a place or address text isn't read they make none.
 pub fn plain_words_are_taken()
     ensures { TakesPlainWords }
 {}

@@ -1,8 +1,9 @@
 //! The words of the command line: what is asked for, read by the kit's crate `clap`.
 //!
-//! It stands on no crate of this repository. The layer above may know that words are usage exactly where clap refuses
-//! the public command `netcheck_app`, and else the request of its matches, with every number in its option's range;
-//! and that plain words, which `plain_words` writes, are taken with their values and else the defaults.
+//! It stands on `rc_base` and `rc_openings`. The layer above may know that words are usage exactly where clap refuses the
+//! public command `netcheck_app` or a place or address text isn't read, and else the request of its matches, with every
+//! number in its option's range; and that plain words, which `plain_words` writes, make what they say, and else the
+//! defaults.
 #![tactic(auto)]
 
 mod app;
@@ -16,4 +17,4 @@ pub use laws::{
     first_word_is_a_command, numbers_are_in_range, plain_words_are_taken, refused_as_by_clap,
 };
 pub use reading::request_of_words;
-pub use request::{Ask, FolderText, Limits, Request, WordsFault};
+pub use request::{Ask, Limits, PlaceName, Request, WordText, WordsFault};

@@ -1,19 +1,97 @@
 //! The request that words make.
-ghost use Rattle.std.specs.Prelude.{◌≡◌, ◌≢◌, [], map, codes, Some, None, Err, IfOk, option_copied, option_map};
+ghost use Rattle.std.specs.Prelude.{◌≡◌, ◌≢◌, ◌<◌, ◌==◌, [], length, map, codes, Some, None, Err, IfOk, IfSome, option_map};
+ghost use Rattle.std.specs.List.{position};
 ghost use Rattle.clap.specs.Words.{fault_of, kind_of, subcommand_of, subcommand_rows_of, found_of, rows_of, first_of};
 ghost use Rattle.rc_words.specs.App.{netcheck_app};
-ghost use Rattle.rc_words.specs.Request.{number_at, limits_at, routes_at, request_at, request_of, AreInRange};
+ghost use Rattle.rc_words.specs.Request.{place_cut, place_of, number_at, address_at, place_at, limits_at, header_at, routes_at, trace_at, ask_at, request_at, request_of, AreInRange};
 
 use crate::app::netcheck_command;
-use crate::request::{Ask, FolderText, Limits, Request, WordsFault};
+use crate::request::{Ask, Limits, PlaceName, Request, WordText, WordsFault};
 use clap::error::ErrorKind;
 use clap::{ArgMatches, Error};
+use rc_base::{Addr, Header, Name};
+use rc_openings::word_addr;
 use std::alloc::Global;
 
 fn number_given(found: &ArgMatches, name: &str) -> Option<u32>
-    ensures { result ≡ number_at name.now (rows_of (found_of found.now)) }
+    ensures { result ≡ number_at 32 name.now (rows_of (found_of found.now)) }
 {
     found.get_one::<u32>(name)
+}
+
+fn port_given(found: &ArgMatches, name: &str) -> Option<u16>
+    ensures { result ≡ number_at 16 name.now (rows_of (found_of found.now)) }
+{
+    found.get_one::<u16>(name)
+}
+
+fn proto_given(found: &ArgMatches) -> Option<u8>
+    ensures { result ≡ number_at 8 (codes "proto") (rows_of (found_of found.now)) }
+{
+    found.get_one::<u8>("proto")
+}
+
+fn text_given<'a>(found: &ArgMatches<'a>, name: &str) -> Option<&'a str>
+    ensures { option_map (λ s. s.now) result ≡ first_of name.now (rows_of (found_of found.now)) }
+{
+    found.get_str(name)
+}
+
+fn addr_given(found: &ArgMatches, name: &str) -> Option<Addr>
+    ensures { result ≡ address_at name.now (rows_of (found_of found.now)) }
+{
+    match text_given(found, name) {
+        Some(text) => word_addr(text.as_bytes()),
+        None => None,
+    }
+}
+
+fn first_colon(text: &[u8]) -> Option<usize>
+    ensures first { result ≡ position (λ b. b == 58) text.now }
+    ensures within { IfSome result (λ n. n < length text.now) }
+{
+    text.iter().position(|b| *b == b':')
+}
+
+fn router_in(text: &[u8]) -> Option<PlaceName>
+    ensures { result ≡ place_cut None text.now }
+{
+    let router = Name::new(text)?;
+    Some(PlaceName {
+        router,
+        interface: None,
+    })
+}
+
+fn interface_in(text: &[u8], colon: usize) -> Option<PlaceName>
+    requires { colon < length text.now }
+    ensures { result ≡ place_cut (Some colon) text.now }
+{
+    let router = Name::new(&text[..colon])?;
+    let interface = Name::new(&text[colon + 1..])?;
+    Some(PlaceName {
+        router,
+        interface: Some(interface),
+    })
+}
+
+// The place that a text names: the router stands before its first colon, the interface after it.
+fn place_in(text: &[u8]) -> Option<PlaceName>
+    ensures { result ≡ place_of text.now }
+{
+    match first_colon(text) {
+        None => router_in(text),
+        Some(colon) => interface_in(text, colon),
+    }
+}
+
+fn place_given(found: &ArgMatches, name: &str) -> Option<PlaceName>
+    ensures { result ≡ place_at name.now (rows_of (found_of found.now)) }
+{
+    match text_given(found, name) {
+        Some(text) => place_in(text.as_bytes()),
+        None => None,
+    }
 }
 
 fn limits_given(found: &ArgMatches) -> Option<Limits>
@@ -29,28 +107,87 @@ fn limits_given(found: &ArgMatches) -> Option<Limits>
     })
 }
 
-fn dir_given<'a>(found: &ArgMatches<'a>) -> Option<&'a str>
-    ensures { option_map (λ s. s.now) result ≡ first_of (codes "DIR") (rows_of (found_of found.now)) }
+fn header_given(found: &ArgMatches) -> Option<Header>
+    ensures { result ≡ header_at (rows_of (found_of found.now)) }
 {
-    found.get_str("DIR")
+    let dst = addr_given(found, "dst")?;
+    let src = addr_given(found, "src")?;
+    let proto = proto_given(found)?;
+    let sport = port_given(found, "sport")?;
+    let dport = port_given(found, "dport")?;
+    Some(Header {
+        dst,
+        src,
+        proto,
+        sport,
+        dport,
+    })
 }
 
-fn routes_given(alloc: Global, found: &ArgMatches) -> Result<Request, WordsFault>
-    ensures taken { IfOk result (λ r. routes_at (rows_of (found_of found.now)) ≡ Some r) }
+fn kept(alloc: Global, text: &str) -> Result<WordText, WordsFault>
+    ensures taken { IfOk result (λ word. word ≡ text.now) }
+    ensures memory { result ≢ Err WordsFault.Usage }
+{
+    match WordText::new(alloc, text) {
+        Ok(word) => Ok(word),
+        Err(_) => Err(WordsFault::Memory),
+    }
+}
+
+// The text of an option that may be left out.
+fn text_kept(alloc: Global, found: &ArgMatches, name: &str) -> Result<Option<WordText>, WordsFault>
+    ensures taken { IfOk result (λ word. word ≡ first_of name.now (rows_of (found_of found.now))) }
+    ensures memory { result ≢ Err WordsFault.Usage }
+{
+    match text_given(found, name) {
+        Some(text) => match kept(alloc, text) {
+            Ok(word) => Ok(Some(word)),
+            Err(fault) => Err(fault),
+        },
+        None => Ok(None),
+    }
+}
+
+fn routes_given(alloc: Global, found: &ArgMatches) -> Result<Ask, WordsFault>
+    ensures taken { IfOk result (λ ask. routes_at (rows_of (found_of found.now)) ≡ Some ask) }
     ensures usage { result ≡ Err WordsFault.Usage → routes_at (rows_of (found_of found.now)) ≡ None }
 {
-    let Some(dir) = dir_given(found) else {
+    let Some(dir) = text_given(found, "DIR") else {
         return Err(WordsFault::Usage);
     };
-    let Some(limits) = limits_given(found) else {
+    let router = text_kept(alloc, found, "router")?;
+    let dir = kept(alloc, dir)?;
+    Ok(Ask::Routes { dir, router })
+}
+
+fn trace_given(alloc: Global, found: &ArgMatches) -> Result<Ask, WordsFault>
+    ensures taken { IfOk result (λ ask. trace_at (rows_of (found_of found.now)) ≡ Some ask) }
+    ensures usage { result ≡ Err WordsFault.Usage → trace_at (rows_of (found_of found.now)) ≡ None }
+{
+    let Some(dir) = text_given(found, "DIR") else {
         return Err(WordsFault::Usage);
     };
-    match FolderText::new(alloc, dir) {
-        Ok(dir) => Ok(Request {
-            ask: Ask::Routes { dir },
-            limits,
-        }),
-        Err(_) => Err(WordsFault::Memory),
+    let Some(place) = place_given(found, "from") else {
+        return Err(WordsFault::Usage);
+    };
+    let Some(header) = header_given(found) else {
+        return Err(WordsFault::Usage);
+    };
+    let dir = kept(alloc, dir)?;
+    Ok(Ask::Trace { dir, place, header })
+}
+
+// What the command of this name asks.
+fn ask_given(alloc: Global, name: &str, found: &ArgMatches) -> Result<Ask, WordsFault>
+    ensures taken { IfOk result (λ ask. ask_at name.now (rows_of (found_of found.now)) ≡ Some ask) }
+    ensures usage { result ≡ Err WordsFault.Usage → ask_at name.now (rows_of (found_of found.now)) ≡ None }
+{
+    if name == "routes" {
+        routes_given(alloc, found)
+    } else if name == "trace" {
+        trace_given(alloc, found)
+    } else {
+        Err(WordsFault::Usage)
     }
 }
 
@@ -62,11 +199,11 @@ fn request_given(alloc: Global, matches: &ArgMatches) -> Result<Request, WordsFa
     let Some((name, found)) = matches.subcommand() else {
         return Err(WordsFault::Usage);
     };
-    if name == "routes" {
-        routes_given(alloc, found)
-    } else {
-        Err(WordsFault::Usage)
-    }
+    let Some(limits) = limits_given(found) else {
+        return Err(WordsFault::Usage);
+    };
+    let ask = ask_given(alloc, name, found)?;
+    Ok(Request { ask, limits })
 }
 
 fn fault_from(error: &Error) -> WordsFault

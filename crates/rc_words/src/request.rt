@@ -1,29 +1,30 @@
 //! What is asked for.
 ghost use Rattle.std.specs.Prelude.{◌≡◌, IfOk, string_bytes};
 
+use rc_base::{Header, Name};
 use std::alloc::{AllocError, Global};
 use std::marker::Model;
 
-/// The text of a folder, seen as the list of its bytes.
+/// A word of the command line, kept; seen as the list of its bytes.
 #[derive(Debug, Drop)]
-pub struct FolderText {
+pub struct WordText {
     text: String,
 }
 
-impl Model for FolderText {
+impl Model for WordText {
     ghost use Rattle.std.specs.Prelude.{List, ℕ, string_bytes};
 
     ghost Value = { List ℕ };
 
-    ghost view = { λ f. string_bytes f.text };
+    ghost view = { λ w. string_bytes w.text };
 }
 
-impl FolderText {
-    /// The folder text of a text. It errs only where memory is short.
-    pub fn new(alloc: Global, text: &str) -> Result<FolderText, AllocError>
-        ensures { IfOk result (λ folder. folder ≡ text.now) }
+impl WordText {
+    /// The same text, kept. It errs only where memory is short.
+    pub fn new(alloc: Global, text: &str) -> Result<WordText, AllocError>
+        ensures { IfOk result (λ word. word ≡ text.now) }
     {
-        Ok(FolderText {
+        Ok(WordText {
             text: String::from_str(alloc, text)?,
         })
     }
@@ -34,6 +35,15 @@ impl FolderText {
     {
         self.text.as_str()
     }
+}
+
+/// Where a packet starts, by names: at a router that sends it by itself, or entering a router by an interface.
+#[derive(Clone, Copy, Debug, PartialEq, Eq)]
+pub struct PlaceName {
+    /// The router's host name.
+    pub router: Name,
+    /// The interface by which the packet enters, and none where the router sends it by itself.
+    pub interface: Option<Name>,
 }
 
 /// The numbers that bound a run.
@@ -50,10 +60,21 @@ pub struct Limits {
 /// What is to be answered.
 #[derive(Debug, Drop)]
 pub enum Ask {
-    /// The routes of every router of a folder.
+    /// The routes of every router of a folder, or of one.
     Routes {
         /// Where the configurations stand.
-        dir: FolderText,
+        dir: WordText,
+        /// The router that is asked about, as it was typed; every router where nothing is said.
+        router: Option<WordText>,
+    },
+    /// The walk of a packet through the network of a folder.
+    Trace {
+        /// Where the configurations stand.
+        dir: WordText,
+        /// Where the packet starts.
+        place: PlaceName,
+        /// What the packet's header says.
+        header: Header,
     },
 }
 

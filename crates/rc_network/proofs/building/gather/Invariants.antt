@@ -1,4 +1,4 @@
-use Rattle.std.proofs.Common.{◌≡◌, length}
+use Rattle.std.proofs.Common.{length}
 use Rattle.std.specs.Prelude.{All, IsSome}
 use Rattle.rc_network.proofs.BuildLaws.{AreLeft}
 use Rattle.rc_network.proofs.building.gather.Given as goal

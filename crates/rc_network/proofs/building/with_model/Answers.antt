@@ -1,4 +1,4 @@
-use Rattle.std.proofs.Common.{arith, rules}
+use Rattle.std.proofs.Common.{arith}
 use Rattle.std.proofs.lemmas.Grind.{common_steps}
 use Rattle.rc_network.proofs.BuildLaws.{added}
 use Rattle.rc_network.proofs.building.with_model.Goals as goal

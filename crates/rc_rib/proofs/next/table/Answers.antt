@@ -1,4 +1,4 @@
-use Rattle.rc_rib.proofs.RowLaws.{both_in_order}
+use Rattle.rc_rib.proofs.TableLaws.{both_in_order}
 use Rattle.rc_rib.proofs.next.table.Goals as goal
 
 pub returns-clause-in_order : goal.returns-clause-in_order

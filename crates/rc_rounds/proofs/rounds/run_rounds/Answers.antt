@@ -17,8 +17,8 @@ loop-done-init g c = record {
   earlier = none_below c.args.net.now;
 }
 
-pub returns-then-equal-2 : goal.returns-then-equal-2
-returns-then-equal-2 g c =
+pub returns-then-equal-2-clause-outcome : goal.returns-then-equal-2-clause-outcome
+returns-then-equal-2-clause-outcome g c =
     let net = c.args.net.now in
     let h = c.loop-done.invariant in
     let new = next_is net c.loop-done.done c.in_ok-next.next c.loop-done.last c.in_ok-next.ensures.value h.last in

@@ -1,7 +1,7 @@
 use Rattle.std.proofs.Common.{rules, ap, sym, ◌≡◌, ◌∙◌, List, [], ◌∷◌, map, ⊎_elim}
 use Rattle.std.specs.Borrow.{Bor}
 use Rattle.clap.specs.Words.{Text, fault_of, is_simple_and_free, is_simple, subcommand_of, Kinds, IsAmong}
-use Rattle.rc_words.proofs.Leaf.{simple, simple_and_free}
+use Rattle.rc_words.proofs.Commands.{simple, simple_and_free}
 use Rattle.rc_words.proofs.reading.matches_of_words.Goals as goal
 
 none_in : (k : _) (ks : Kinds) → IsAmong k ks → ks ≡ [] → ⊥

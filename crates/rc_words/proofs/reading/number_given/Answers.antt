@@ -10,6 +10,6 @@ use Rattle.rc_words.proofs.reading.number_given.Goals as goal
 pub returns : goal.returns
 returns c =
     let found = found_of c.args.found.now in
-    one_is _ (λ bs r. ParsesUnsigned 32 10 bs r × ExplainsUnsignedError 10 bs r × HasUnsignedDigitsIfOk bs r) (one_text found c.args.name.now) c.get_one.result
+    one_is 32 _ (λ bs r. ParsesUnsigned 32 10 bs r × ExplainsUnsignedError 10 bs r × HasUnsignedDigitsIfOk bs r) (one_text found c.args.name.now) c.get_one.result
     (λ u x g. g.0) c.get_one.ensures.none c.get_one.ensures.value
-    ∙ ap (option_and_then number_read) (one_text-rows found c.args.name.now)
+    ∙ ap (option_and_then (number_read 32)) (one_text-rows found c.args.name.now)

@@ -20,7 +20,7 @@ returns-in-Ok-clause-usage c = λ e.
 pub returns-in-Ok-clause-in_range : goal.returns-in-Ok-clause-in_range
 returns-in-Ok-clause-in_range c =
     let words : List Text = map {A = Bor Text} {B = Text} (λ w. w.now) c.args.words.now in
-    IfOk-weaker c.request_given.result _ _ (λ r h. kept_in_range words r (when_taken words c.in-Ok.ensures.taken ∙ ap request_at (sym c.in-Ok.ensures.rows) ∙ h)) c.request_given.ensures.taken
+    IfOk-weaker c.request_given.result _ _ (λ r h. (kept_in_range words r (when_taken words c.in-Ok.ensures.taken ∙ ap request_at (sym c.in-Ok.ensures.rows) ∙ h)).0) c.request_given.ensures.taken
 
 pub returns-in-Err-clause-usage : goal.returns-in-Err-clause-usage
 returns-in-Err-clause-usage c = λ e.

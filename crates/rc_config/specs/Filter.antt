@@ -1,0 +1,93 @@
+-- Access lists (IOS `access-list` and `ip access-list`): their lines in order, and which lists there are.
+use Rattle.std.specs.Prelude.{◌≡◌, ℕ, ◌+◌, ◌-◌, ◌^◌, ◌<◌, ◌≤◌, ◌==◌, Bool, false, ◌||◌, nat_lt, if◌then◌else◌, List, [], ◌∷◌, All, length, Option, slice_get}
+use Rattle.std.specs.List.{list_all, list_any, AllPairs, AllWithin, slice_index_or}
+use Rattle.std.specs.Option.{option_map}
+use Rattle.rc_config.specs.declared.filter.Action.{Action}
+use Rattle.rc_config.specs.declared.filter.AddressTest.{AddressTest}
+use Rattle.rc_config.specs.declared.filter.Filter.{Filter}
+use Rattle.rc_config.specs.declared.filter.FilterKind.{FilterKind}
+use Rattle.rc_config.specs.declared.filter.FilterKind.TheVariants.{Standard, Extended}
+use Rattle.rc_config.specs.declared.filter.FilterLine.{FilterLine}
+use Rattle.rc_config.specs.declared.filter.PortTest.{PortTest}
+use Rattle.rc_config.specs.declared.filter.PortTest.TheVariants as port
+use Rattle.rc_config.specs.declared.filter.ProtocolTest.{ProtocolTest}
+use Rattle.rc_config.specs.declared.filter.ProtocolTest.TheVariants as protocol
+
+-- `any` compares no bit
+abbrev pub any_address : AddressTest
+any_address = record { addr = 0; wildcard = 2 ^ 32 - 1 }
+
+-- `host A` compares each
+abbrev pub host_address : ℕ → AddressTest
+host_address a = record { addr = a; wildcard = 0 }
+
+-- a line of a standard list tests the source alone
+abbrev pub standard_line : ℕ → Action → AddressTest → FilterLine
+standard_line n a source = record { sequence = n; action = a; protocol = protocol.Any; source = source; source_port = port.Any; destination = any_address; destination_port = port.Any }
+
+-- a list without lines
+abbrev pub no_lines : FilterKind → Filter
+no_lines kind = record { kind = kind; lines = [] }
+
+-- the lines with one more: it stands in front of the lines at the end that all have greater numbers
+abbrev pub placed : FilterLine → List FilterLine → List FilterLine
+placed l [] = l ∷ []
+placed l (m ∷ lines) = if list_all (λ (k : FilterLine). nat_lt l.sequence k.sequence) (m ∷ lines) then l ∷ m ∷ lines else m ∷ placed l lines
+
+-- the list with one more line, at its place
+abbrev pub with_line : Filter → FilterLine → Filter
+with_line f l = record f { lines = placed l f.lines }
+
+-- a line has this number
+abbrev pub has_sequence : List FilterLine → ℕ → Bool
+has_sequence lines n = list_any (λ (l : FilterLine). l.sequence == n) lines
+
+-- the number of the last line
+abbrev pub last_sequence : List FilterLine → Option ℕ
+last_sequence lines = option_map (λ (l : FilterLine). l.sequence) (slice_get lines (length lines - 1))
+
+-- lines stand by rising sequence number: each number is lower than all later ones
+abbrev pub AreLinesInOrder : List FilterLine → Type 0
+AreLinesInOrder lines = AllPairs (λ (l m : FilterLine). l.sequence < m.sequence) lines
+
+-- a place in front of the lines at the end that all have greater numbers than this
+pub record IsPlace (n : ℕ) (lines : List FilterLine) (place : ℕ) : Type 0 where
+  pub within : place ≤ length lines
+  pub greater : AllWithin (λ (l : FilterLine). n < l.sequence) lines place (length lines)
+  pub not_greater : (k : ℕ) (d : FilterLine) → k + 1 ≡ place → (slice_index_or lines k d).sequence ≤ n
+
+-- a sequence number of a line
+abbrev pub IsSequence : ℕ → Type 0
+IsSequence n = (1 ≤ n) × (n ≤ 2147483647)
+
+-- tcp (6) and udp (17) have ports
+abbrev pub has_ports : ProtocolTest → Bool
+has_ports protocol.Any = false
+has_ports (protocol.Is n) = (n == 6) || (n == 17)
+
+-- the first port of a range isn't above the second
+abbrev pub IsPortTest : PortTest → Type 0
+IsPortTest (port.Within low high) = low ≤ high
+IsPortTest port.Any = Unit {0}
+IsPortTest (port.Equal ports) = Unit {0}
+IsPortTest (port.NotEqual ports) = Unit {0}
+IsPortTest (port.Below n) = Unit {0}
+IsPortTest (port.Above n) = Unit {0}
+
+-- a line of a standard list tests its source alone
+abbrev pub IsOfKind : FilterKind → FilterLine → Type 0
+IsOfKind Standard l = l ≡ standard_line l.sequence l.action l.source
+IsOfKind Extended l = Unit {0}
+
+-- a line of a list of this kind: ports are tested only where the protocol is tcp or udp
+pub record IsLawfulLine (kind : FilterKind) (l : FilterLine) : Type 0 where
+  pub sequence : IsSequence l.sequence
+  pub of_kind : IsOfKind kind l
+  pub source_port : IsPortTest l.source_port
+  pub destination_port : IsPortTest l.destination_port
+  pub no_ports : has_ports l.protocol ≡ false → (l.source_port ≡ port.Any) × (l.destination_port ≡ port.Any)
+
+-- lines in order, each lawful
+pub record IsLawfulFilter (f : Filter) : Type 0 where
+  pub in_order : AreLinesInOrder f.lines
+  pub lines : All (IsLawfulLine f.kind) f.lines

@@ -1,0 +1,103 @@
+//! Access lists put together line by line, kept under names and copied.
+use crate::{
+    Action, AddressTest, Filter, FilterKind, FilterLine, Named, PortTest, Ports, ProtocolTest,
+};
+use rc_base::{Addr, Items, Name};
+use std::alloc::{AllocError, Global};
+use std::test::Fail;
+
+/// A line `permit tcp host 10.0.0.1 any neq 22 23` of this number.
+fn tcp_line(sequence: u32, ports: Ports) -> FilterLine {
+    FilterLine {
+        sequence,
+        action: Action::Permit,
+        protocol: ProtocolTest::Is(6),
+        source: AddressTest::host(Addr::new(0x0a00_0001)),
+        source_port: PortTest::Any,
+        destination: AddressTest::any(),
+        destination_port: PortTest::NotEqual(ports),
+    }
+}
+
+/// The ports that a test names.
+fn named_ports(test: &PortTest) -> usize {
+    match test {
+        PortTest::Any => 0,
+        PortTest::Equal(ports) => ports.as_slice().len(),
+        PortTest::NotEqual(ports) => ports.as_slice().len(),
+        PortTest::Below(_) => 1,
+        PortTest::Above(_) => 1,
+        PortTest::Within(_, _) => 2,
+    }
+}
+
+/// A list of three lines, put in as 30, 10, 20.
+fn three_lines(alloc: Global, ports: Ports) -> Result<Filter, AllocError> {
+    let source = AddressTest::any();
+    let filter = Filter::new(alloc, FilterKind::Extended);
+    let filter = filter.with_line(tcp_line(30, ports))?;
+    let filter = filter.with_line(tcp_line(10, ports))?;
+    filter.with_line(FilterLine::standard(20, Action::Deny, source))
+}
+
+#[test]
+fn lines_by_number(rt: HostRuntime) -> Result<(), Fail> {
+    let ports = Ports::new(22).with_port(23).ok_or("two ports")?;
+    let filter = three_lines(rt.alloc(), ports)?;
+    assert_eq!(rt; filter.greatest(), Some(30));
+    for (sequence, wanted) in [(10, true), (15, false), (30, true), (31, false)] {
+        assert_eq!(rt; filter.has_line(sequence), wanted, "at {sequence}");
+    }
+    let lines = filter.lines.as_slice();
+    assert_eq!(rt; lines.get(0).map(|l| l.sequence), Some(10));
+    assert_eq!(rt; lines.get(1).map(|l| l.action), Some(Action::Deny));
+    assert_eq!(rt;
+        lines.get(2).map(|l| named_ports(&l.destination_port)),
+        Some(2)
+    );
+    let copy = filter.lines.copy(rt.alloc())?;
+    assert!(rt; copy == filter.lines);
+    Ok(())
+}
+
+#[test]
+fn lists_under_names(rt: HostRuntime) -> Result<(), Fail> {
+    let name = Name::new(b"101").ok_or("101")?;
+    let mut filters = Named::new(rt.alloc());
+    let filter = three_lines(rt.alloc(), Ports::new(22))?;
+    assert!(rt; filters.insert(name, filter)?.is_none());
+    let empty = Filter::new(rt.alloc(), FilterKind::Standard);
+    assert!(rt; filters.insert(name, empty)?.is_some());
+    let found = filters.get(&name).ok_or("the list")?;
+    assert_eq!(rt; found.kind, FilterKind::Standard);
+    assert_eq!(rt; found.greatest(), None);
+    Ok(())
+}
+
+/// The lines with one more at the end.
+fn pushed(mut lines: Items<FilterLine>, line: FilterLine) -> Result<Items<FilterLine>, AllocError> {
+    // The generated proof of a push wants each enum within the element named in the function.
+    let _test: PortTest = PortTest::Any;
+    lines.push(line)?;
+    Ok(lines)
+}
+
+#[test]
+fn lines_at_the_end(rt: HostRuntime) -> Result<(), Fail> {
+    let lines = pushed(Items::new(rt.alloc()), tcp_line(5, Ports::new(80)))?;
+    assert_eq!(rt; lines.len(), 1);
+    Ok(())
+}
+
+#[test]
+fn one_to_ten_ports(rt: HostRuntime) -> Result<(), Fail> {
+    assert!(rt; Ports::from_slice(&[]).is_none());
+    assert!(rt; Ports::from_slice(&[80; 11]).is_none());
+    let ten = Ports::from_slice(&[80; 10]).ok_or("ten ports")?;
+    assert!(rt; ten.with_port(80).is_none());
+    let two = Ports::from_slice(&[22, 23]).ok_or("two ports")?;
+    assert_eq!(rt; Ports::new(22).with_port(23), Some(two));
+    assert!(rt; two < ten);
+    assert!(rt; Ports::new(22) < two);
+    Ok(())
+}

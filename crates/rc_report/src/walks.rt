@@ -1,0 +1,134 @@
+//! The walk of a packet, as lines.
+ghost use Rattle.std.specs.Prelude.{◌≡◌, ◌≤◌, flat_map, OnOk, OnErr};
+ghost use Rattle.rc_outside.specs.Causes.{Rose};
+ghost use Rattle.rc_outside.specs.Sink.{appended, AppendsFront};
+ghost use Rattle.rc_report.specs.Parts.{part_text};
+ghost use Rattle.rc_report.specs.WalkText.{kind_text, position_line, stop_line, walk_text};
+
+use crate::names::{interface_name, router_name};
+use crate::{Buffer, Part, SinkFault, put_line};
+use rc_base::{Kind, Pos};
+use rc_config::Network;
+use rc_outside::Sink;
+use rc_walk::{Stop, Walk};
+
+fn kind_text(kind: Kind) -> &'static [u8]
+    ensures { result.now ≡ kind_text kind }
+{
+    match kind {
+        Kind::DeniedIn => b"denied-in",
+        Kind::Accepted => b"accepted",
+        Kind::NoRoute => b"no-route",
+        Kind::NullRouted => b"null-routed",
+        Kind::DeniedOut => b"denied-out",
+        Kind::Unreachable => b"unreachable",
+        Kind::Exits => b"exits",
+        Kind::Delivered => b"delivered",
+    }
+}
+
+/// What stands in the line of a position.
+#[tactic(auto, unfolding(crate::specs::WalkText::position_line))]
+fn position_parts<'a>(net: &'a Network, position: &Pos) -> [Part<'a>; 5]
+    ensures { flat_map part_text result ≡ position_line net.now position.now }
+{
+    match position {
+        Pos::Own(router) => [
+            Part::Text(b"at "),
+            Part::Text(router_name(net, *router)),
+            Part::Text(b" self\n"),
+            Part::Text(b""),
+            Part::Text(b""),
+        ],
+        Pos::Entering(interface) => [
+            Part::Text(b"at "),
+            Part::Text(router_name(net, interface.router)),
+            Part::Text(b" "),
+            Part::Text(interface_name(net, *interface)),
+            Part::Text(b"\n"),
+        ],
+    }
+}
+
+/// What stands in the last line of a walk.
+#[tactic(auto, unfolding(crate::specs::WalkText::stop_line))]
+fn stop_parts(stop: Stop) -> [Part<'static>; 3]
+    ensures { flat_map part_text result ≡ stop_line stop }
+{
+    match stop {
+        Stop::At(kind) => [
+            Part::Text(b"end "),
+            Part::Text(kind_text(kind)),
+            Part::Text(b"\n"),
+        ],
+        Stop::Loop => [Part::Text(b"end loop\n"), Part::Text(b""), Part::Text(b"")],
+    }
+}
+
+fn put_positions<S: Sink>(
+    out: &mut S,
+    line: &mut Buffer,
+    net: &Network,
+    positions: &[Pos],
+) -> Result<(), SinkFault>
+    ensures ok { OnOk result (S.told out.new ≡ appended (S.told out.old) (flat_map (position_line net.now) positions.now)) }
+    ensures err { OnErr result (AppendsFront (S.told out.old) (S.told out.new) (flat_map (position_line net.now) positions.now)) }
+    ensures left { OnOk result (S.faults out.new ≡ S.faults out.old) }
+    ensures later { S.faults out.old ≤ S.faults out.new }
+    ensures cause { OnErr result (Rose (S.faults out.old) (S.faults out.new)) }
+{
+    for position in positions {
+        match put_position(out, line, net, position) {
+            Ok(()) => {}
+            Err(fault) => return Err(fault),
+        }
+    }
+    Ok(())
+}
+
+fn put_position<S: Sink>(
+    out: &mut S,
+    line: &mut Buffer,
+    net: &Network,
+    position: &Pos,
+) -> Result<(), SinkFault>
+    ensures ok { OnOk result (S.told out.new ≡ appended (S.told out.old) (position_line net.now position.now)) }
+    ensures err { OnErr result (AppendsFront (S.told out.old) (S.told out.new) (position_line net.now position.now)) }
+    ensures left { OnOk result (S.faults out.new ≡ S.faults out.old) }
+    ensures later { S.faults out.old ≤ S.faults out.new }
+    ensures cause { OnErr result (Rose (S.faults out.old) (S.faults out.new)) }
+{
+    let parts = position_parts(net, position);
+    put_line(out, line, &parts)
+}
+
+fn put_stop<S: Sink>(out: &mut S, line: &mut Buffer, stop: Stop) -> Result<(), SinkFault>
+    ensures ok { OnOk result (S.told out.new ≡ appended (S.told out.old) (stop_line stop)) }
+    ensures err { OnErr result (AppendsFront (S.told out.old) (S.told out.new) (stop_line stop)) }
+    ensures left { OnOk result (S.faults out.new ≡ S.faults out.old) }
+    ensures later { S.faults out.old ≤ S.faults out.new }
+    ensures cause { OnErr result (Rose (S.faults out.old) (S.faults out.new)) }
+{
+    let parts = stop_parts(stop);
+    put_line(out, line, &parts)
+}
+
+/// Puts a line for each position of a walk, and one for how it stops. What is in hand of an earlier line, which failed, is
+/// dropped. A router or an interface that the network doesn't have has the empty name.
+pub fn put_walk<S: Sink>(
+    out: &mut S,
+    line: &mut Buffer,
+    net: &Network,
+    walk: &Walk,
+) -> Result<(), SinkFault>
+    ensures ok { OnOk result (S.told out.new ≡ appended (S.told out.old) (walk_text net.now walk.now)) }
+    ensures err { OnErr result (AppendsFront (S.told out.old) (S.told out.new) (walk_text net.now walk.now)) }
+    ensures left { OnOk result (S.faults out.new ≡ S.faults out.old) }
+    ensures later { S.faults out.old ≤ S.faults out.new }
+    ensures cause { OnErr result (Rose (S.faults out.old) (S.faults out.new)) }
+{
+    match put_positions(out, line, net, walk.positions.as_slice()) {
+        Ok(()) => put_stop(out, line, walk.stop),
+        Err(fault) => Err(fault),
+    }
+}

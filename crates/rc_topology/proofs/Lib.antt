@@ -1,0 +1,7 @@
+pub mod ListLaws
+pub mod OrderLaws
+pub mod PlaceLaws
+pub mod FillingLaws
+pub mod LeftLaws
+pub mod PrefixLaws
+pub mod LinkLaws

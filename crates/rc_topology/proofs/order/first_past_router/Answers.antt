@@ -1,0 +1,15 @@
+use Rattle.std.proofs.Common.{◌∙◌, Bool, rules}
+use Rattle.std.specs.Prelude.{nat_lt, nat_le}
+use Rattle.std.proofs.lemmas.List.Sorted.{IsPartitionPoint-from_clause}
+use Rattle.rc_base.specs.declared.place.IfId.{IfId}
+use Rattle.rc_topology.proofs.ListLaws.{first_at}
+use Rattle.rc_topology.proofs.OrderLaws.{turns_once, upto_down, lt_le}
+use Rattle.rc_topology.proofs.order.first_past_router.Goals as goal
+
+-- the closure gives the test, which turns once
+pub returns : goal.returns
+returns c =
+    let test : IfId → Bool = λ i. nat_le i.router c.args.router in
+    let parted = turns_once test (upto_down c.args.router) c.args.interfaces.now c.requires in
+    let point = IsPartitionPoint-from_clause test c.args.interfaces.now c.partition_point-place.result c.partition_point-place.ensures.partitioned parted (λ a r q called. search rules) in
+    c.at.ensures ∙ first_at test (λ i. nat_lt c.args.router i.router) (λ i. lt_le c.args.router i.router) c.args.interfaces.now c.partition_point-place.result c.partition_point-place.ensures.bound point

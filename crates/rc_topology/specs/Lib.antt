@@ -1,0 +1,6 @@
+pub mod Ports
+pub mod Links
+pub mod Order
+pub mod Filling
+pub mod Left
+pub mod Rows

@@ -1,0 +1,166 @@
+//! Which interfaces share a link, and whose an address is.
+ghost use Rattle.std.specs.Prelude.{◌≡◌, IfOk, None, Some};
+ghost use Rattle.std.specs.Option.{option_copied};
+ghost use Rattle.rc_topology.specs.Ports as port;
+ghost use Rattle.rc_topology.specs.Links as spec;
+ghost use Rattle.rc_topology.specs.Order.{IsInOrder};
+
+use crate::filling::{Indexes, host, indexes_of};
+use crate::order::some_of_router;
+use crate::ports::links_of;
+use crate::{Linked, Port, Takers};
+use rc_base::{Addr, IfId, Items, Prefix, RouterId};
+use rc_config::{IfType, Network};
+use std::alloc::{AllocError, Global};
+use std::marker::Model;
+
+/// The links of a network, seen as the interfaces of each router, from which links are told.
+///
+/// Beside these it keeps the interfaces of each prefix and the owners of each address, so that no call looks at every pair.
+#[derive(Drop)]
+pub struct Links {
+    ports: Items<Items<Port>>,
+    indexes: Indexes,
+}
+
+impl Model for Links {
+    ghost use Rattle.std.specs.Prelude.{List};
+    ghost use Rattle.rc_topology.specs.declared.port.Port.{Port};
+
+    ghost Value = { List (List Port) };
+
+    ghost use Rattle.rc_topology.specs.Filling.{IsIndexed};
+
+    ghost view = { λ l. l.ports };
+
+    ghost invariant = { λ l. IsIndexed l.ports l.indexes };
+}
+
+impl Links {
+    /// The links of a network. It errs only where memory runs out.
+    pub fn of(alloc: Global, net: &Network) -> Result<Links, AllocError>
+        ensures { IfOk result (λ links. links ≡ port.links_of net.now) }
+    {
+        let ports = links_of(alloc, net)?;
+        let indexes = indexes_of(alloc, ports.as_slice())?;
+        Ok(Links { ports, indexes })
+    }
+
+    /// What is kept of an interface, or `None` exactly where the network has none of this place.
+    fn port(&self, interface: IfId) -> Option<&Port>
+        ensures { option_copied result ≡ spec.port_at self.now interface }
+    {
+        let ports = self.ports.as_slice().get(interface.router.index())?;
+        ports.as_slice().get(interface.index)
+    }
+
+    /// The interfaces that have a prefix and aren't loopbacks, in position order.
+    pub(crate) fn on_prefix(&self, prefix: &Prefix) -> &[IfId]
+        ensures value { result.now ≡ spec.on_prefix self.now prefix.now }
+        ensures in_order { IsInOrder result.now }
+    {
+        self.indexes.by_prefix.members(prefix)
+    }
+
+    /// The interfaces that have an address, in position order.
+    fn owners(&self, addr: Addr) -> &[IfId]
+        ensures value { result.now ≡ spec.owners self.now addr }
+        ensures in_order { IsInOrder result.now }
+    {
+        self.indexes.by_addr.members(&host(addr))
+    }
+
+    /// The prefixes by which an interface shares links: none for a loopback, and none where there is no such interface.
+    fn link_prefixes(&self, interface: IfId) -> &[Prefix]
+        ensures { result.now ≡ spec.link_prefixes_at self.now interface }
+    {
+        let port = self.port(interface);
+        match port {
+            Some(port) => port.link_prefixes(),
+            None => &[],
+        }
+    }
+
+    /// Whether two interfaces share a link: they are of different routers, neither is a loopback, and some address of each
+    /// has the same prefix.
+    pub fn are_linked(&self, one: IfId, other: IfId) -> bool
+        ensures { result ≡ spec.are_linked self.now one other }
+    {
+        if one.router == other.router {
+            return false;
+        }
+        let (Some(this), Some(that)) = (self.port(one), self.port(other)) else {
+            return false;
+        };
+        this.shares_prefix(that)
+    }
+
+    /// The interfaces that share a link with one, in position order.
+    #[tactic(auto, using(crate::proofs::LeftLaws::linked_left))]
+    pub fn linked(&self, interface: IfId) -> Linked<'_>
+        ensures { result ≡ spec.linked self.now interface }
+    {
+        Linked::new(self, interface.router, self.link_prefixes(interface))
+    }
+
+    /// The takers of an address on a link of an interface: the interfaces that share a link with it and have the address, in
+    /// position order.
+    #[tactic(auto, using(crate::proofs::LinkLaws::takers_of_owners))]
+    pub fn takers(&self, interface: IfId, addr: Addr) -> Takers<'_>
+        ensures { result ≡ spec.takers self.now interface addr }
+    {
+        Takers::new(self, interface, self.owners(addr))
+    }
+
+    /// Whether an address is one of a router's own.
+    #[tactic(auto, using(crate::proofs::PlaceLaws::some_owner))]
+    pub fn is_own(&self, router: RouterId, addr: Addr) -> bool
+        ensures { result ≡ spec.is_own self.now router addr }
+    {
+        some_of_router(self.owners(addr), router)
+    }
+
+    /// Whether an address lies in a prefix of an interface.
+    pub fn holds(&self, interface: IfId, addr: Addr) -> bool
+        ensures { result ≡ spec.holds self.now interface addr }
+    {
+        let port = self.port(interface);
+        match port {
+            Some(port) => port.holds(addr),
+            None => false,
+        }
+    }
+
+    /// The type of an interface, or `None` exactly where it is there and of no type that may have addresses, or isn't there.
+    pub fn kind(&self, interface: IfId) -> Option<IfType>
+        ensures { result ≡ spec.kind_of self.now interface }
+    {
+        let port = self.port(interface);
+        match port {
+            Some(port) => port.kind,
+            None => None,
+        }
+    }
+
+    /// Whether an interface is there and is a loopback.
+    pub fn is_loopback(&self, interface: IfId) -> bool
+        ensures { result ≡ spec.port_is self.now port.is_loopback interface }
+    {
+        let port = self.port(interface);
+        match port {
+            Some(port) => port.is_loopback(),
+            None => false,
+        }
+    }
+
+    /// Whether an interface is there and is a serial line.
+    pub fn is_serial(&self, interface: IfId) -> bool
+        ensures { result ≡ spec.port_is self.now port.is_serial interface }
+    {
+        let port = self.port(interface);
+        match port {
+            Some(port) => port.is_serial(),
+            None => false,
+        }
+    }
+}

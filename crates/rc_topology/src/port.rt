@@ -1,0 +1,147 @@
+//! What is kept of an interface.
+ghost use Rattle.std.specs.Prelude.{◌≡◌, ◌++◌, IfOk, OnOk, map};
+ghost use Rattle.rc_config.specs.Interface.{declared_addresses};
+ghost use Rattle.rc_config.specs.MaskedAddr.{MaskedAddr};
+ghost use Rattle.rc_topology.specs.Ports as spec;
+
+use crate::PrefixSet;
+use rc_base::{Addr, Items, Name, Prefix};
+use rc_config::{IfAddr, IfType, Interface, RouterText, type_of_name};
+use std::alloc::{AllocError, Global};
+
+/// An interface as links see it.
+#[derive(Debug, Drop)]
+pub struct Port {
+    /// Its own addresses while it is up, the primary one first, then the others as written.
+    pub addresses: Items<Addr>,
+    /// The prefixes of these, by address, then length, each once.
+    pub prefixes: PrefixSet,
+    /// Its type, where it is one that may have addresses.
+    pub kind: Option<IfType>,
+}
+
+/// Appends addresses.
+fn append(all: &mut Items<IfAddr>, addresses: &[IfAddr]) -> Result<(), AllocError>
+    ensures { OnOk result (all.new ≡ all.old ++ addresses.now) }
+{
+    for address in addresses {
+        all.push(*address)?;
+    }
+    Ok(())
+}
+
+/// The addresses of an interface, the primary one first, then the others as written.
+fn declared(alloc: Global, interface: &Interface) -> Result<Items<IfAddr>, AllocError>
+    ensures { IfOk result (λ all. all ≡ declared_addresses interface.now) }
+{
+    let mut all = Items::new(alloc);
+    match interface.primary {
+        Some(primary) => {
+            all.push(primary)?;
+            append(&mut all, interface.secondary.as_slice())?;
+            Ok(all)
+        }
+        None => {
+            append(&mut all, interface.secondary.as_slice())?;
+            Ok(all)
+        }
+    }
+}
+
+/// Addresses without their masks.
+fn without_masks(alloc: Global, addresses: &[IfAddr]) -> Result<Items<Addr>, AllocError>
+    ensures { IfOk result (λ all. all ≡ map (λ (a : MaskedAddr). a.addr) addresses.now) }
+{
+    let mut all = Items::new(alloc);
+    for address in addresses {
+        all.push(address.addr())?;
+    }
+    Ok(all)
+}
+
+/// What is kept of an interface that is up.
+fn port_up(alloc: Global, kind: Option<IfType>, interface: &Interface) -> Result<Port, AllocError>
+    ensures { IfOk result (λ p. p ≡ spec.port_up kind interface.now) }
+{
+    let declared = declared(alloc, interface)?;
+    let addresses = without_masks(alloc, declared.as_slice())?;
+    let prefixes = PrefixSet::of(alloc, declared.as_slice())?;
+    Ok(Port {
+        addresses,
+        prefixes,
+        kind,
+    })
+}
+
+impl Port {
+    /// What is kept of an interface of a file.
+    pub(crate) fn of(
+        alloc: Global,
+        file: &RouterText,
+        name: &Name,
+        interface: &Interface,
+    ) -> Result<Port, AllocError>
+        ensures { IfOk result (λ p. p ≡ spec.port_of file.now.interfaces (name.now, interface.now)) }
+    {
+        let kind = type_of_name(name);
+        if file.is_down(name) {
+            return Ok(Port {
+                addresses: Items::new(alloc),
+                prefixes: PrefixSet::new(alloc),
+                kind,
+            });
+        }
+        port_up(alloc, kind, interface)
+    }
+
+    /// Whether it is a loopback.
+    pub(crate) fn is_loopback(&self) -> bool
+        ensures { result ≡ spec.is_loopback self.now }
+    {
+        match self.kind {
+            Some(IfType::Loopback) => true,
+            _ => false,
+        }
+    }
+
+    /// Whether it is a serial line.
+    pub(crate) fn is_serial(&self) -> bool
+        ensures { result ≡ spec.is_serial self.now }
+    {
+        match self.kind {
+            Some(IfType::Serial) => true,
+            _ => false,
+        }
+    }
+
+    /// Whether an address is one of its own.
+    pub(crate) fn owns(&self, addr: Addr) -> bool
+        ensures { result ≡ spec.owns addr self.now }
+    {
+        self.addresses.as_slice().iter().any(|other| addr == *other)
+    }
+
+    /// Whether an address lies in one of its prefixes.
+    pub(crate) fn holds(&self, addr: Addr) -> bool
+        ensures { result ≡ spec.holds addr self.now }
+    {
+        self.prefixes.holds(addr)
+    }
+
+    /// The prefixes by which it shares links: none where it is a loopback.
+    pub(crate) fn link_prefixes(&self) -> &[Prefix]
+        ensures { result.now ≡ spec.link_prefixes self.now }
+    {
+        if self.is_loopback() {
+            return &[];
+        }
+        self.prefixes.as_slice()
+    }
+
+    /// Whether it shares a prefix with another, where neither is a loopback.
+    pub(crate) fn shares_prefix(&self, other: &Port) -> bool
+        ensures { result ≡ spec.share_prefix self.now other.now }
+    {
+        !self.is_loopback() && !other.is_loopback() && self.prefixes.shares(&other.prefixes)
+    }
+}

@@ -1,0 +1,5 @@
+use Rattle.rc_walk.proofs.PlaneLaws.{prepared}
+use Rattle.rc_walk.proofs.plane.Plane.of.Goals as goal
+
+pub invariant_of-result : goal.invariant_of-result
+invariant_of-result c = rw c.in_ok-fibs.ensures (prepared _)

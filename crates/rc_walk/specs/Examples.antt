@@ -1,0 +1,63 @@
+-- Small networks and their tables, written by hand.
+use Rattle.std.specs.Prelude.{ℕ, ◌+◌, ◌*◌, true, List, [], ◌∷◌, map, Some, None, codes}
+use Rattle.std.specs.List.{enumerate_from}
+use Rattle.rc_base.specs.Prefix.{prefix_at}
+use Rattle.rc_base.specs.declared.header.Header.{Header}
+use Rattle.rc_base.specs.declared.place.IfId.{IfId}
+use Rattle.rc_config.specs.Interface.{fresh}
+use Rattle.rc_config.specs.declared.interface.Interface.{Interface}
+use Rattle.rc_config.specs.declared.network.Network.{Network}
+use Rattle.rc_route.specs.declared.route.Hop.{Hop}
+use Rattle.rc_route.specs.declared.route.Hop.TheVariants.{Dev, Via}
+use Rattle.rc_route.specs.declared.route.Route.{Route}
+use Rattle.rc_route.specs.declared.route.Source.TheVariants.{Connected, Static}
+use Rattle.rc_walk.specs.Moves.{DataPlane, plane_of}
+
+abbrev pub ip : ℕ → ℕ → ℕ → ℕ → ℕ
+ip a b c d = a * 16777216 + b * 65536 + c * 256 + d
+
+-- a packet to an address
+abbrev pub to : ℕ → Header
+to a = record { dst = a; src = 0; proto = 0; sport = 0; dport = 0 }
+
+abbrev pub port : ℕ → ℕ → IfId
+port r n = record { router = r; index = n }
+
+-- ---- configurations
+
+abbrev pub with_address : ℕ → ℕ → Interface
+with_address a len = record fresh { primary = Some (record { addr = a; len = len }) }
+
+abbrev pub shut : Interface → Interface
+shut i = record i { shutdown = true }
+
+abbrev pub gi0 : List ℕ
+gi0 = codes "GigabitEthernet0/0"
+
+abbrev pub gi1 : List ℕ
+gi1 = codes "GigabitEthernet0/1"
+
+abbrev pub se0 : List ℕ
+se0 = codes "Serial0/0"
+
+abbrev pub lo0 : List ℕ
+lo0 = codes "Loopback0"
+
+-- the network of routers RA, RB and so on with these interfaces
+abbrev pub network : List (List (List ℕ × Interface)) → Network
+network routers = record { routers = map (λ e. (82 ∷ (e.0 + 65) ∷ [], record { host = None; interfaces = e.1; static_routes = [] })) (enumerate_from 0 routers) }
+
+-- ---- tables
+
+abbrev pub connected : ℕ → ℕ → ℕ → ℕ → Route
+connected r a len n = record { prefix = prefix_at a len; source = Connected; distance = 0; metric = 0; hops = Dev (port r n) ∷ [] }
+
+abbrev pub static : ℕ → ℕ → List Hop → Route
+static a len hops = record { prefix = prefix_at a len; source = Static; distance = 1; metric = 0; hops = hops }
+
+abbrev pub via : ℕ → Hop
+via a = Via a None
+
+-- a network with a table for each router
+abbrev pub plane : Network → List (List Route) → DataPlane
+plane net tables = plane_of net (map (λ table. record { table = table; paths = [] }) tables)

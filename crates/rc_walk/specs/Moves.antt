@@ -1,0 +1,79 @@
+-- The moves of a packet at a position (RFC 1812 s.5.2).
+use Rattle.std.specs.Prelude.{◌≡◌, ℕ, true, List, [], ◌∷◌, map, All, Option, Some, None, unwrap_or, is_some, if◌then◌else◌, slice_get, flat_map}
+use Rattle.rc_base.specs.declared.header.Header.{Header}
+use Rattle.rc_base.specs.declared.place.IfId.{IfId}
+use Rattle.rc_base.specs.declared.place.Pos.{Pos}
+use Rattle.rc_base.specs.declared.place.Pos.TheVariants.{Own, Entering}
+use Rattle.rc_base.specs.declared.ending.Kind.TheVariants.{Accepted, NoRoute, NullRouted, Unreachable, Exits, Delivered}
+use Rattle.rc_config.specs.declared.network.Network.{Network}
+use Rattle.rc_topology.specs.declared.port.Port.{Port}
+use Rattle.rc_topology.specs.Ports.{links_of, is_loopback, is_serial}
+use Rattle.rc_topology.specs.Links.{linked, takers, is_own, holds, port_is}
+use Rattle.rc_route.specs.declared.route.Hop.{Hop}
+use Rattle.rc_route.specs.declared.route.Hop.TheVariants.{Null, Dev, Via}
+use Rattle.rc_route.specs.declared.state.RouterState.{RouterState}
+use Rattle.rc_fib.specs.declared.entry.Entry.{Entry}
+use Rattle.rc_fib.specs.Forwarding.{is_resolved, resolved, resolved_hops}
+use Rattle.rc_walk.specs.declared.walk.Move.{Move}
+use Rattle.rc_walk.specs.declared.walk.Move.TheVariants.{Next, End}
+
+-- what forwards packets: the network, its links, and each router's table with its hops resolved
+pub record DataPlane : Type 0 where
+  pub network : Network
+  pub links : List (List Port)
+  pub fibs : List (List Entry)
+
+-- a network in a state
+abbrev pub plane_of : Network → List RouterState → DataPlane
+plane_of net state = record { network = net; links = links_of net; fibs = map (λ (s : RouterState). resolved s.table) state }
+
+-- each hop of each table says where a packet goes: nowhere, or over an interface
+abbrev pub HasResolvedHops : List (List Entry) → Type 0
+HasResolvedHops fibs = All (λ (fib : List Entry). All (λ (e : Entry). All (λ (hop : Hop). is_resolved hop ≡ true) e.hops) fib) fibs
+
+abbrev pub router_of : Pos → ℕ
+router_of (Own r) = r
+router_of (Entering i) = i.router
+
+-- the moves into the routers of these interfaces
+abbrev pub moves_onto : List IfId → List Move
+moves_onto interfaces = map (λ j. Next (Entering j)) interfaces
+
+-- the moves onto these interfaces, or where there are none these other moves
+abbrev pub moves_onto_or : List IfId → List Move → List Move
+moves_onto_or [] others = others
+moves_onto_or (i ∷ is) others = moves_onto (i ∷ is)
+
+module _ (links : List (List Port)) (h : Header) where
+  -- out of an interface, where nobody there takes the destination and there is no gateway: it is that of a host of the subnet, or
+  -- the packet leaves by the line, into every router that shares it
+  abbrev pub moves_on_link : IfId → List Move
+  moves_on_link i =
+      if holds links i h.dst then End Delivered ∷ [] else (if port_is links is_serial i then moves_onto_or (linked links i) (End Exits ∷ []) else End Exits ∷ [])
+
+  -- out of an interface, to a gateway or straight to the destination
+  abbrev pub moves_over : IfId → Option ℕ → List Move
+  moves_over i gateway =
+      if port_is links is_loopback i then End Unreachable ∷ [] else moves_onto_or (takers links i (unwrap_or gateway h.dst)) (if is_some gateway then End Exits ∷ [] else moves_on_link i)
+
+  -- the moves that a hop gives. A gateway without an interface says nowhere to go, and resolved hops have none.
+  abbrev pub moves_by : Hop → List Move
+  moves_by Null = End NullRouted ∷ []
+  moves_by (Dev i) = moves_over i None
+  moves_by (Via g (Some i)) = moves_over i (Some g)
+  moves_by (Via g None) = []
+
+  -- those of all hops in order, or `no-route` where there is none
+  abbrev pub moves_by_hops : List Hop → List Move
+  moves_by_hops [] = End NoRoute ∷ []
+  moves_by_hops (x ∷ xs) = flat_map moves_by (x ∷ xs)
+
+-- a router's table
+abbrev pub fib_of : DataPlane → ℕ → List Entry
+fib_of plane r = unwrap_or (slice_get plane.fibs r) []
+
+module _ (plane : DataPlane) (h : Header) where
+  -- the moves at a position, in order: a router takes what is addressed to it, and sends all else by its table
+  abbrev pub moves : Pos → List Move
+  moves q =
+      if is_own plane.links (router_of q) h.dst then End Accepted ∷ [] else moves_by_hops plane.links h (resolved_hops (fib_of plane (router_of q)) h.dst)

@@ -1,0 +1,32 @@
+//! What holds of every walk.
+ghost use Rattle.std.specs.Prelude.{◌≡◌, ◌≤◌, List, length};
+ghost use Rattle.rc_base.specs.declared.header.Header.{Header};
+ghost use Rattle.rc_base.specs.declared.place.Pos.{Pos};
+ghost use Rattle.rc_config.specs.declared.network.Network.{Network};
+ghost use Rattle.rc_config.specs.Lawful.{IsPosition};
+ghost use Rattle.rc_config.specs.Members.{positions};
+ghost use Rattle.rc_route.specs.declared.state.RouterState.{RouterState};
+ghost use Rattle.rc_walk.specs.declared.walk.Walk.{Walk};
+ghost use Rattle.rc_walk.specs.Moves.{DataPlane, plane_of};
+ghost use Rattle.rc_walk.specs.Walks.{IsWalk, IsFirstWalk, first_walk};
+
+/// A packet has one first walk from a position.
+pub fn one_first_walk()
+    ensures { (plane : DataPlane) (h : Header) (q : Pos) (w v : Walk) → IsFirstWalk plane h q w → IsFirstWalk plane h q v → w ≡ v }
+{}
+
+/// The first walk is a walk: each position is among the moves of the one before, and so is the ending among those of the
+/// last position, or a move of it leads back.
+pub fn first_walk_is_a_walk()
+    ensures { (plane : DataPlane) (h : Header) (q : Pos) (w : Walk) → IsFirstWalk plane h q w → IsWalk plane h q w }
+{}
+
+/// From each position there is a first walk, and it can be computed.
+pub fn there_is_a_first_walk()
+    ensures { (net : Network) (state : List RouterState) (h : Header) (q : Pos) → IsFirstWalk (plane_of net state) h q (first_walk (plane_of net state) h q) }
+{}
+
+/// A walk has at most as many positions as the network.
+pub fn walks_are_short()
+    ensures { (net : Network) (state : List RouterState) (h : Header) (q : Pos) (w : Walk) → IsPosition net q → IsWalk (plane_of net state) h q w → length w.positions ≤ length (positions net) }
+{}

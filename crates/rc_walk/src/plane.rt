@@ -1,0 +1,107 @@
+//! What forwards packets.
+ghost use Rattle.std.specs.Prelude.{◌≡◌, All, IfOk, map, slice_get};
+ghost use Rattle.std.specs.Option.{option_copied};
+ghost use Rattle.rc_fib.specs.Forwarding.{resolved, resolved_hops};
+ghost use Rattle.rc_route.specs.Tables.{IsRouterState};
+ghost use Rattle.rc_route.specs.declared.state.RouterState.{RouterState as Known};
+ghost use Rattle.rc_topology.specs.Ports.{links_of};
+
+use rc_base::{Addr, Items, RouterId};
+use rc_config::Network;
+use rc_fib::Fib;
+use rc_route::{Hop, RouterState, State};
+use rc_topology::Links;
+use std::alloc::{AllocError, Global};
+use std::marker::Model;
+
+/// A network, its links, and each router's table prepared for look-ups.
+#[derive(Drop)]
+pub struct Plane<'a> {
+    network: &'a Network,
+    links: &'a Links,
+    fibs: Items<Fib>,
+}
+
+impl<'a> Model for Plane<'a> {
+    ghost use Rattle.rc_walk.specs.Moves.{DataPlane, HasResolvedHops};
+
+    ghost Value = { DataPlane };
+
+    ghost view = { λ p. record { network = p.network.now; links = p.links.now; fibs = p.fibs } };
+
+    ghost invariant = { λ p. HasResolvedHops p.fibs };
+}
+
+/// The tables of a state, prepared for look-ups.
+fn fibs_of(alloc: Global, state: &[RouterState]) -> Result<Items<Fib>, AllocError>
+    requires { All IsRouterState state.now }
+    ensures { IfOk result (λ fibs. fibs ≡ map (λ (s : Known). resolved s.table) state.now) }
+{
+    let mut fibs = Vec::with_capacity(alloc, state.len())?;
+    for known in state {
+        fibs.push(Fib::of(alloc, &known.table)?)?;
+    }
+    Ok(Items::from_vec(fibs))
+}
+
+impl<'a> Plane<'a> {
+    ghost use Rattle.rc_walk.specs.Moves.{HasResolvedHops, plane_of, fib_of};
+
+    /// A network in a state, with the network's links. It errs only where memory runs out.
+    pub fn of(
+        alloc: Global,
+        net: &'a Network,
+        links: &'a Links,
+        state: &State,
+    ) -> Result<Plane<'a>, AllocError>
+        requires state { All IsRouterState state.now }
+        requires links { links.now ≡ links_of net.now }
+        ensures { IfOk result (λ plane. plane ≡ plane_of net.now state.now) }
+    {
+        let fibs = fibs_of(alloc, state.as_slice())?;
+        Ok(Plane {
+            network: net,
+            links,
+            fibs,
+        })
+    }
+
+    /// The network.
+    pub fn network(&self) -> &Network
+        ensures { result.now ≡ self.now.network }
+    {
+        self.network
+    }
+
+    /// Its links.
+    pub fn links(&self) -> &Links
+        ensures { result.now ≡ self.now.links }
+    {
+        self.links
+    }
+
+    /// The prepared table of a router, or `None` exactly where there is none of this place.
+    pub fn fib(&self, router: RouterId) -> Option<&Fib>
+        ensures { option_copied result ≡ slice_get self.now.fibs router }
+    {
+        self.fibs.as_slice().get(router.index())
+    }
+
+    /// The hops of an address by the table of a router.
+    pub(crate) fn hops(&self, router: RouterId, addr: Addr) -> &[Hop]
+        ensures { result.now ≡ resolved_hops (fib_of self.now router) addr }
+    {
+        let fib = self.fib(router);
+        match fib {
+            Some(fib) => fib.hops(addr),
+            None => &[],
+        }
+    }
+
+    /// That each hop says where a packet goes.
+    pub(crate) fn prepared(&self)
+        ensures { HasResolvedHops self.now.fibs }
+    {
+        let _fibs = &self.fibs;
+    }
+}

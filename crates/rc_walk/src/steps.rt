@@ -1,0 +1,112 @@
+//! The moves at a position.
+ghost use Rattle.std.specs.Prelude.{◌≡◌, ◌∷◌, [], Some};
+ghost use Rattle.std.specs.Iterator.{YieldsFirst, item_count};
+ghost use Rattle.rc_walk.specs.Moves as spec;
+ghost use Rattle.rc_walk.specs.Walks.{first_move};
+
+use crate::begun::{Begun, moves_by};
+use crate::{Move, Plane};
+use rc_base::{Header, Kind, Pos, RouterId};
+use rc_route::Hop;
+use rc_topology::Links;
+use std::marker::Model;
+
+/// The moves of a packet at a position, seen as the list of those that are left. It takes no memory, and each move is
+/// looked for only when it is asked for.
+#[derive(Drop)]
+pub struct Steps<'a> {
+    links: &'a Links,
+    header: Header,
+    begun: Begun<'a>,
+    hops: &'a [Hop],
+}
+
+impl<'a> Model for Steps<'a> {
+    ghost use Rattle.std.specs.Prelude.{List, ◌++◌, flat_map};
+    ghost use Rattle.rc_walk.specs.declared.walk.Move.{Move};
+
+    ghost Value = { List Move };
+
+    ghost use Rattle.rc_walk.specs.Left.{moves_begun};
+    ghost use Rattle.rc_walk.specs.Moves as spec;
+
+    ghost view = { λ s. moves_begun s.begun ++ flat_map (spec.moves_by s.links.now s.header) s.hops.now };
+}
+
+impl<'a> Iterator for Steps<'a> {
+    type Item = Move;
+
+    ghost next_gives = { YieldsFirst (λ left. left) };
+
+    ghost remaining = { item_count (λ left. left) };
+
+    fn next(&mut self) -> Option<Move> {
+        loop {
+            let found = self.begun.next_move();
+            if found.is_some() {
+                return found;
+            }
+            let [hop, rest @ ..] = self.hops else {
+                return None;
+            };
+            self.hops = rest;
+            self.begun = moves_by(self.links, &self.header, hop);
+        }
+    }
+}
+
+/// The router at a position.
+fn router_of(place: &Pos) -> RouterId
+    ensures { result ≡ spec.router_of place.now }
+{
+    match place {
+        Pos::Own(router) => *router,
+        Pos::Entering(interface) => interface.router,
+    }
+}
+
+/// The moves of a packet at a position, in order (RFC 1812 s.5.2).
+///
+/// A router takes what is addressed to it. All else goes by the hops of the longest prefix that holds the destination:
+/// nowhere, to the gateway or to the destination itself where a router on the link has that address, out of the network,
+/// to a host of the subnet, or over a serial line to whoever is there.
+pub fn step<'a>(plane: &'a Plane<'a>, place: Pos, header: &Header) -> Steps<'a>
+    ensures { result ≡ spec.moves plane.now header.now place }
+{
+    let links = plane.links();
+    let router = router_of(&place);
+    if links.is_own(router, header.dst) {
+        return ending(links, header, Kind::Accepted);
+    }
+    let hops = plane.hops(router, header.dst);
+    if hops.is_empty() {
+        return ending(links, header, Kind::NoRoute);
+    }
+    Steps {
+        links,
+        header: *header,
+        begun: Begun::nothing(),
+        hops,
+    }
+}
+
+/// An ending alone.
+fn ending<'a>(links: &'a Links, header: &Header, kind: Kind) -> Steps<'a>
+    ensures { result ≡ Move.End kind ∷ [] }
+{
+    Steps {
+        links,
+        header: *header,
+        begun: Begun::ending(kind),
+        hops: &[],
+    }
+}
+
+/// The first move of a packet at a position: there is one, since each hop says where a packet goes.
+pub(crate) fn first_move(plane: &Plane<'_>, place: &Pos, header: &Header) -> Move
+    ensures { first_move plane.now header.now place.now ≡ Some result }
+{
+    plane.prepared();
+    let mut steps = step(plane, *place, header);
+    steps.next().unwrap()
+}

@@ -1,0 +1,229 @@
+-- The commands as clap builds them, with the facts that the laws use of each.
+use Rattle.std.proofs.Common.{ap, lit<, ◌<◌, ◌^◌, ◌≡◌, ◌∙◌, ◌==◌, Bool, true, false, List, [], ◌∷◌, ◌++◌, refl, sym, Option, Some, None, find, codes, map, unwrap_or, not, is_some, ◌&&◌}
+use Rattle.std.specs.List.{list_any}
+use Rattle.std.specs.Option.{option_map_or}
+use Rattle.std.specs.Str.{bytes_eq}
+use Rattle.clap.specs.Faults.{check_fault, given_default_fault, turn_fault, is_simple_and_free}
+use Rattle.clap.specs.Kinds.{check_kinds}
+use Rattle.clap.specs.Lexer.{long_of}
+use Rattle.clap.specs.Simple.{App, Shape, built, names_of, label_of, new_shape, is_simple}
+use Rattle.clap.specs.Takes.{is_given, value_passes}
+use Rattle.clap.specs.Walk.{Held, Row, Rule, Text, Walk, idle, walked, walk_from, nothing_held, answers_to, arg_by_id, arg_by_long, arg_by_short, has_long}
+use Rattle.clap.specs.Words.{new_rule}
+use Rattle.clap.specs.declared.builder.ArgAction.TheVariants.{Set}
+use Rattle.clap.specs.declared.builder.ValueParser.{ValueParser}
+use Rattle.clap.specs.declared.builder.ValueParser.TheVariants as vp
+use Rattle.clap.proofs.OnLiterals.{clap_on_literals}
+use Rattle.rc_words.specs.App.{netcheck_app}
+use Rattle.rc_words.specs.Plain.{CommandName, routes, trace, command_word, OptionName, router, from, dst, src, proto, sport, dport, rounds, workers, nodes, option_name, same_option, ValueKind, number, text, kind_of, default, options_of, required_of}
+use Rattle.rc_words.proofs.Defaults.{IsDefaulted, defaults_by, looked, or_default}
+use Rattle.rc_words.proofs.KeptValues.{IsOwn, AreOwn}
+use Rattle.rc_words.proofs.PlainWalk.{IsFirst}
+use Rattle.rc_words.proofs.Rules.{AllOf, find_all}
+
+-- the command is one that clap's model covers
+pub simple_and_free : is_simple_and_free netcheck_app ≡ true
+simple_and_free = refl
+
+pub simple : is_simple netcheck_app ≡ true
+simple = refl
+
+abbrev pub whole : App
+whole = built netcheck_app
+
+-- ---- arguments as clap fills them in
+
+abbrev pub parser_by : ValueKind → ValueParser
+parser_by (number low high) = vp.Unsigned low high
+parser_by text = vp.String
+
+abbrev is_required : OptionName → Bool
+is_required from = true
+is_required dst = true
+is_required _ = false
+
+abbrev pub rule_for : OptionName → Rule
+rule_for o = record (new_rule (option_name o)) {
+  long = Some (option_name o);
+  action = Some Set;
+  range = Some (record { start_inclusive = 1; end_inclusive = 1 });
+  defaults = defaults_by (default o);
+  parser = Some (parser_by (kind_of o));
+  required = is_required o;
+}
+
+abbrev pub dir_rule : Rule
+dir_rule = record (new_rule (codes "DIR")) {
+  index = Some 1;
+  action = Some Set;
+  range = Some (record { start_inclusive = 1; end_inclusive = 1 });
+  parser = Some vp.String;
+  required = true;
+}
+
+-- ---- names of options
+
+abbrev all_options : List OptionName
+all_options = router ∷ from ∷ dst ∷ src ∷ proto ∷ sport ∷ dport ∷ rounds ∷ workers ∷ nodes ∷ []
+
+abbrev pub IsSmall : ValueKind → Type 0
+IsSmall (number low high) = high < 2 ^ 32
+IsSmall text = Unit {0}
+
+-- the option's word, that no other option and no argument has its name, and that its numbers fit 32 bits
+pub record IsNamed (o : OptionName) : Type 0 where
+  pub long : long_of (codes "--" ++ option_name o) ≡ Some (option_name o, None)
+  pub not_end : bytes_eq (codes "--" ++ option_name o) (45 ∷ 45 ∷ []) ≡ false
+  pub own : find (λ a. same_option a o) all_options ≡ Some o
+  pub not_dir : bytes_eq (codes "DIR") (option_name o) ≡ false
+  pub small : IsSmall (kind_of o)
+
+pub named : (o : OptionName) → IsNamed o
+named router = record { long = refl; not_end = refl; own = refl; not_dir = refl; small = tt }
+named from = record { long = refl; not_end = refl; own = refl; not_dir = refl; small = tt }
+named dst = record { long = refl; not_end = refl; own = refl; not_dir = refl; small = tt }
+named src = record { long = refl; not_end = refl; own = refl; not_dir = refl; small = tt }
+named proto = record { long = refl; not_end = refl; own = refl; not_dir = refl; small = lit< tt }
+named sport = record { long = refl; not_end = refl; own = refl; not_dir = refl; small = lit< tt }
+named dport = record { long = refl; not_end = refl; own = refl; not_dir = refl; small = lit< tt }
+named rounds = record { long = refl; not_end = refl; own = refl; not_dir = refl; small = lit< tt }
+named workers = record { long = refl; not_end = refl; own = refl; not_dir = refl; small = lit< tt }
+named nodes = record { long = refl; not_end = refl; own = refl; not_dir = refl; small = lit< tt }
+
+pub same_is : (a b : OptionName) → option_name a ≡ option_name b → a ≡ b
+same_is a b e =
+    let both : Some a ≡ Some b = sym (named a).own ∙ ap (λ (n : Text). find (λ (x : OptionName). bytes_eq (option_name x) n) all_options) e ∙ (named b).own in
+    cc
+
+-- ---- a command
+
+-- the option is found among the rules, by its name and by its id, and it alone gives its id a default
+pub record IsOption (c : List Rule) (o : OptionName) : Type 0 where
+  pub long : arg_by_long c (option_name o) ≡ Some (rule_for o)
+  pub here : arg_by_id c (option_name o) ≡ Some (rule_for o)
+  pub after : (found : Option Row) → looked (option_name o) c found ≡ or_default (rule_for o) found
+
+abbrev pub gone : Held → Text → List Text → Walk
+gone h name rest = record { held = h; waiting = idle; position = 1; is_trailing = false; stopped = Some (name, rest) }
+
+-- the ids of what has to be given: the command's argument, and options
+abbrev pub wanted_ids : Rule → CommandName → List Text
+wanted_ids a k = a.id ∷ map option_name (required_of k)
+
+-- what the laws use of a command whose one argument has the rule a
+pub record IsCommand (k : CommandName) (a : Rule) (s : Shape) : Type 0 where
+  pub found : find (λ x. answers_to (command_word k) (label_of x)) whole.subs ≡ Some s
+  pub name : s.name ≡ command_word k
+  pub enters : walked whole.top.rules (names_of whole) (walk_from nothing_held) (command_word k) ≡ gone nothing_held (command_word k) []
+  pub enters_well : turn_fault whole.top (names_of whole) (walk_from nothing_held) (command_word k) ≡ []
+  pub once : s.args_override_self ≡ false
+  pub own : AreOwn s.rules
+  pub first : (v : Text) → value_passes a v ≡ true → IsFirst s.rules a v
+  pub after : (found : Option Row) → looked a.id s.rules found ≡ or_default a found
+  pub no_default : a.defaults ≡ []
+  pub apart : (o : OptionName) → bytes_eq a.id (option_name o) ≡ false
+  pub options : AllOf (IsOption s.rules) (options_of k)
+  pub required : AllOf (IsOption s.rules) (required_of k)
+  pub defaults : AllOf IsDefaulted s.rules
+  pub defaults_pass : AllOf (λ a. given_default_fault a a.defaults ≡ []) s.rules
+  pub check : (rows : List Row) → check_fault s rows false ≡ check_kinds false false (list_any (λ id. not (is_given id rows)) (wanted_ids a k))
+
+-- arguments are a command's own where each of its rules is
+own_by : (c : List Rule) → AllOf (IsOwn c) c → ((x : _) → arg_by_short c x ≡ None) → AreOwn c
+own_by c own no_short = record {
+  by_id = λ id a e. find_all (IsOwn c) (λ (x : Rule). bytes_eq x.id id) c a own e;
+  by_long = λ id a e. find_all (IsOwn c) (λ (x : Rule). not (is_some x.index) && has_long x id) c a own e;
+  by_index = λ i a e. find_all (IsOwn c) (λ (x : Rule). option_map_or (λ k. k == i) x.index false) c a own e;
+  no_short = no_short;
+}
+
+abbrev shape_at : Text → Shape
+shape_at name = unwrap_or (find (λ s. answers_to name (label_of s)) whole.subs) (new_shape [])
+
+-- ---- routes
+
+abbrev pub routes_shape : Shape
+routes_shape = shape_at (codes "routes")
+
+routes_enters : walked whole.top.rules (names_of whole) (walk_from nothing_held) (codes "routes") ≡ gone nothing_held (codes "routes") []
+unfolding clap_on_literals
+routes_enters = refl
+
+routes_enters_well : turn_fault whole.top (names_of whole) (walk_from nothing_held) (codes "routes") ≡ []
+unfolding clap_on_literals
+routes_enters_well = refl
+
+routes_own : AllOf (IsOwn routes_shape.rules) routes_shape.rules
+routes_own = (record { here = refl; set = refl; least = refl; most = refl }, (record { here = refl; set = refl; least = refl; most = refl }, (record { here = refl; set = refl; least = refl; most = refl }, (record { here = refl; set = refl; least = refl; most = refl }, (record { here = refl; set = refl; least = refl; most = refl }, tt)))))
+
+routes_options : AllOf (IsOption routes_shape.rules) (options_of routes)
+routes_options = (record { long = refl; here = refl; after = λ found. refl }, (record { long = refl; here = refl; after = λ found. refl }, (record { long = refl; here = refl; after = λ found. refl }, (record { long = refl; here = refl; after = λ found. refl }, tt))))
+
+routes_defaults : AllOf IsDefaulted routes_shape.rules
+routes_defaults = ((None, refl), ((None, refl), ((Some (codes "1000"), refl), ((Some (codes "4"), refl), ((Some (codes "1048576"), refl), tt)))))
+
+routes_defaults_pass : AllOf (λ a. given_default_fault a a.defaults ≡ []) routes_shape.rules
+routes_defaults_pass = (refl, (refl, (refl, (refl, (refl, tt)))))
+
+pub routes_is : IsCommand routes dir_rule routes_shape
+routes_is = record {
+  found = refl;
+  name = refl;
+  enters = routes_enters;
+  enters_well = routes_enters_well;
+  once = refl;
+  own = own_by routes_shape.rules routes_own (λ x. refl);
+  first = λ v e. record { single = record { here = refl; set = refl; least = refl; most = refl; passes = e }; place = refl; one = refl; several = refl; trailing = refl };
+  after = λ found. refl;
+  no_default = refl;
+  apart = λ o. (named o).not_dir;
+  options = routes_options;
+  required = tt;
+  defaults = routes_defaults;
+  defaults_pass = routes_defaults_pass;
+  check = λ rows. refl;
+}
+
+-- ---- trace
+
+abbrev pub trace_shape : Shape
+trace_shape = shape_at (codes "trace")
+
+trace_enters : walked whole.top.rules (names_of whole) (walk_from nothing_held) (codes "trace") ≡ gone nothing_held (codes "trace") []
+unfolding clap_on_literals
+trace_enters = refl
+
+trace_enters_well : turn_fault whole.top (names_of whole) (walk_from nothing_held) (codes "trace") ≡ []
+unfolding clap_on_literals
+trace_enters_well = refl
+
+trace_own : AllOf (IsOwn trace_shape.rules) trace_shape.rules
+trace_own = (record { here = refl; set = refl; least = refl; most = refl }, (record { here = refl; set = refl; least = refl; most = refl }, (record { here = refl; set = refl; least = refl; most = refl }, (record { here = refl; set = refl; least = refl; most = refl }, (record { here = refl; set = refl; least = refl; most = refl }, (record { here = refl; set = refl; least = refl; most = refl }, (record { here = refl; set = refl; least = refl; most = refl }, (record { here = refl; set = refl; least = refl; most = refl }, (record { here = refl; set = refl; least = refl; most = refl }, (record { here = refl; set = refl; least = refl; most = refl }, tt))))))))))
+
+trace_options : AllOf (IsOption trace_shape.rules) (options_of trace)
+trace_options = (record { long = refl; here = refl; after = λ found. refl }, (record { long = refl; here = refl; after = λ found. refl }, (record { long = refl; here = refl; after = λ found. refl }, (record { long = refl; here = refl; after = λ found. refl }, (record { long = refl; here = refl; after = λ found. refl }, (record { long = refl; here = refl; after = λ found. refl }, (record { long = refl; here = refl; after = λ found. refl }, (record { long = refl; here = refl; after = λ found. refl }, (record { long = refl; here = refl; after = λ found. refl }, tt)))))))))
+
+trace_defaults : AllOf IsDefaulted trace_shape.rules
+trace_defaults = ((None, refl), ((None, refl), ((None, refl), ((Some (codes "0.0.0.0"), refl), ((Some (codes "0"), refl), ((Some (codes "0"), refl), ((Some (codes "0"), refl), ((Some (codes "1000"), refl), ((Some (codes "4"), refl), ((Some (codes "1048576"), refl), tt))))))))))
+
+trace_defaults_pass : AllOf (λ a. given_default_fault a a.defaults ≡ []) trace_shape.rules
+trace_defaults_pass = (refl, (refl, (refl, (refl, (refl, (refl, (refl, (refl, (refl, (refl, tt))))))))))
+
+pub trace_is : IsCommand trace dir_rule trace_shape
+trace_is = record {
+  found = refl;
+  name = refl;
+  enters = trace_enters;
+  enters_well = trace_enters_well;
+  once = refl;
+  own = own_by trace_shape.rules trace_own (λ x. refl);
+  first = λ v e. record { single = record { here = refl; set = refl; least = refl; most = refl; passes = e }; place = refl; one = refl; several = refl; trailing = refl };
+  after = λ found. refl;
+  no_default = refl;
+  apart = λ o. (named o).not_dir;
+  options = trace_options;
+  required = (trace_options.0, (trace_options.1.0, tt));
+  defaults = trace_defaults;
+  defaults_pass = trace_defaults_pass;
+  check = λ rows. refl;
+}
