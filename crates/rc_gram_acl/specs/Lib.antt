@@ -1,0 +1,14 @@
+pub mod NumberName
+pub mod Values
+pub mod Part
+pub mod Address
+pub mod Port
+pub mod Lines
+pub mod Refused
+pub mod Reading
+pub mod ListNumber
+pub mod Sequence
+pub mod ValueRows
+pub mod LineRows
+pub mod RefusedRows
+pub mod NumberRows

@@ -1,0 +1,172 @@
+//! The words that make a line of an access list one that isn't modelled, where it fits no row.
+ghost use Rattle.std.specs.Prelude.{◌≡◌, take};
+ghost use Rattle.std.specs.List.{list_any};
+ghost use Rattle.rc_openings.specs.Words.{words_left};
+ghost use Rattle.rc_gram_acl.specs.Address.{address};
+ghost use Rattle.rc_gram_acl.specs.Port.{end_point};
+ghost use Rattle.rc_gram_acl.specs.Refused as refused;
+ghost use Rattle.rc_gram_acl.specs.Values.{is_unknown_port as is_unknown};
+
+use crate::addresses::read_address;
+use crate::ports::{Operator, Side, has_ports, operator_of, read_end_point};
+use crate::values::{begins_alphabetic, is_unknown_port, word_protocol};
+use rc_config::ProtocolTest;
+use rc_openings::Words;
+
+/// The words that make it one wherever they stand.
+#[tactic(auto, unfolding(crate::specs::Refused::refused_words))]
+pub(crate) fn refused_words() -> Words<'static>
+    ensures { words_left result ≡ refused.refused_words }
+{
+    Words::new(
+        b"established fragments dscp tos precedence time-range object-group ttl option reflect dynamic match-any match-all ack rst syn fin psh urg",
+    )
+}
+
+/// Whether one of the words up to one that ends the ports is a name of no port.
+fn has_unknown_listed(side: Side, words: Words) -> bool
+    ensures { result ≡ list_any is_unknown (refused.until_end side (words_left words.entry)) }
+{
+    let mut rest = words;
+    while let Some(word) = rest.next_word() {
+        if side.ends_ports(word) {
+            return false;
+        }
+        if is_unknown_port(word) {
+            return true;
+        }
+    }
+    false
+}
+
+/// Whether the first word is a name of no port.
+fn is_first_unknown(mut words: Words) -> bool
+    ensures { result ≡ list_any is_unknown (take 1 (words_left words.entry)) }
+{
+    match words.next_word() {
+        Some(word) => is_unknown_port(word),
+        None => false,
+    }
+}
+
+/// Whether one of the first two words is a name of no port.
+fn is_one_of_two_unknown(words: Words) -> bool
+    ensures { result ≡ list_any is_unknown (take 2 (words_left words.entry)) }
+{
+    let mut rest = words;
+    match rest.next_word() {
+        Some(word) => is_unknown_port(word) || is_first_unknown(rest),
+        None => false,
+    }
+}
+
+/// Whether the first word, or one behind it up to one that ends the ports, is a name of no port.
+fn is_one_listed_unknown(side: Side, words: Words) -> bool
+    ensures { result ≡ list_any is_unknown (refused.listed side (words_left words.entry)) }
+{
+    let mut rest = words;
+    match rest.next_word() {
+        Some(word) => is_unknown_port(word) || has_unknown_listed(side, rest),
+        None => false,
+    }
+}
+
+/// Whether one of the words that stand for ports behind an operator is a name of no port.
+fn has_unknown_operand(operator: Operator, side: Side, words: Words) -> bool
+    ensures { result ≡ list_any is_unknown (refused.port_words operator side (words_left words.entry)) }
+{
+    match operator {
+        Operator::Equal => is_one_listed_unknown(side, words),
+        Operator::NotEqual => is_one_listed_unknown(side, words),
+        Operator::Below => is_first_unknown(words),
+        Operator::Above => is_first_unknown(words),
+        Operator::Within => is_one_of_two_unknown(words),
+    }
+}
+
+/// Whether a name of no port stands where ports are named.
+fn has_unknown_port(side: Side, words: Words) -> bool
+    ensures { result ≡ refused.has_unknown_port side (words_left words.entry) }
+{
+    let mut rest = words;
+    match rest.next_word() {
+        Some(word) => match operator_of(word) {
+            Some(operator) => has_unknown_operand(operator, side, rest),
+            None => false,
+        },
+        None => false,
+    }
+}
+
+/// Whether a protocol's lines may name messages, which aren't modelled: icmp and igmp.
+fn has_messages(protocol: ProtocolTest) -> bool
+    ensures { result ≡ refused.has_messages protocol }
+{
+    match protocol {
+        ProtocolTest::Any => false,
+        ProtocolTest::Is(number) => number == 1 || number == 2,
+    }
+}
+
+fn is_none_left(mut words: Words) -> bool
+    ensures { result ≡ refused.is_none_left (words_left words.entry) }
+{
+    words.next_word().is_none()
+}
+
+/// Whether a refused word stands behind the address of the source.
+fn is_refused_behind_source(protocol: ProtocolTest, words: Words) -> bool
+    ensures { result ≡ refused.refused_behind_source protocol (address (words_left words.entry)) }
+{
+    match read_address(words) {
+        Some((_, rest)) => has_ports(protocol) && has_unknown_port(Side::Source, rest),
+        None => false,
+    }
+}
+
+/// Whether a refused word stands behind the address of the destination.
+fn is_refused_behind_destination(protocol: ProtocolTest, words: Words) -> bool
+    ensures { result ≡ refused.refused_behind_destination protocol (address (words_left words.entry)) }
+{
+    match read_address(words) {
+        Some((_, rest)) => {
+            if has_messages(protocol) {
+                !is_none_left(rest)
+            } else {
+                has_ports(protocol) && has_unknown_port(Side::Destination, rest)
+            }
+        }
+        None => false,
+    }
+}
+
+/// The same behind the source, where it is one.
+fn is_refused_from_destination(protocol: ProtocolTest, words: Words) -> bool
+    ensures { result ≡ refused.refused_from_destination protocol (end_point protocol Side.Source (words_left words.entry)) }
+{
+    match read_end_point(protocol, Side::Source, words) {
+        Some((_, rest)) => is_refused_behind_destination(protocol, rest),
+        None => false,
+    }
+}
+
+fn is_refused_behind_protocol(protocol: ProtocolTest, words: Words) -> bool
+    ensures { result ≡ refused.refused_behind_protocol protocol (words_left words.entry) }
+{
+    is_refused_behind_source(protocol, words) || is_refused_from_destination(protocol, words)
+}
+
+/// Whether an extended line, read as far as it fits, names a protocol or a port that isn't known here, or has a message
+/// of icmp or igmp.
+pub(crate) fn has_refused_place(words: Words) -> bool
+    ensures { result ≡ refused.has_refused_place (words_left words.entry) }
+{
+    let mut rest = words;
+    match rest.next_word() {
+        Some(word) => match word_protocol(word) {
+            Some(protocol) => is_refused_behind_protocol(protocol, rest),
+            None => begins_alphabetic(word),
+        },
+        None => false,
+    }
+}
