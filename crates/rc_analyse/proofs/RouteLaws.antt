@@ -8,7 +8,9 @@ use Rattle.rc_outside.specs.Sink.{appended}
 use Rattle.rc_report.specs.RouteText.{routes_text}
 use Rattle.rc_route.specs.declared.state.RouterState.{RouterState}
 use Rattle.rc_analyse.specs.Texts.{routes_in, all_routes}
-use Rattle.rc_analyse.proofs.Puts.{HasPut, put-none, appended-nothing}
+use Rattle.rc_report.specs.InHand.{HasPut}
+use Rattle.rc_report.proofs.InHandLaws.{appended-nothing}
+use Rattle.rc_analyse.proofs.Puts.{put-none}
 
 -- a state has no routes past its end
 pub nothing_past : (o : Option (List ℕ)) (net : Network) (state : List RouterState) (place : ℕ) → length state ≤ place → o ≡ appended o (routes_in net state place)

@@ -7,7 +7,7 @@ use Rattle.rc_config.specs.declared.network.Network.{Network}
 use Rattle.rc_config.specs.declared.router_text.RouterText.{RouterText}
 use Rattle.rc_grammar.specs.File.{file_of}
 use Rattle.rc_grammar.specs.declared.refusal.FileRefusal.{FileRefusal}
-use Rattle.rc_network.specs.Build.{Model, twice, IsNetworkOf}
+use Rattle.rc_network.specs.Build.{Model, first_refusal, IsNetworkOf}
 use Rattle.rc_network.specs.declared.refusal.NetCause.TheVariants.{File as InText, FileTooLong}
 use Rattle.rc_network.specs.declared.refusal.NetRefusal.{NetRefusal}
 use Rattle.rc_network.specs.declared.refusal.NetRefusal.TheVariants.{InFile, TooManyFiles}
@@ -54,10 +54,10 @@ abbrev pub models_of : (List ℕ → List ℕ) → List (List ℕ) → Result (L
 models_of bytes [] = Ok []
 models_of bytes (name ∷ names) = onto name (model_of name (bytes name)) (models_of bytes names)
 
--- the network of models, or the first host name that is there already
+-- the network of models, or their first refusal
 abbrev pub IsNetOfModels : List Model → Result Network NetRefusal → Type 0
-IsNetOfModels models (Ok net) = (twice models ≡ None) × IsNetworkOf models net
-IsNetOfModels models (Err refusal) = twice models ≡ Some refusal
+IsNetOfModels models (Ok net) = (first_refusal models ≡ None) × IsNetworkOf models net
+IsNetOfModels models (Err refusal) = first_refusal models ≡ Some refusal
 
 abbrev pub IsNetOf : Result (List Model) NetRefusal → Result Network NetRefusal → Type 0
 IsNetOf (Ok models) net = IsNetOfModels models net

@@ -6,6 +6,8 @@ use std::process::Abort;
 use std::test::Fail;
 use std::thread::Threads;
 
+mod lists;
+mod policies;
 mod traces;
 
 const BASE: &str =

@@ -6,3 +6,5 @@ pub mod Place
 pub mod Groups
 pub mod Index
 pub mod IndexRows
+pub mod Communities
+pub mod CommunityRows

@@ -1,5 +1,5 @@
 -- Names of routers, interfaces and lists: 1 to 63 printable ASCII bytes without a blank.
-use Rattle.std.specs.Prelude.{◌≡◌, ℕ, ◌-◌, List, ◌++◌, length, replicate, take, Bool, true, ◌&&◌, nat_le, nat_lt, nat_eq, if◌then◌else◌, Option, Some, None}
+use Rattle.std.specs.Prelude.{◌≡◌, ℕ, ◌-◌, List, ◌++◌, length, replicate, take, Bool, true, ◌&&◌, nat_le, nat_lt, nat_eq, if◌then◌else◌, Option, Some, None, decimal}
 use Rattle.std.specs.List.{list_all}
 use Rattle.std.specs.Cmp.Lexicographic.{pointwise}
 use Rattle.std.proofs.Common.{ap, ◌∙◌}
@@ -14,6 +14,10 @@ is_name text = nat_lt 0 (length text) && nat_le (length text) 63 && list_all is_
 -- the name that a text is
 abbrev pub name_of : List ℕ → Option (List ℕ)
 name_of text = if is_name text then Some text else None
+
+-- the name of what has a number in place of a name: its decimal digits, without zeros in front
+abbrev pub name_of_number : ℕ → List ℕ
+name_of_number n = decimal n
 
 abbrev pub same_name : List ℕ → List ℕ → Bool
 same_name = pointwise nat_eq

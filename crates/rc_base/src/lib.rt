@@ -1,11 +1,13 @@
-//! Addresses, prefixes, names, headers, positions and endings: the words that every other crate speaks in.
+//! Addresses, prefixes, names, communities, headers, positions and endings: the words that every other crate speaks in.
 //!
 //! It stands on no crate of this repository. The layer above knows each type by what it means: an address is a
-//! number below 2^32, a prefix a network and a length, a name its bytes, a list its elements, and what stands under prefixes
-//! as rows in order of prefix. No call here takes memory but those that put one thing more into a list or under a prefix.
+//! number below 2^32, a prefix a network and a length, a name its bytes, a list its elements, a set of communities its rising
+//! numbers, and what stands under prefixes as rows in order of prefix. Memory is taken only by calls that put one thing more
+//! into a list or under a prefix, or make a set of communities.
 #![tactic(auto)]
 
 mod addr;
+mod communities;
 mod ending;
 mod file_name;
 mod header;
@@ -18,6 +20,7 @@ mod prefix_index;
 mod prefix_map;
 
 pub use addr::{Addr, len_of, mask_of};
+pub use communities::Communities;
 pub use ending::{Ends, Kind};
 pub use file_name::FileName;
 pub use header::Header;

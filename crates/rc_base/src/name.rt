@@ -7,7 +7,7 @@ ghost use Rattle.std.specs.Cmp.Rules.{comparing};
 ghost use Rattle.std.specs.Cmp.Lexicographic.{pointwise, slice_cmp, bytes_decides};
 ghost use Rattle.std.specs.Ordering.{nat_cmp, as_partial_cmp};
 ghost use Rattle.std.proofs.Common.{rules, ap};
-ghost use Rattle.rc_base.specs.Name.{is_name_byte, is_name, name_of};
+ghost use Rattle.rc_base.specs.Name.{is_name_byte, is_name, name_of, name_of_number};
 
 use std::cmp::Ordering;
 use std::hash::{Hash, Hasher};
@@ -59,6 +59,23 @@ impl Name {
             bytes,
             len: len as u8,
         })
+    }
+
+    /// The name of what has a number in place of a name, as some lists do: its decimal digits, without zeros in front.
+    pub fn of_number(number: u32) -> Name
+        ensures { result ≡ name_of_number number }
+    {
+        let mut text = [0; 10];
+        let mut start = 10;
+        let mut left = number;
+        while left >= 10 {
+            start -= 1;
+            text[start] = b'0' + (left % 10) as u8;
+            left /= 10;
+        }
+        start -= 1;
+        text[start] = b'0' + left as u8;
+        Name::new(&text[start..]).unwrap()
     }
 
     /// Its text.

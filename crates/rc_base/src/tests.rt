@@ -1,7 +1,7 @@
 //! What the types mean, by examples from outside.
 use crate::{
-    Addr, Ends, FileName, IfId, Items, Kind, Name, Pos, Prefix, PrefixIndex, PrefixMap, RouterId,
-    len_of, mask_of,
+    Addr, Communities, Ends, FileName, IfId, Items, Kind, Name, Pos, Prefix, PrefixIndex,
+    PrefixMap, RouterId, len_of, mask_of,
 };
 use std::process::Abort;
 use std::test::Fail;
@@ -65,6 +65,12 @@ fn names(rt: HostRuntime) -> Result<(), Fail> {
     assert!(rt; short < long);
     assert!(rt; short != long);
     assert_eq!(rt; long.as_bytes(), b"R1".as_slice());
+    assert_eq!(rt; Name::of_number(5).as_bytes(), b"5".as_slice());
+    assert_eq!(rt; Name::of_number(2699).as_bytes(), b"2699".as_slice());
+    assert_eq!(rt;
+        Name::of_number(u32::MAX).as_bytes(),
+        b"4294967295".as_slice()
+    );
     Ok(())
 }
 
@@ -137,5 +143,27 @@ fn values_by_prefix(rt: HostRuntime) -> Result<(), Fail> {
     assert_eq!(rt; map.insert(prefix, 9)?, Some(7));
     assert_eq!(rt; map.get(&prefix), Some(&9));
     assert_eq!(rt; map.into_rows().len(), 1);
+    Ok(())
+}
+
+#[test]
+fn sets_of_communities(rt: HostRuntime) -> Result<(), Fail> {
+    let three = Communities::of(Vec::from_slice(rt.alloc(), &[30, 10, 20, 10])?)?;
+    assert_eq!(rt; three.as_slice(), [10, 20, 30].as_slice());
+    assert!(rt; !three.is_empty());
+    for (number, wanted) in [(10, true), (15, false), (30, true), (31, false)] {
+        assert_eq!(rt; three.has(number), wanted, "at {number}");
+    }
+    let two = Communities::of(Vec::from_slice(rt.alloc(), &[40, 10])?)?;
+    assert!(rt; !three.includes(&two));
+    let both = two.union(rt.alloc(), &three)?;
+    assert_eq!(rt; both.as_slice(), [10, 20, 30, 40].as_slice());
+    assert!(rt; both.includes(&two));
+    assert!(rt; both == three.union(rt.alloc(), &two)?);
+    assert!(rt; both.copy(rt.alloc())? == both);
+    let none = Communities::none(rt.alloc());
+    assert!(rt; none.is_empty());
+    assert!(rt; three.includes(&none));
+    assert!(rt; !both.has(Communities::NO_EXPORT));
     Ok(())
 }

@@ -7,17 +7,29 @@ use Rattle.std.proofs.lemmas.List.Elements.{All-nil, All-cons, All-head, All-tai
 use Rattle.std.specs.Cmp.Lexicographic.{bytes_decides}
 use Rattle.rc_base.specs.Name.{same_name}
 use Rattle.rc_config.specs.declared.command.Command.{Command}
-use Rattle.rc_config.specs.declared.command.Command.TheVariants.{Passed, Hostname, Interface, Address, Shutdown, Bandwidth, StaticRoute}
+use Rattle.rc_config.specs.declared.command.Command.TheVariants.{Passed, Remark, Hostname, Interface, Address, Shutdown, Bandwidth, StaticRoute, FilterOpened, FilterLine, AccessGroup, PrefixLine, CommunityLine, MapOpened, MapLine}
+use Rattle.rc_config.specs.declared.filter.FilterKind.{FilterKind}
+use Rattle.rc_config.specs.declared.interface.Direction.{Direction}
+use Rattle.rc_config.specs.declared.interface.Direction.TheVariants.{In, Out}
 use Rattle.rc_config.specs.declared.interface.IfAddr.{IfAddr}
 use Rattle.rc_config.specs.declared.interface.Interface.{Interface as Block}
 use Rattle.rc_config.specs.declared.router_text.RouterText.{RouterText}
 use Rattle.rc_config.specs.declared.static_route.StaticRoute.{StaticRoute as Route}
 use Rattle.rc_config.specs.IfType.{type_of}
-use Rattle.rc_config.specs.Interface.{fresh, with_address}
-use Rattle.rc_config.specs.Lawful.{IsLawfulInterface, HasLawfulInterfaces, HasLawfulRoutes, IsDistance, IsInRange}
+use Rattle.rc_config.specs.Filter.{IsLawfulFilter, IsLawfulLine}
+use Rattle.rc_config.specs.Interface.{fresh, with_address, with_group}
+use Rattle.rc_config.specs.Lawful.{IsLawfulInterface, HasLawfulInterfaces, HasLawfulRoutes, HasLawfulLists, IsDistance, IsInRange, FitsFile}
+use Rattle.rc_config.specs.Lists.{filter_named, prefix_list_named, with_filter_line, with_prefix_line}
+use Rattle.rc_config.specs.PrefixList.{IsLawfulLine as IsLawfulPrefixLine, IsLawfulList as IsLawfulPrefixList}
+use Rattle.rc_config.specs.RouteMap.{IsLawfulMap}
+use Rattle.rc_config.specs.declared.filter.FilterLine.{FilterLine as FilterRow}
+use Rattle.rc_config.specs.declared.lists.Lists.{Lists}
+use Rattle.rc_config.specs.declared.prefix_list.PrefixLine.{PrefixLine as PrefixRow}
 use Rattle.rc_config.specs.MaskedAddr.{IsMaskLen}
 use Rattle.rc_config.specs.Named.{named, with_value}
-use Rattle.rc_config.specs.Update.{after, interface_named}
+use Rattle.rc_config.specs.Update.{after, interface_named, route_map_named}
+use Rattle.rc_config.proofs.FilterLaws.{no_lines_lawful, placed_lawful}
+use Rattle.rc_config.proofs.PolicyLaws.{line_lawful as prefix_line_lawful, map_line_lawful, no_entries_lawful, no_lines_lawful as no_prefix_lines_lawful, opened_lawful}
 
 module _ {V : Type 0} (P : List ℕ → V → Type 0) where
   -- what holds of each value under its name, and of a value under a name, holds after that value is put there
@@ -66,8 +78,13 @@ address-lawful name i a false t m h = record {
   bandwidth = h.bandwidth;
 }
 
+group-lawful : (name : List ℕ) (i : Block) (list : List ℕ) (direction : Direction) → IsLawfulInterface name i → IsLawfulInterface name (with_group i list direction)
+group-lawful name i list In h = record { has_type = h.has_type; masks = h.masks; bandwidth = h.bandwidth }
+group-lawful name i list Out h = record { has_type = h.has_type; masks = h.masks; bandwidth = h.bandwidth }
+
 after-lawful : (r : RouterText) (c : Command) → HasLawfulInterfaces r → IsInRange c → HasLawfulInterfaces (after r c)
 after-lawful r Passed h k = h
+after-lawful r Remark h k = h
 after-lawful r (Hostname name line) h k = h
 after-lawful r (Interface name line) h k = All-with_value IsLawfulInterface r.interfaces name _ h (block-lawful r name h)
 after-lawful r (Address name a secondary) h k = All-with_value IsLawfulInterface r.interfaces name _ h (address-lawful name (interface_named r name) a secondary k.0 k.1 (block-lawful r name h))
@@ -78,16 +95,89 @@ after-lawful r (Bandwidth name kbits) h k =
     let was = block-lawful r name h in
     All-with_value IsLawfulInterface r.interfaces name _ h (record { has_type = was.has_type; masks = was.masks; bandwidth = k })
 after-lawful r (StaticRoute route) h k = h
+after-lawful r (FilterOpened name kind) h k = h
+after-lawful r (FilterLine name kind line) h k = h
+after-lawful r (PrefixLine name line) h k = h
+after-lawful r (CommunityLine name line) h k = h
+after-lawful r (MapOpened name n action) h k = h
+after-lawful r (MapLine name n line) h k = h
+after-lawful r (AccessGroup name list direction) h k = All-with_value IsLawfulInterface r.interfaces name _ h (group-lawful name (interface_named r name) list direction (block-lawful r name h))
 
 -- and its static routes
 after-routes : (r : RouterText) (c : Command) → HasLawfulRoutes r → IsInRange c → HasLawfulRoutes (after r c)
 after-routes r Passed h k = h
+after-routes r Remark h k = h
 after-routes r (Hostname name line) h k = h
 after-routes r (Interface name line) h k = h
 after-routes r (Address name a secondary) h k = h
 after-routes r (Shutdown name down) h k = h
 after-routes r (Bandwidth name kbits) h k = h
 after-routes r (StaticRoute route) h k = All-push (λ (s : Route). IsDistance s.distance) r.static_routes route h k
+after-routes r (FilterOpened name kind) h k = h
+after-routes r (FilterLine name kind line) h k = h
+after-routes r (AccessGroup name list direction) h k = h
+after-routes r (PrefixLine name line) h k = h
+after-routes r (CommunityLine name line) h k = h
+after-routes r (MapOpened name n action) h k = h
+after-routes r (MapLine name n line) h k = h
+
+-- and its lists and route maps, where the command fits the file
+abbrev AreLawfulFilters : Lists → Type 0
+AreLawfulFilters l = All (λ e. IsLawfulFilter e.1) l.filters
+
+filter-lawful : (l : Lists) (name : List ℕ) (kind : FilterKind) → AreLawfulFilters l → IsLawfulFilter (filter_named l name kind)
+filter-lawful l name kind h = named-or (λ n f. IsLawfulFilter f) l.filters name _ h (no_lines_lawful kind)
+
+filter_line-lawful : (l : Lists) (name : List ℕ) (kind : FilterKind) (line : FilterRow) → AreLawfulFilters l → IsLawfulLine kind line → (filter_named l name kind).kind ≡ kind
+    → AreLawfulFilters (with_filter_line l name kind line)
+filter_line-lawful l name kind line h k same =
+    let of_kind : IsLawfulLine (filter_named l name kind).kind line = subst (λ (at : FilterKind). IsLawfulLine at line) (sym same) k in
+    All-with_value (λ n g. IsLawfulFilter g) l.filters name _ h (placed_lawful (filter_named l name kind) line (filter-lawful l name kind h) of_kind)
+
+prefix_line-lawful : (l : Lists) (name : List ℕ) (line : PrefixRow) → All (λ e. IsLawfulPrefixList e.1) l.prefix_lists → IsLawfulPrefixLine line
+    → All (λ e. IsLawfulPrefixList e.1) (with_prefix_line l name line).prefix_lists
+prefix_line-lawful l name line h k =
+    All-with_value (λ n p. IsLawfulPrefixList p) l.prefix_lists name _ h (prefix_line_lawful (prefix_list_named l name) line (named-or (λ n p. IsLawfulPrefixList p) l.prefix_lists name _ h no_prefix_lines_lawful) k)
+
+map-lawful : (r : RouterText) (name : List ℕ) → HasLawfulLists r → IsLawfulMap (route_map_named r name)
+map-lawful r name h = named-or (λ n m. IsLawfulMap m) r.route_maps name _ h.route_maps no_entries_lawful
+
+after-lists : (r : RouterText) (c : Command) → HasLawfulLists r → IsInRange c → FitsFile r c → HasLawfulLists (after r c)
+after-lists r Passed h k f = h
+after-lists r Remark h k f = h
+after-lists r (Hostname name line) h k f = record { filters = h.filters; prefix_lists = h.prefix_lists; route_maps = h.route_maps }
+after-lists r (Interface name line) h k f = record { filters = h.filters; prefix_lists = h.prefix_lists; route_maps = h.route_maps }
+after-lists r (Address name a secondary) h k f = record { filters = h.filters; prefix_lists = h.prefix_lists; route_maps = h.route_maps }
+after-lists r (Shutdown name down) h k f = record { filters = h.filters; prefix_lists = h.prefix_lists; route_maps = h.route_maps }
+after-lists r (Bandwidth name kbits) h k f = record { filters = h.filters; prefix_lists = h.prefix_lists; route_maps = h.route_maps }
+after-lists r (StaticRoute route) h k f = record { filters = h.filters; prefix_lists = h.prefix_lists; route_maps = h.route_maps }
+after-lists r (AccessGroup name list direction) h k f = record { filters = h.filters; prefix_lists = h.prefix_lists; route_maps = h.route_maps }
+after-lists r (FilterOpened name kind) h k f = record {
+  filters = All-with_value (λ n g. IsLawfulFilter g) r.lists.filters name _ h.filters (filter-lawful r.lists name kind h.filters);
+  prefix_lists = h.prefix_lists;
+  route_maps = h.route_maps;
+}
+after-lists r (FilterLine name kind line) h k f = record {
+  filters = filter_line-lawful r.lists name kind line h.filters k f.0;
+  prefix_lists = h.prefix_lists;
+  route_maps = h.route_maps;
+}
+after-lists r (PrefixLine name line) h k f = record {
+  filters = h.filters;
+  prefix_lists = prefix_line-lawful r.lists name line h.prefix_lists k;
+  route_maps = h.route_maps;
+}
+after-lists r (CommunityLine name line) h k f = record { filters = h.filters; prefix_lists = h.prefix_lists; route_maps = h.route_maps }
+after-lists r (MapOpened name n action) h k f = record {
+  filters = h.filters;
+  prefix_lists = h.prefix_lists;
+  route_maps = All-with_value (λ s m. IsLawfulMap m) r.route_maps name _ h.route_maps (opened_lawful (route_map_named r name) n action (map-lawful r name h) k);
+}
+after-lists r (MapLine name n line) h k f = record {
+  filters = h.filters;
+  prefix_lists = h.prefix_lists;
+  route_maps = All-with_value (λ s m. IsLawfulMap m) r.route_maps name _ h.route_maps (map_line_lawful (route_map_named r name) n line (map-lawful r name h) k);
+}
 
 -- what a call gives that makes just this model, or runs out of memory
 pub put-lawful : (result : Result RouterText AllocError) (r : RouterText) (c : Command) → IfOk result (λ n. n ≡ after r c)
@@ -99,3 +189,8 @@ pub put-routes : (result : Result RouterText AllocError) (r : RouterText) (c : C
     → IfOk result (λ n. HasLawfulRoutes r → IsInRange c → HasLawfulRoutes n)
 put-routes (Ok n) r c e = λ h k. subst HasLawfulRoutes (sym e) (after-routes r c h k)
 put-routes (Err x) r c e = e
+
+pub put-lists : (result : Result RouterText AllocError) (r : RouterText) (c : Command) → IfOk result (λ n. n ≡ after r c)
+    → IfOk result (λ n. HasLawfulLists r → IsInRange c → FitsFile r c → HasLawfulLists n)
+put-lists (Ok n) r c e = λ h k f. subst HasLawfulLists (sym e) (after-lists r c h k f)
+put-lists (Err x) r c e = e

@@ -1,7 +1,6 @@
 -- Access lists (IOS `access-list` and `ip access-list`): their lines in order, and which lists there are.
-use Rattle.std.specs.Prelude.{◌≡◌, ℕ, ◌+◌, ◌-◌, ◌^◌, ◌<◌, ◌≤◌, ◌==◌, Bool, false, ◌||◌, nat_lt, if◌then◌else◌, List, [], ◌∷◌, All, length, Option, slice_get}
-use Rattle.std.specs.List.{list_all, list_any, AllPairs, AllWithin, slice_index_or}
-use Rattle.std.specs.Option.{option_map}
+use Rattle.std.specs.Prelude.{◌≡◌, ℕ, ◌-◌, ◌^◌, ◌≤◌, ◌==◌, Bool, false, ◌||◌, List, [], All, Option}
+use Rattle.rc_config.specs.ByNumber.{IsByNumber, placed, has_number, last_number}
 use Rattle.rc_config.specs.declared.filter.Action.{Action}
 use Rattle.rc_config.specs.declared.filter.AddressTest.{AddressTest}
 use Rattle.rc_config.specs.declared.filter.Filter.{Filter}
@@ -29,32 +28,25 @@ standard_line n a source = record { sequence = n; action = a; protocol = protoco
 abbrev pub no_lines : FilterKind → Filter
 no_lines kind = record { kind = kind; lines = [] }
 
--- the lines with one more: it stands in front of the lines at the end that all have greater numbers
-abbrev pub placed : FilterLine → List FilterLine → List FilterLine
-placed l [] = l ∷ []
-placed l (m ∷ lines) = if list_all (λ (k : FilterLine). nat_lt l.sequence k.sequence) (m ∷ lines) then l ∷ m ∷ lines else m ∷ placed l lines
+-- a line stands by its sequence number
+abbrev pub sequence_of : FilterLine → ℕ
+sequence_of l = l.sequence
 
--- the list with one more line, at its place
+-- the list with one more line, at its place by number
 abbrev pub with_line : Filter → FilterLine → Filter
-with_line f l = record f { lines = placed l f.lines }
+with_line f l = record f { lines = placed sequence_of l f.lines }
 
 -- a line has this number
 abbrev pub has_sequence : List FilterLine → ℕ → Bool
-has_sequence lines n = list_any (λ (l : FilterLine). l.sequence == n) lines
+has_sequence lines n = has_number sequence_of n lines
 
 -- the number of the last line
 abbrev pub last_sequence : List FilterLine → Option ℕ
-last_sequence lines = option_map (λ (l : FilterLine). l.sequence) (slice_get lines (length lines - 1))
+last_sequence lines = last_number sequence_of lines
 
 -- lines stand by rising sequence number: each number is lower than all later ones
 abbrev pub AreLinesInOrder : List FilterLine → Type 0
-AreLinesInOrder lines = AllPairs (λ (l m : FilterLine). l.sequence < m.sequence) lines
-
--- a place in front of the lines at the end that all have greater numbers than this
-pub record IsPlace (n : ℕ) (lines : List FilterLine) (place : ℕ) : Type 0 where
-  pub within : place ≤ length lines
-  pub greater : AllWithin (λ (l : FilterLine). n < l.sequence) lines place (length lines)
-  pub not_greater : (k : ℕ) (d : FilterLine) → k + 1 ≡ place → (slice_index_or lines k d).sequence ≤ n
+AreLinesInOrder lines = IsByNumber sequence_of lines
 
 -- a sequence number of a line
 abbrev pub IsSequence : ℕ → Type 0

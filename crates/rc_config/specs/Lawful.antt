@@ -1,7 +1,7 @@
 -- Files and networks as configurations give them: what every call that is given a network relies on.
 --
 -- What a type says by itself (a name its bytes, a number its width) is not said again.
-use Rattle.std.specs.Prelude.{◌≡◌, ℕ, ◌≤◌, ◌<◌, List, [], All, length, IsSome, IfSome, Some}
+use Rattle.std.specs.Prelude.{◌≡◌, ℕ, ◌≤◌, ◌<◌, false, List, [], All, length, IsSome, IfSome, Some}
 use Rattle.std.specs.Ordering.{nat_cmp}
 use Rattle.std.specs.Cmp.Lexicographic.{slice_cmp}
 use Rattle.std.specs.List.Sorted.{IsStrictlySortedBy}
@@ -11,16 +11,20 @@ use Rattle.rc_base.specs.declared.place.IfId.{IfId}
 use Rattle.rc_base.specs.declared.place.Pos.{Pos}
 use Rattle.rc_base.specs.declared.place.Pos.TheVariants.{Own, Entering}
 use Rattle.rc_config.specs.declared.command.Command.{Command}
-use Rattle.rc_config.specs.declared.command.Command.TheVariants.{Passed, Hostname, Interface, Address, Shutdown, Bandwidth, StaticRoute}
+use Rattle.rc_config.specs.declared.command.Command.TheVariants.{Passed, Remark, Hostname, Interface, Address, Shutdown, Bandwidth, StaticRoute, FilterOpened, FilterLine, AccessGroup, PrefixLine, CommunityLine, MapOpened, MapLine}
 use Rattle.rc_config.specs.declared.interface.IfAddr.{IfAddr}
 use Rattle.rc_config.specs.declared.interface.Interface.{Interface as Block}
 use Rattle.rc_config.specs.declared.network.Network.{Network}
 use Rattle.rc_config.specs.declared.router_text.RouterText.{RouterText}
 use Rattle.rc_config.specs.declared.static_route.StaticRoute.{StaticRoute as Route}
+use Rattle.rc_config.specs.Filter.{has_sequence, IsLawfulFilter, IsLawfulLine}
 use Rattle.rc_config.specs.IfType.{type_of}
 use Rattle.rc_config.specs.Interface.{declared_addresses}
 use Rattle.rc_config.specs.MaskedAddr.{IsMaskLen}
 use Rattle.rc_config.specs.Members.{interfaces_of}
+use Rattle.rc_config.specs.Lists.{filter_named}
+use Rattle.rc_config.specs.PrefixList.{IsLawfulLine as IsLawfulPrefixLine, IsLawfulList as IsLawfulPrefixList}
+use Rattle.rc_config.specs.RouteMap.{IsLawfulMap, IsLawfulMapLine}
 
 -- from 1 to 10,000,000 kbit/s
 abbrev pub IsBandwidth : ℕ → Type 0
@@ -44,22 +48,58 @@ IsDistance distance = (1 ≤ distance) × (distance ≤ 255)
 abbrev pub HasLawfulRoutes : RouterText → Type 0
 HasLawfulRoutes r = All (λ (s : Route). IsDistance s.distance) r.static_routes
 
--- a file's model with a host name, at most 256 interfaces, each lawful, and static routes with distances from 1 to 255
+-- each access list and each prefix list has lawful lines by rising number, and each route map lawful entries by rising number
+pub record HasLawfulLists (r : RouterText) : Type 0 where
+  pub filters : All (λ e. IsLawfulFilter e.1) r.lists.filters
+  pub prefix_lists : All (λ e. IsLawfulPrefixList e.1) r.lists.prefix_lists
+  pub route_maps : All (λ e. IsLawfulMap e.1) r.route_maps
+
+-- a file's model with a host name, at most 256 interfaces, each lawful, static routes with distances from 1 to 255, and lawful
+-- lists and route maps
 pub record IsLawfulFile (r : RouterText) : Type 0 where
   pub has_host : IsSome r.host
   pub few : length r.interfaces ≤ 256
   pub interfaces : HasLawfulInterfaces r
   pub static_routes : HasLawfulRoutes r
+  pub lists : HasLawfulLists r
 
--- a command that keeps interfaces and static routes lawful: an address goes to an interface of a named type, and values are in range
+-- a command that keeps a file lawful: an address goes to an interface of a named type, a line of an access list is one of a list
+-- of its kind, and values are in range
 abbrev pub IsInRange : Command → Type 0
 IsInRange Passed = Unit {0}
+IsInRange Remark = Unit {0}
 IsInRange (Hostname name line) = Unit {0}
 IsInRange (Interface name line) = Unit {0}
 IsInRange (Address name a secondary) = IsSome (type_of name) × IsMaskLen a.len
 IsInRange (Shutdown name down) = Unit {0}
 IsInRange (Bandwidth name kbits) = IsBandwidth kbits
 IsInRange (StaticRoute route) = IsDistance route.distance
+IsInRange (FilterOpened name kind) = Unit {0}
+IsInRange (FilterLine name kind line) = IsLawfulLine kind line
+IsInRange (AccessGroup name list direction) = Unit {0}
+IsInRange (PrefixLine name line) = IsLawfulPrefixLine line
+IsInRange (CommunityLine name line) = Unit {0}
+IsInRange (MapOpened name n action) = n ≤ 65535
+IsInRange (MapLine name n line) = IsLawfulMapLine line
+
+-- A command that the access lists of a file have room for: the list that it opens or adds a line to is of the kind that it says,
+-- where it is there, and none of its lines has the number of the new one.
+abbrev pub FitsFile : RouterText → Command → Type 0
+FitsFile r (FilterOpened name kind) = (filter_named r.lists name kind).kind ≡ kind
+FitsFile r (FilterLine name kind line) = ((filter_named r.lists name kind).kind ≡ kind) × (has_sequence (filter_named r.lists name kind).lines line.sequence ≡ false)
+FitsFile r Passed = Unit {0}
+FitsFile r Remark = Unit {0}
+FitsFile r (Hostname name line) = Unit {0}
+FitsFile r (Interface name line) = Unit {0}
+FitsFile r (Address name a secondary) = Unit {0}
+FitsFile r (Shutdown name down) = Unit {0}
+FitsFile r (Bandwidth name kbits) = Unit {0}
+FitsFile r (StaticRoute route) = Unit {0}
+FitsFile r (AccessGroup name list direction) = Unit {0}
+FitsFile r (PrefixLine name line) = Unit {0}
+FitsFile r (CommunityLine name line) = Unit {0}
+FitsFile r (MapOpened name n action) = Unit {0}
+FitsFile r (MapLine name n line) = Unit {0}
 
 -- the model of a router stands under its own host name
 abbrev pub IsNamed : List ℕ → RouterText → Type 0

@@ -7,8 +7,17 @@ pub mod Members
 pub mod Lawful
 pub mod Rows
 pub mod Place
+pub mod ActionWord
 pub mod Down
 pub mod DownRows
 pub mod FilterPorts
+pub mod ByNumber
+pub mod ByNumberRows
 pub mod Filter
 pub mod FilterRows
+pub mod PrefixList
+pub mod Sets
+pub mod RouteMap
+pub mod CommunityList
+pub mod Lists
+pub mod PolicyRows

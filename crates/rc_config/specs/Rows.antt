@@ -12,6 +12,7 @@ use Rattle.rc_config.specs.declared.static_route.Target.TheVariants as target
 use Rattle.rc_base.specs.Prefix.{prefix_at}
 use Rattle.rc_config.specs.IfType.{type_of}
 use Rattle.rc_config.specs.Interface.{fresh, declared_addresses}
+use Rattle.rc_config.specs.Lists.{no_lists}
 use Rattle.rc_config.specs.MaskedAddr.{MaskedAddr}
 use Rattle.rc_config.specs.Members.{router_named, interface_named as interface_id}
 use Rattle.rc_config.specs.Update.{after, empty, interface_named}
@@ -59,7 +60,7 @@ pub opened_again : (file (Interface first 2 ∷ Shutdown first true ∷ Interfac
 opened_again = refl
 
 -- a host name comes with its line, and a line that says nothing here changes nothing
-pub host_line : file (Passed ∷ Hostname (codes "r1") 2 ∷ Passed ∷ []) ≡ record { host = Some (record { name = codes "r1"; line = 2 }); interfaces = []; static_routes = [] }
+pub host_line : file (Passed ∷ Hostname (codes "r1") 2 ∷ Passed ∷ []) ≡ record { host = Some (record { name = codes "r1"; line = 2 }); interfaces = []; static_routes = []; lists = no_lists; route_maps = [] }
 host_line = refl
 
 -- a static route to 10.0.0.0/8

@@ -1,5 +1,8 @@
 //! What one line of a configuration says.
-use crate::{IfAddr, StaticRoute};
+use crate::{
+    Action, CommunityLine, Direction, FilterKind, FilterLine, IfAddr, MapLine, PrefixLine,
+    StaticRoute,
+};
 use rc_base::Name;
 
 /// What one line of a configuration says: a form with its values, and the interface in whose block it stands.
@@ -7,6 +10,9 @@ use rc_base::Name;
 pub enum Command {
     /// A line that says nothing here.
     Passed,
+    /// `remark ..`, or `access-list N remark ..`: a line of a form that has no effect. Other than a line that is passed
+    /// over, it opens no block.
+    Remark,
     /// `hostname NAME`, with the number of its line.
     Hostname {
         name: Name,
@@ -36,5 +42,46 @@ pub enum Command {
     /// `ip route A M TARGET ..`
     StaticRoute {
         route: StaticRoute,
+    },
+    /// `ip access-list standard NAME`, or `ip access-list extended NAME`: the block of a new list, or that of a known one
+    /// again.
+    FilterOpened {
+        list: Name,
+        kind: FilterKind,
+    },
+    /// A line of an access list of this kind, which is made where it isn't there.
+    FilterLine {
+        list: Name,
+        kind: FilterKind,
+        line: FilterLine,
+    },
+    /// `ip access-group NAME in`, or `ip access-group NAME out`. The list need not be there.
+    AccessGroup {
+        interface: Name,
+        list: Name,
+        direction: Direction,
+    },
+    /// `ip prefix-list NAME ..`: a line of a prefix list, which is made where it isn't there.
+    PrefixLine {
+        list: Name,
+        line: PrefixLine,
+    },
+    /// `ip community-list ..`: a line of a community list, which is made where it isn't there.
+    CommunityLine {
+        list: Name,
+        line: CommunityLine,
+    },
+    /// `route-map NAME permit N`, or `route-map NAME deny N`, N from 0 to 65535: the block of a new entry, or that of a known
+    /// one again.
+    MapOpened {
+        map: Name,
+        number: u32,
+        action: Action,
+    },
+    /// A line in the block of an entry of a route map.
+    MapLine {
+        map: Name,
+        number: u32,
+        line: MapLine,
     },
 }

@@ -1,7 +1,7 @@
 //! Where a line stands.
 ghost use Rattle.std.specs.Prelude.{◌≡◌};
 
-use crate::RouterText;
+use crate::{FilterKind, RouterText};
 use rc_base::Name;
 use rc_openings::Block;
 
@@ -14,6 +14,10 @@ pub enum Place {
     Global,
     /// The block of this interface.
     Interface(Name),
+    /// The block of this named access list, which is of this kind.
+    Acl(Name, FilterKind),
+    /// The block of the entry of this number of a route map.
+    Map(Name, u32),
     /// A block whose lines are all passed over.
     Ignored,
 }
@@ -29,6 +33,8 @@ impl Place {
             Place::Closed => Block::Closed,
             Place::Global => Block::Global,
             Place::Interface(_) => Block::Interface,
+            Place::Acl(_, _) => Block::Acl,
+            Place::Map(_, _) => Block::RouteMap,
             Place::Ignored => Block::Ignored,
         }
     }

@@ -1,10 +1,10 @@
 //! Access lists (IOS `access-list` and `ip access-list`).
-ghost use Rattle.std.specs.Prelude.{◌≡◌, ◌≤◌, All, false, IfOk, IfSome};
-ghost use Rattle.rc_config.specs.Filter.{any_address, host_address, has_sequence, last_sequence, placed, AreLinesInOrder, IsLawfulFilter, IsLawfulLine, IsPlace};
+ghost use Rattle.std.specs.Prelude.{◌≡◌, ◌≤◌, All, IfOk, IfSome};
+ghost use Rattle.rc_config.specs.Filter.{any_address, host_address, has_sequence, last_sequence, AreLinesInOrder, IsLawfulFilter, IsLawfulLine};
 ghost use Rattle.rc_config.specs.declared.filter.FilterLine.{FilterLine};
 
-use crate::Ports;
-use rc_base::{Addr, Items};
+use crate::{ByNumber, Numbered, Ports};
+use rc_base::Addr;
 use std::alloc::{AllocError, Global};
 
 /// What the lines of a list may test.
@@ -111,49 +111,19 @@ impl FilterLine {
     }
 }
 
+impl Numbered for FilterLine {
+    ghost number = { λ l. l.sequence };
+
+    fn number(&self) -> u32 {
+        self.sequence
+    }
+}
+
 /// An access list: its lines by rising sequence number.
 #[derive(Drop)]
 pub struct Filter {
     pub kind: FilterKind,
-    pub lines: Items<FilterLine>,
-}
-
-/// The place in front of the lines at the end that all have greater numbers than this. Where the number is greater than
-/// the last one's, it is found at once.
-fn place_of(lines: &[FilterLine], sequence: u32) -> usize
-    ensures { IsPlace sequence lines.now result }
-{
-    let mut place = lines.len();
-    while place > 0 && lines[place - 1].sequence > sequence {
-        place -= 1;
-    }
-    place
-}
-
-/// The lines with this one at its place.
-#[tactic(auto, using(crate::proofs::FilterLaws::placed_at))]
-fn with_line_placed(
-    lines: Items<FilterLine>,
-    line: FilterLine,
-) -> Result<Items<FilterLine>, AllocError>
-    ensures { IfOk result (λ made. made ≡ placed line lines) }
-{
-    let mut lines = lines.into_vec();
-    let place = place_of(lines.as_slice(), line.sequence);
-    lines.insert(place, line)?;
-    Ok(Items::from_vec(lines))
-}
-
-/// Whether a line has this number, where the lines are in order.
-#[tactic(auto, using(crate::proofs::FilterLaws::found_before, crate::proofs::FilterLaws::none_found))]
-fn has_line_among(lines: &[FilterLine], sequence: u32) -> bool
-    ensures { AreLinesInOrder lines.now → result ≡ has_sequence lines.now sequence }
-{
-    let place = place_of(lines, sequence);
-    if place == 0 {
-        return false;
-    }
-    lines[place - 1].sequence == sequence
+    pub lines: ByNumber<FilterLine>,
 }
 
 impl Filter {
@@ -167,38 +137,37 @@ impl Filter {
     {
         Filter {
             kind,
-            lines: Items::new(alloc),
+            lines: ByNumber::new(alloc),
         }
     }
 
-    /// The list with one more line, at its place by number. Where the lines are in order and none has this number yet
-    /// (`has_line`), they are in order again, and a lawful list stays lawful with a lawful line. A line whose number is the
-    /// greatest is put at the end at once, any other in the time of one pass over the list.
-    #[tactic(auto, using(crate::proofs::FilterLaws::placed_in_order, crate::proofs::FilterLaws::placed_lawful))]
+    /// The list with one more line at its place by number, where it takes the place of the line of the same number, if there
+    /// is one (`has_line`). A lawful list stays lawful with a lawful line.
+    #[tactic(auto, using(crate::proofs::FilterLaws::placed_lawful))]
     pub fn with_line(self, line: FilterLine) -> Result<Filter, AllocError>
         ensures value { IfOk result (λ f. f ≡ with_line self line) }
-        ensures order { IfOk result (λ f. AreLinesInOrder self.lines → has_sequence self.lines line.sequence ≡ false → AreLinesInOrder f.lines) }
-        ensures lawful { IfOk result (λ f. IsLawfulFilter self → IsLawfulLine self.kind line → has_sequence self.lines line.sequence ≡ false → IsLawfulFilter f) }
+        ensures order { IfOk result (λ f. AreLinesInOrder f.lines) }
+        ensures lawful { IfOk result (λ f. IsLawfulFilter self → IsLawfulLine self.kind line → IsLawfulFilter f) }
     {
-        let Filter { kind, lines } = self;
-        let lines = with_line_placed(lines, line)?;
+        // The generated proof of a generic call wants each enum within its type named in the function.
+        let _test: PortTest = PortTest::Any;
+        let Filter { kind, mut lines } = self;
+        lines.insert(line)?;
         Ok(Filter { kind, lines })
     }
 
     /// The number of the last line, which is the greatest, or `None` exactly where there are no lines.
-    #[tactic(auto, using(crate::proofs::FilterLaws::last_is_greatest))]
     pub fn greatest(&self) -> Option<u32>
         ensures value { result ≡ last_sequence self.now.lines }
-        ensures greatest { IfSome result (λ n. AreLinesInOrder self.now.lines → All (λ (l : FilterLine). l.sequence ≤ n) self.now.lines) }
+        ensures greatest { IfSome result (λ n. All (λ (l : FilterLine). l.sequence ≤ n) self.now.lines) }
     {
-        let last = self.lines.as_slice().last()?;
-        Some(last.sequence)
+        self.lines.greatest()
     }
 
-    /// Whether a line has this number, where the lines are in order. A number above the greatest is answered at once.
+    /// Whether a line has this number.
     pub fn has_line(&self, sequence: u32) -> bool
-        ensures { AreLinesInOrder self.now.lines → result ≡ has_sequence self.now.lines sequence }
+        ensures { result ≡ has_sequence self.now.lines sequence }
     {
-        has_line_among(self.lines.as_slice(), sequence)
+        self.lines.has(sequence)
     }
 }

@@ -1,8 +1,9 @@
 //! Access lists put together line by line, kept under names and copied.
 use crate::{
-    Action, AddressTest, Filter, FilterKind, FilterLine, Named, PortTest, Ports, ProtocolTest,
+    Action, AddressTest, Command, Direction, Filter, FilterKind, FilterLine, Named, PortTest,
+    Ports, ProtocolTest, RouterText,
 };
-use rc_base::{Addr, Items, Name};
+use rc_base::{Addr, Name};
 use std::alloc::{AllocError, Global};
 use std::test::Fail;
 
@@ -48,15 +49,17 @@ fn lines_by_number(rt: HostRuntime) -> Result<(), Fail> {
     for (sequence, wanted) in [(10, true), (15, false), (30, true), (31, false)] {
         assert_eq!(rt; filter.has_line(sequence), wanted, "at {sequence}");
     }
-    let lines = filter.lines.as_slice();
-    assert_eq!(rt; lines.get(0).map(|l| l.sequence), Some(10));
-    assert_eq!(rt; lines.get(1).map(|l| l.action), Some(Action::Deny));
+    for (line, wanted) in filter.lines.iter().zip([10, 20, 30]) {
+        assert_eq!(rt; line.sequence, wanted);
+    }
+    assert_eq!(rt; filter.lines.get(20).map(|l| l.action), Some(Action::Deny));
     assert_eq!(rt;
-        lines.get(2).map(|l| named_ports(&l.destination_port)),
+        filter
+            .lines
+            .get(30)
+            .map(|l| named_ports(&l.destination_port)),
         Some(2)
     );
-    let copy = filter.lines.copy(rt.alloc())?;
-    assert!(rt; copy == filter.lines);
     Ok(())
 }
 
@@ -74,18 +77,12 @@ fn lists_under_names(rt: HostRuntime) -> Result<(), Fail> {
     Ok(())
 }
 
-/// The lines with one more at the end.
-fn pushed(mut lines: Items<FilterLine>, line: FilterLine) -> Result<Items<FilterLine>, AllocError> {
-    // The generated proof of a push wants each enum within the element named in the function.
-    let _test: PortTest = PortTest::Any;
-    lines.push(line)?;
-    Ok(lines)
-}
-
 #[test]
-fn lines_at_the_end(rt: HostRuntime) -> Result<(), Fail> {
-    let lines = pushed(Items::new(rt.alloc()), tcp_line(5, Ports::new(80)))?;
-    assert_eq!(rt; lines.len(), 1);
+fn a_line_in_place_of_another(rt: HostRuntime) -> Result<(), Fail> {
+    let filter = three_lines(rt.alloc(), Ports::new(22))?;
+    let filter = filter.with_line(FilterLine::standard(10, Action::Deny, AddressTest::any()))?;
+    assert_eq!(rt; filter.lines.len(), 3);
+    assert_eq!(rt; filter.lines.get(10).map(|l| l.action), Some(Action::Deny));
     Ok(())
 }
 
@@ -99,5 +96,51 @@ fn one_to_ten_ports(rt: HostRuntime) -> Result<(), Fail> {
     assert_eq!(rt; Ports::new(22).with_port(23), Some(two));
     assert!(rt; two < ten);
     assert!(rt; Ports::new(22) < two);
+    Ok(())
+}
+
+/// The model with these lines of a list more.
+fn with_lines(mut text: RouterText, list: Name, numbers: &[u32]) -> Result<RouterText, AllocError> {
+    for number in numbers {
+        text = text.put(Command::FilterLine {
+            list,
+            kind: FilterKind::Extended,
+            line: tcp_line(*number, Ports::new(22)),
+        })?;
+    }
+    Ok(text)
+}
+
+#[test]
+fn lists_of_a_file(rt: HostRuntime) -> Result<(), Fail> {
+    let list = Name::new(b"101").ok_or("101")?;
+    let empty = Name::new(b"WEB").ok_or("WEB")?;
+    let interface = Name::new(b"Serial1").ok_or("Serial1")?;
+    let mut text = with_lines(RouterText::new(rt.alloc()), list, &[20, 10])?;
+    for opened in [empty, list] {
+        text = text.put(Command::FilterOpened {
+            list: opened,
+            kind: FilterKind::Extended,
+        })?;
+    }
+    for (group, direction) in [
+        (list, Direction::In),
+        (list, Direction::Out),
+        (empty, Direction::In),
+    ] {
+        text = text.put(Command::AccessGroup {
+            interface,
+            list: group,
+            direction,
+        })?;
+    }
+    assert_eq!(rt; text.lists.filters.len(), 2);
+    assert_eq!(rt; text.lists.filters.place_of(&empty), Some(1));
+    let found = text.lists.filters.get(&list).ok_or("the list")?;
+    assert_eq!(rt; found.lines.len(), 2);
+    assert_eq!(rt; found.greatest(), Some(20));
+    let block = text.interfaces.get(&interface).ok_or("the interface")?;
+    assert_eq!(rt; block.filter_in, Some(empty));
+    assert_eq!(rt; block.filter_out, Some(list));
     Ok(())
 }

@@ -1,10 +1,10 @@
 //! Interfaces and their addresses.
 ghost use Rattle.std.specs.Prelude.{◌≡◌, IfOk};
-ghost use Rattle.std.specs.Option.{SomeIff};
+ghost use Rattle.std.specs.Option.{option_copied, SomeIff};
 ghost use Rattle.rc_base.specs.Prefix.{prefix_at};
 ghost use Rattle.rc_config.specs.MaskedAddr.{IsMaskLen};
 
-use rc_base::{Addr, Items, Prefix};
+use rc_base::{Addr, Items, Name, Prefix};
 use std::alloc::{AllocError, Global};
 use std::marker::Model;
 
@@ -63,6 +63,15 @@ impl IfAddr {
     }
 }
 
+/// The direction in which an access list filters at an interface.
+#[derive(Clone, Copy, Debug, PartialEq, Eq)]
+pub enum Direction {
+    /// What enters there.
+    In,
+    /// What goes out there.
+    Out,
+}
+
 /// What the block of an interface says.
 #[derive(Drop)]
 pub struct Interface {
@@ -74,10 +83,14 @@ pub struct Interface {
     pub shutdown: bool,
     /// The bandwidth that the block sets, from 1 to 10,000,000 kbit/s.
     pub bandwidth: Option<u32>,
+    /// The list of the last line `ip access-group NAME in`. The file may have no list of this name.
+    pub filter_in: Option<Name>,
+    /// The list of the last line `ip access-group NAME out`, likewise.
+    pub filter_out: Option<Name>,
 }
 
 impl Interface {
-    ghost use Rattle.rc_config.specs.Interface.{fresh, with_address};
+    ghost use Rattle.rc_config.specs.Interface.{fresh, group_of, with_address, with_group};
 
     /// An interface with no line in its block. It takes no memory.
     pub fn new(alloc: Global) -> Interface
@@ -88,6 +101,8 @@ impl Interface {
             secondary: Items::new(alloc),
             shutdown: false,
             bandwidth: None,
+            filter_in: None,
+            filter_out: None,
         }
     }
 
@@ -105,5 +120,26 @@ impl Interface {
             self.primary = Some(address);
         }
         Ok(self)
+    }
+
+    /// The interface with this list in a direction, in place of any other.
+    pub(crate) fn with_group(mut self, list: Name, direction: Direction) -> Interface
+        ensures { result ≡ with_group self list direction }
+    {
+        match direction {
+            Direction::In => self.filter_in = Some(list),
+            Direction::Out => self.filter_out = Some(list),
+        }
+        self
+    }
+
+    /// The list that filters in a direction, or `None` exactly where no line names one.
+    pub fn group(&self, direction: Direction) -> Option<&Name>
+        ensures { option_copied result ≡ group_of self.now direction }
+    {
+        match direction {
+            Direction::In => self.filter_in.as_ref(),
+            Direction::Out => self.filter_out.as_ref(),
+        }
     }
 }

@@ -1,12 +1,17 @@
-//! The model that the lines of a configuration make: a file's host name, interfaces and static routes, and the network of
-//! all files; and access lists, which no command makes yet.
+//! The model that the lines of a configuration make: a file's host name, interfaces, static routes, access lists and routing
+//! policy, and the network of all files.
 //!
 //! It stands on the names and addresses of rc_base, and on the map of indexmap. The layer above knows a file's model as
 //! what `after` makes of its commands one by one, a map as its list of names and values in the order of first mention,
-//! and a router or an interface by its place in such a list.
+//! things by number as their list, and a router or an interface by its place in such a list.
 #![tactic(auto)]
 
+mod action_word;
+mod by_number;
+#[cfg(test)]
+mod by_number_tests;
 mod command;
+mod community_list;
 mod context;
 mod down;
 mod filter;
@@ -14,21 +19,36 @@ mod filter;
 mod filter_tests;
 mod if_type;
 mod interface;
+mod lists;
+mod map_line;
 mod named;
 mod network;
+#[cfg(test)]
+mod policy_tests;
 mod ports;
+mod prefix_list;
+mod route_map;
 mod router_text;
+mod sets;
 mod static_route;
 #[cfg(test)]
 mod tests;
 
+pub use action_word::action_of;
+pub use by_number::{ByNumber, Numbered};
 pub use command::Command;
+pub use community_list::{CommunityLine, CommunityList};
 pub use context::{Context, Place};
 pub use filter::{Action, AddressTest, Filter, FilterKind, FilterLine, PortTest, ProtocolTest};
 pub use if_type::{IfType, type_of_name};
-pub use interface::{IfAddr, Interface};
+pub use interface::{Direction, IfAddr, Interface};
+pub use lists::Lists;
+pub use map_line::{MapLine, MatchKind, SetLine};
 pub use named::Named;
 pub use network::Network;
 pub use ports::Ports;
+pub use prefix_list::{PrefixLine, PrefixList};
+pub use route_map::{MapEntry, Mention, RouteMap};
 pub use router_text::{HostLine, RouterText};
+pub use sets::{CommunityChange, MetricType, Sets};
 pub use static_route::{StaticRoute, Target};

@@ -1,6 +1,6 @@
 //! Values under names, in the order of first mention.
 ghost use Rattle.std.specs.Prelude.{ℕ, List, IsPermutation, ◌≡◌, ◌↔◌, ◌++◌, [], ◌∷◌, IsTrue, None, IfOk, OnOk, OnErr, length, slice_get};
-ghost use Rattle.std.specs.Option.{option_copied, option_map};
+ghost use Rattle.std.specs.Option.{option_copied, option_map, unwrap_or};
 ghost use Rattle.rc_config.specs.Named.{named, place_of, with_value, AreNamesInOrder};
 
 use indexmap::IndexMap;
@@ -88,6 +88,18 @@ impl<V: Drop> Named<V> {
     {
         let before = self.entries.insert(name, value)?;
         Ok(before)
+    }
+
+    /// Takes out the value under a name, and gives a fresh one where there is none. Until it is put back another one, which
+    /// is given for that, stands there.
+    pub(crate) fn lift(&mut self, name: Name, holder: V, fresh: V) -> Result<V, AllocError>
+        ensures place { OnOk result (self.new ≡ with_value self.old name holder) }
+        ensures value { IfOk result (λ v. v ≡ unwrap_or (named self.old name) fresh) }
+    {
+        match self.insert(name, holder)? {
+            Some(value) => Ok(value),
+            None => Ok(fresh),
+        }
     }
 
     /// Puts the names in byte order, each with its value. Where memory runs out all stays as it was.

@@ -1,2 +1,4 @@
 pub mod Verdict
+pub mod Groups
 pub mod Rows
+pub mod GroupRows

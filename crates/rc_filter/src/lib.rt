@@ -4,10 +4,12 @@
 //! of the definition, and an access group as the name of a list that may not be there. No call takes memory.
 #![tactic(auto)]
 
+mod at_interface;
 mod group;
 mod lines;
 #[cfg(test)]
 mod tests;
 
+pub use at_interface::passes_at;
 pub use group::passes;
 pub use lines::{matches_address, matches_line, verdict};

@@ -4,7 +4,7 @@ ghost use Rattle.std.specs.List.{list_any};
 ghost use Rattle.rc_filter.specs.Verdict.{first_action, matches, matches_address, matches_port, matches_protocol, permits, verdict};
 
 use rc_base::{Addr, Header};
-use rc_config::{Action, AddressTest, Filter, FilterLine, PortTest, ProtocolTest};
+use rc_config::{Action, AddressTest, ByNumber, Filter, FilterLine, PortTest, ProtocolTest};
 
 /// Whether an address passes a test: each bit whose wildcard bit is 0 is that of the test's address.
 #[tactic(auto, using(crate::proofs::BitLaws::same_by_mask))]
@@ -59,10 +59,10 @@ pub fn matches_line(line: &FilterLine, header: &Header) -> bool
 }
 
 /// Whether the first of the lines that matches permits.
-fn first_permits(lines: &[FilterLine], header: &Header) -> bool
+fn first_permits(lines: &ByNumber<FilterLine>, header: &Header) -> bool
     ensures { result ≡ first_action lines.now header.now }
 {
-    for line in lines {
+    for line in lines.iter() {
         if matches_line(line, header) {
             return matches!(line.action, Action::Permit);
         }
@@ -74,5 +74,5 @@ fn first_permits(lines: &[FilterLine], header: &Header) -> bool
 pub fn verdict(filter: &Filter, header: &Header) -> bool
     ensures { result ≡ verdict filter.now header.now }
 {
-    first_permits(filter.lines.as_slice(), header)
+    first_permits(&filter.lines, header)
 }

@@ -3,9 +3,9 @@ use Rattle.std.specs.Prelude.{ℕ, List, [], ◌∷◌, Option, Some, None, if�
 use Rattle.std.specs.Option.{option_map}
 use Rattle.std.specs.Str.{bytes_eq}
 use Rattle.rc_openings.specs.Values.{address_of}
+use Rattle.rc_openings.specs.Part.{Part, before}
 use Rattle.rc_config.specs.Filter.{any_address, host_address}
 use Rattle.rc_config.specs.declared.filter.AddressTest.{AddressTest}
-use Rattle.rc_gram_acl.specs.Part.{Part, before}
 
 -- the address behind `host`
 abbrev pub host : List (List ℕ) → Part AddressTest

@@ -1,6 +1,5 @@
 pub mod NumberName
 pub mod Values
-pub mod Part
 pub mod Address
 pub mod Port
 pub mod Lines

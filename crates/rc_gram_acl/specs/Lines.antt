@@ -1,6 +1,7 @@
 -- The lines of access lists, by their words behind `permit` or `deny`.
 use Rattle.std.specs.Prelude.{ℕ, Bool, true, false, List, [], ◌∷◌, Option, Some, None, if◌then◌else◌, codes}
 use Rattle.std.specs.Str.{bytes_eq}
+use Rattle.rc_openings.specs.Part.{Part, and_then, before}
 use Rattle.rc_config.specs.Filter.{standard_line}
 use Rattle.rc_config.specs.declared.filter.Action.{Action}
 use Rattle.rc_config.specs.declared.filter.FilterLine.{FilterLine}
@@ -8,7 +9,6 @@ use Rattle.rc_config.specs.declared.filter.ProtocolTest.{ProtocolTest}
 use Rattle.rc_gram_acl.specs.declared.ports.EndPoint.{EndPoint}
 use Rattle.rc_gram_acl.specs.declared.ports.Side.TheVariants.{Source, Destination}
 use Rattle.rc_gram_acl.specs.Address.{source}
-use Rattle.rc_gram_acl.specs.Part.{Part, and_then, before}
 use Rattle.rc_gram_acl.specs.Port.{end_point, is_log}
 use Rattle.rc_gram_acl.specs.Values.{protocol_of}
 

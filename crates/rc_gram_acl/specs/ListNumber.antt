@@ -1,5 +1,5 @@
--- Which access lists have numbers (IOS), and how a number names a list.
-use Rattle.std.specs.Prelude.{ℕ, Bool, ◌&&◌, ◌||◌, nat_le, List, Option, Some, None, if◌then◌else◌, decimal}
+-- Which access lists have numbers (IOS).
+use Rattle.std.specs.Prelude.{ℕ, Bool, ◌&&◌, ◌||◌, nat_le, List, Option, Some, None, if◌then◌else◌}
 use Rattle.rc_config.specs.declared.filter.FilterKind.{FilterKind}
 use Rattle.rc_config.specs.declared.filter.FilterKind.TheVariants.{Standard, Extended}
 
@@ -11,7 +11,3 @@ abbrev pub kind_of_number : ℕ → Option FilterKind
 kind_of_number n =
     if is_within 1 99 n || is_within 1300 1999 n then Some Standard
     else (if is_within 100 199 n || is_within 2000 2699 n then Some Extended else None)
-
--- the name of the list of this number: its decimal digits, without zeros in front
-abbrev pub name_of_number : ℕ → List ℕ
-name_of_number n = decimal n

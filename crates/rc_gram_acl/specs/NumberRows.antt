@@ -7,7 +7,8 @@ use Rattle.rc_config.specs.declared.filter.FilterKind.TheVariants.{Standard, Ext
 use Rattle.rc_openings.specs.Values.{number_of}
 use Rattle.std.specs.Fmt.{digits}
 use Rattle.std.specs.Option.{option_map}
-use Rattle.rc_gram_acl.specs.ListNumber.{kind_of_number, name_of_number}
+use Rattle.rc_base.specs.Name.{name_of_number}
+use Rattle.rc_gram_acl.specs.ListNumber.{kind_of_number}
 use Rattle.rc_gram_acl.specs.Sequence.{sequence_for}
 
 -- each end of the ranges

@@ -3,6 +3,7 @@ use Rattle.std.specs.Prelude.{ℕ, Bool, ◌||◌, List, [], ◌∷◌, ◌++◌
 use Rattle.std.specs.Option.{option_and_then}
 use Rattle.std.specs.Str.{bytes_eq}
 use Rattle.rc_openings.specs.Values.{address_of}
+use Rattle.rc_openings.specs.Part.{Part, and_then, part_map, before}
 use Rattle.rc_config.specs.Filter.{has_ports}
 use Rattle.rc_config.specs.declared.filter.AddressTest.{AddressTest}
 use Rattle.rc_config.specs.declared.filter.PortTest.{PortTest}
@@ -14,7 +15,6 @@ use Rattle.rc_gram_acl.specs.declared.ports.Side.{Side}
 use Rattle.rc_gram_acl.specs.declared.ports.Side.TheVariants.{Source, Destination}
 use Rattle.rc_gram_acl.specs.declared.ports.EndPoint.{EndPoint}
 use Rattle.rc_gram_acl.specs.Address.{address}
-use Rattle.rc_gram_acl.specs.Part.{Part, and_then, part_map, before}
 use Rattle.rc_gram_acl.specs.Values.{port_of}
 
 -- the words with which tests of ports begin

@@ -4,8 +4,8 @@ use Rattle.std.specs.Str.{bytes_eq}
 use Rattle.rc_openings.specs.Reading.{judged}
 use Rattle.rc_openings.specs.declared.reading.LineRefusal.{LineRefusal}
 use Rattle.rc_openings.specs.declared.reading.LineRefusal.TheVariants.{Unsupported, BadValue}
+use Rattle.rc_config.specs.ActionWord.{action_of}
 use Rattle.rc_config.specs.declared.filter.Action.{Action}
-use Rattle.rc_config.specs.declared.filter.Action.TheVariants as action
 use Rattle.rc_config.specs.declared.filter.FilterKind.{FilterKind}
 use Rattle.rc_config.specs.declared.filter.FilterKind.TheVariants.{Standard, Extended}
 use Rattle.rc_config.specs.declared.filter.FilterLine.{FilterLine}
@@ -14,10 +14,6 @@ use Rattle.rc_gram_acl.specs.Refused.{has_refused_place, refused_words}
 
 abbrev pub Answer : Type 0
 Answer = Result FilterLine LineRefusal
-
--- what becomes of the packets that the line matches
-abbrev pub action_of : List ℕ → Option Action
-action_of w = if bytes_eq w (codes "permit") then Some action.Permit else (if bytes_eq w (codes "deny") then Some action.Deny else None)
 
 -- the line where it fits
 abbrev pub fit : LineRefusal → Option FilterLine → Answer

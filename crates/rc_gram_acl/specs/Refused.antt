@@ -1,7 +1,8 @@
 -- The words that make a line of an access list one that isn't modelled, where it fits no row.
 use Rattle.std.specs.Prelude.{ℕ, Bool, true, false, ◌||◌, ◌&&◌, ◌==◌, not, List, [], ◌∷◌, Option, Some, None, if◌then◌else◌, take, codes}
 use Rattle.std.specs.List.{list_any}
-use Rattle.rc_openings.specs.Words.{words_of}
+use Rattle.rc_openings.specs.Words.{words_of, is_none_left}
+use Rattle.rc_openings.specs.Part.{Part}
 use Rattle.rc_config.specs.Filter.{has_ports}
 use Rattle.rc_config.specs.declared.filter.AddressTest.{AddressTest}
 use Rattle.rc_config.specs.declared.filter.ProtocolTest.{ProtocolTest}
@@ -12,7 +13,6 @@ use Rattle.rc_gram_acl.specs.declared.ports.Operator.TheVariants.{Equal, NotEqua
 use Rattle.rc_gram_acl.specs.declared.ports.Side.{Side}
 use Rattle.rc_gram_acl.specs.declared.ports.Side.TheVariants.{Source, Destination}
 use Rattle.rc_gram_acl.specs.Address.{address}
-use Rattle.rc_gram_acl.specs.Part.{Part}
 use Rattle.rc_gram_acl.specs.Port.{operator_of, ends_ports, end_point}
 use Rattle.rc_gram_acl.specs.Values.{begins_with_letter, is_unknown_port, protocol_of}
 
@@ -51,10 +51,6 @@ has_unknown_port side (w ∷ rest) = unknown_behind (operator_of w) side rest
 abbrev pub has_messages : ProtocolTest → Bool
 has_messages proto.Any = false
 has_messages (proto.Is n) = (n == 1) || (n == 2)
-
-abbrev pub is_none_left : List (List ℕ) → Bool
-is_none_left [] = true
-is_none_left (w ∷ ws) = false
 
 -- behind the address of the source: a name of no port
 abbrev pub refused_behind_source : ProtocolTest → Part AddressTest → Bool

@@ -1,8 +1,8 @@
 //! Tests of addresses, as words write them.
 ghost use Rattle.std.specs.Prelude.{◌≡◌};
 ghost use Rattle.rc_openings.specs.Words.{words_left};
+ghost use Rattle.rc_openings.specs.Part.{IsPart};
 ghost use Rattle.rc_gram_acl.specs.Address as tests;
-ghost use Rattle.rc_gram_acl.specs.Part.{IsPart};
 
 use rc_base::Addr;
 use rc_config::AddressTest;

@@ -14,8 +14,9 @@ mod refused;
 mod sequence;
 mod values;
 
-pub use list_number::{kind_of_number, name_of_number};
+pub use list_number::kind_of_number;
 pub use reading::read_filter_line;
+pub use refused::refused_words;
 pub use sequence::sequence_for;
 
 #[cfg(test)]

@@ -1,9 +1,9 @@
 //! The lines of access lists, by their words behind `permit` or `deny`.
 ghost use Rattle.std.specs.Prelude.{◌≡◌, ◌≤◌, false, IfSome};
 ghost use Rattle.rc_openings.specs.Words.{words_left};
+ghost use Rattle.rc_openings.specs.Part.{IsPart};
 ghost use Rattle.rc_config.specs.Filter.{IsLawfulLine, IsPortTest, IsSequence, has_ports};
 ghost use Rattle.rc_gram_acl.specs.Lines as lines;
-ghost use Rattle.rc_gram_acl.specs.Part.{IsPart};
 
 use crate::addresses::read_source;
 use crate::ports::{EndPoint, Side, is_log, read_end_point};

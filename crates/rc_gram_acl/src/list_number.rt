@@ -1,8 +1,7 @@
-//! Which access lists have numbers, and how a number names a list.
+//! Which access lists have numbers.
 ghost use Rattle.std.specs.Prelude.{◌≡◌};
 ghost use Rattle.rc_gram_acl.specs.ListNumber as numbers;
 
-use rc_base::Name;
 use rc_config::FilterKind;
 
 /// The kind of the list of this number: 1 to 99 and 1300 to 1999 are standard, 100 to 199 and 2000 to 2699 extended.
@@ -15,21 +14,4 @@ pub fn kind_of_number(number: u32) -> Option<FilterKind>
         100..=199 | 2000..=2699 => Some(FilterKind::Extended),
         _ => None,
     }
-}
-
-/// The name of the list of this number: its decimal digits, without zeros in front.
-pub fn name_of_number(number: u32) -> Name
-    ensures { result ≡ numbers.name_of_number number }
-{
-    let mut text = [0; 10];
-    let mut start = 10;
-    let mut left = number;
-    while left >= 10 {
-        start -= 1;
-        text[start] = b'0' + (left % 10) as u8;
-        left /= 10;
-    }
-    start -= 1;
-    text[start] = b'0' + left as u8;
-    Name::new(&text[start..]).unwrap()
 }

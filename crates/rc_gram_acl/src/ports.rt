@@ -2,8 +2,8 @@
 ghost use Rattle.std.specs.Prelude.{◌≡◌, ◌≤◌, false, IfSome};
 ghost use Rattle.std.specs.Option.{option_and_then};
 ghost use Rattle.rc_openings.specs.Words.{words_left};
+ghost use Rattle.rc_openings.specs.Part.{IsPart};
 ghost use Rattle.rc_config.specs.Filter.{IsPortTest, has_ports as protocol_has_ports};
-ghost use Rattle.rc_gram_acl.specs.Part.{IsPart};
 ghost use Rattle.rc_gram_acl.specs.Port as tests;
 ghost use Rattle.rc_gram_acl.specs.Values.{port_of};
 

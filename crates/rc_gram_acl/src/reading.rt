@@ -6,20 +6,8 @@ ghost use Rattle.rc_gram_acl.specs.Reading as reading;
 
 use crate::lines::{extended, standard};
 use crate::refused::{has_refused_place, refused_words};
-use rc_config::{Action, FilterKind, FilterLine, PortTest};
+use rc_config::{Action, FilterKind, FilterLine, PortTest, action_of};
 use rc_openings::{LineRefusal, Words, judged};
-
-fn action_of(word: &[u8]) -> Option<Action>
-    ensures { result ≡ reading.action_of word.now }
-{
-    if word == b"permit".as_slice() {
-        return Some(Action::Permit);
-    }
-    if word == b"deny".as_slice() {
-        return Some(Action::Deny);
-    }
-    None
-}
 
 /// Why an extended line that fits no row is refused.
 fn refusal_of(words: Words) -> LineRefusal
@@ -55,7 +43,8 @@ fn read_tests(
     }
 }
 
-/// The same by the words from `permit` or `deny` on, where no word is refused wherever it stands.
+/// The line that the words from `permit` or `deny` on are, where they fit a row. Words that are refused wherever they
+/// stand are not looked for here.
 fn read_row(kind: FilterKind, sequence: u32, words: Words) -> Result<FilterLine, LineRefusal>
     ensures row { result ≡ reading.line_row kind sequence (words_left words.entry) }
     ensures numbered { IfOk result (λ l. l.sequence ≡ sequence) }

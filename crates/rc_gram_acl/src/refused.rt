@@ -13,9 +13,10 @@ use crate::values::{begins_alphabetic, is_unknown_port, word_protocol};
 use rc_config::ProtocolTest;
 use rc_openings::Words;
 
-/// The words that make it one wherever they stand.
+/// The words that make a line of an access list one that isn't modelled, wherever they stand behind its opening, where it fits no
+/// row.
 #[tactic(auto, unfolding(crate::specs::Refused::refused_words))]
-pub(crate) fn refused_words() -> Words<'static>
+pub fn refused_words() -> Words<'static>
     ensures { words_left result ≡ refused.refused_words }
 {
     Words::new(
@@ -108,12 +109,6 @@ fn has_messages(protocol: ProtocolTest) -> bool
     }
 }
 
-fn is_none_left(mut words: Words) -> bool
-    ensures { result ≡ refused.is_none_left (words_left words.entry) }
-{
-    words.next_word().is_none()
-}
-
 /// Whether a refused word stands behind the address of the source.
 fn is_refused_behind_source(protocol: ProtocolTest, words: Words) -> bool
     ensures { result ≡ refused.refused_behind_source protocol (address (words_left words.entry)) }
@@ -131,7 +126,7 @@ fn is_refused_behind_destination(protocol: ProtocolTest, words: Words) -> bool
     match read_address(words) {
         Some((_, rest)) => {
             if has_messages(protocol) {
-                !is_none_left(rest)
+                !rest.is_empty()
             } else {
                 has_ports(protocol) && has_unknown_port(Side::Destination, rest)
             }
@@ -140,7 +135,7 @@ fn is_refused_behind_destination(protocol: ProtocolTest, words: Words) -> bool
     }
 }
 
-/// The same behind the source, where it is one.
+/// Whether a refused word stands behind the address of the destination, where the words in front of it are a source.
 fn is_refused_from_destination(protocol: ProtocolTest, words: Words) -> bool
     ensures { result ≡ refused.refused_from_destination protocol (end_point protocol Side.Source (words_left words.entry)) }
 {

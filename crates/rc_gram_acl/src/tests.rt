@@ -1,5 +1,5 @@
 //! The public calls, each on its happy path.
-use crate::{kind_of_number, name_of_number, read_filter_line, sequence_for};
+use crate::{kind_of_number, read_filter_line, sequence_for};
 use rc_base::Addr;
 use rc_config::{AddressTest, Filter, FilterKind, PortTest};
 use rc_openings::{LineRefusal, Words};
@@ -25,9 +25,6 @@ fn lines_and_their_refusals(rt: HostRuntime) -> Result<(), Fail> {
 #[test]
 fn numbers_of_lists(rt: HostRuntime) -> Result<(), Fail> {
     assert_eq!(rt; kind_of_number(2699), Some(FilterKind::Extended));
-    assert!(rt; name_of_number(2699).as_bytes() == b"2699".as_slice());
-    assert!(rt; name_of_number(5).as_bytes() == b"5".as_slice());
-    assert!(rt; name_of_number(u32::MAX).as_bytes() == b"4294967295".as_slice());
     Ok(())
 }
 

@@ -2,3 +2,5 @@ pub mod RouteOptions
 pub mod Rows
 pub mod Reading
 pub mod RouteExamples
+pub mod Own
+pub mod GroupExamples

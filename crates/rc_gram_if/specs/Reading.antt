@@ -20,6 +20,7 @@ row_answer form.IpAddress (place.Interface owner) file number line = rows.ip_add
 row_answer form.Shutdown (place.Interface owner) file number line = rows.shutdown owner true (drop 1 line)
 row_answer form.NoShutdown (place.Interface owner) file number line = rows.shutdown owner false (drop 2 line)
 row_answer form.Bandwidth (place.Interface owner) file number line = rows.bandwidth owner (drop 1 line)
+row_answer form.AccessGroup (place.Interface owner) file number line = rows.access_group owner (drop 2 line)
 row_answer form.StaticRoute at file number line = rows.static_route (drop 2 line)
 row_answer _ at file number line = Err BadValue
 

@@ -1,11 +1,13 @@
 //! One line where it stands.
 ghost use Rattle.std.specs.Prelude.{◌≡◌, IfOk};
 ghost use Rattle.rc_openings.specs.Words.{words_left, words_of};
-ghost use Rattle.rc_config.specs.Lawful.{IsInRange};
+ghost use Rattle.rc_config.specs.Lawful.{FitsFile, IsInRange};
+ghost use Rattle.rc_gram_if.specs.Own.{IsOwn};
 ghost use Rattle.rc_gram_if.specs.Reading.{Says, says, refused_words, row_answer};
 
 use crate::rows::{
-    bandwidth, hostname, interface, ip_address, refused_in_route, shutdown, static_route,
+    access_group, bandwidth, hostname, interface, ip_address, refused_in_route, shutdown,
+    static_route,
 };
 use rc_config::{Command, Context, Place, RouterText};
 use rc_lines::Line;
@@ -21,6 +23,8 @@ pub fn read_line(line: &Line, context: Context) -> Result<Command, LineRefusal>
     ensures exact { result ≡ says context.entry.place context.entry.file.now line.now.number (words_of line.now.text) }
     // An address goes to an interface of a type that may have one, and values are in their ranges.
     ensures in_range { IfOk result IsInRange }
+    // It changes no list, and so fits those of the file.
+    ensures fits { IfOk result (FitsFile context.entry.file.now) }
 {
     let Context { place, file } = context;
     read_words(line.number(), line.words(), &place, file)
@@ -34,7 +38,7 @@ fn read_words(
     file: &RouterText,
 ) -> Result<Command, LineRefusal>
     ensures decided { Says place.now file.now number (words_left words.entry) result }
-    ensures in_range { IfOk result IsInRange }
+    ensures own { IfOk result IsOwn }
 {
     match place.block().decide(words) {
         None => Err(unopened(words)),
@@ -71,7 +75,7 @@ fn read_form(
     file: &RouterText,
 ) -> Result<Command, LineRefusal>
     ensures row { result ≡ row_answer form place.now file.now number (words_left words.entry) }
-    ensures in_range { IfOk result IsInRange }
+    ensures own { IfOk result IsOwn }
 {
     match (form, *place) {
         (Form::Hostname, _) => hostname(file, number, words.skip(1)),
@@ -80,6 +84,7 @@ fn read_form(
         (Form::Shutdown, Place::Interface(owner)) => shutdown(owner, true, words.skip(1)),
         (Form::NoShutdown, Place::Interface(owner)) => shutdown(owner, false, words.skip(2)),
         (Form::Bandwidth, Place::Interface(owner)) => bandwidth(owner, words.skip(1)),
+        (Form::AccessGroup, Place::Interface(owner)) => access_group(owner, words.skip(2)),
         (Form::StaticRoute, _) => static_route(words.skip(2)),
         _ => Err(LineRefusal::BadValue),
     }

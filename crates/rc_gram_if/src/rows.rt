@@ -4,12 +4,12 @@ ghost use Rattle.std.specs.List.{list_all, list_any};
 ghost use Rattle.std.specs.Str.{bytes_eq};
 ghost use Rattle.rc_openings.specs.Values.{address_of, mask_length_of, prefix_from};
 ghost use Rattle.rc_openings.specs.Words.{words_left};
-ghost use Rattle.rc_config.specs.Lawful.{IsInRange};
+ghost use Rattle.rc_gram_if.specs.Own.{IsOwn};
 ghost use Rattle.rc_gram_if.specs.Rows as rows;
 
 use crate::route_options::read_distance;
 use rc_base::{Addr, Name, Prefix};
-use rc_config::{Command, IfAddr, RouterText, StaticRoute, Target, type_of_name};
+use rc_config::{Command, Direction, IfAddr, RouterText, StaticRoute, Target, type_of_name};
 use rc_openings::{LineRefusal, Words, number_in, word_addr, word_mask};
 
 fn is_host_byte(byte: u8) -> bool
@@ -31,7 +31,7 @@ pub(crate) fn hostname(
     mut words: Words,
 ) -> Result<Command, LineRefusal>
     ensures row { result ≡ rows.hostname file.now line (words_left words.entry) }
-    ensures in_range { IfOk result IsInRange }
+    ensures own { IfOk result IsOwn }
 {
     match (words.next_word(), words.next_word()) {
         (Some(word), None) => match Name::new(word) {
@@ -56,7 +56,7 @@ fn begins_alphabetic(word: &[u8]) -> bool
 /// `interface IF`
 pub(crate) fn interface(line: u64, mut words: Words) -> Result<Command, LineRefusal>
     ensures row { result ≡ rows.interface line (words_left words.entry) }
-    ensures in_range { IfOk result IsInRange }
+    ensures own { IfOk result IsOwn }
 {
     match (words.next_word(), words.next_word()) {
         (Some(word), None) => match Name::new(word) {
@@ -75,7 +75,7 @@ fn address_in(
 ) -> Result<Command, LineRefusal>
     requires { IfSome len (λ n. n ≤ 32) }
     ensures row { result ≡ rows.address_in owner secondary addr len }
-    ensures in_range { IfOk result IsInRange }
+    ensures own { IfOk result IsOwn }
 {
     let (Some(addr), Some(len)) = (addr, len) else {
         return Err(LineRefusal::BadValue);
@@ -94,7 +94,7 @@ fn address_in(
 /// `ip address A M [secondary]`
 pub(crate) fn ip_address(owner: Name, mut words: Words) -> Result<Command, LineRefusal>
     ensures row { result ≡ rows.ip_address owner (words_left words.entry) }
-    ensures in_range { IfOk result IsInRange }
+    ensures own { IfOk result IsOwn }
 {
     let (Some(addr), Some(mask)) = (words.next_word(), words.next_word()) else {
         return Err(LineRefusal::BadValue);
@@ -111,7 +111,7 @@ pub(crate) fn ip_address(owner: Name, mut words: Words) -> Result<Command, LineR
 /// `shutdown` or `no shutdown`
 pub(crate) fn shutdown(owner: Name, down: bool, mut words: Words) -> Result<Command, LineRefusal>
     ensures row { result ≡ rows.shutdown owner down (words_left words.entry) }
-    ensures in_range { IfOk result IsInRange }
+    ensures own { IfOk result IsOwn }
 {
     match words.next_word() {
         None => Ok(Command::Shutdown {
@@ -125,7 +125,7 @@ pub(crate) fn shutdown(owner: Name, down: bool, mut words: Words) -> Result<Comm
 /// `bandwidth N`
 pub(crate) fn bandwidth(owner: Name, mut words: Words) -> Result<Command, LineRefusal>
     ensures row { result ≡ rows.bandwidth owner (words_left words.entry) }
-    ensures in_range { IfOk result IsInRange }
+    ensures own { IfOk result IsOwn }
 {
     match (words.next_word(), words.next_word()) {
         (Some(word), None) => match number_in(1, 10_000_000, word) {
@@ -135,6 +135,48 @@ pub(crate) fn bandwidth(owner: Name, mut words: Words) -> Result<Command, LineRe
             }),
             None => Err(LineRefusal::BadValue),
         },
+        _ => Err(LineRefusal::BadValue),
+    }
+}
+
+/// The direction that a word is.
+fn direction_of(word: &[u8]) -> Option<Direction>
+    ensures { result ≡ rows.direction_of word.now }
+{
+    if word == b"in".as_slice() {
+        return Some(Direction::In);
+    }
+    if word == b"out".as_slice() {
+        return Some(Direction::Out);
+    }
+    None
+}
+
+fn group_in(
+    owner: Name,
+    list: Option<Name>,
+    direction: Option<Direction>,
+) -> Result<Command, LineRefusal>
+    ensures row { result ≡ rows.group_in owner list direction }
+    ensures own { IfOk result IsOwn }
+{
+    match (list, direction) {
+        (Some(list), Some(direction)) => Ok(Command::AccessGroup {
+            interface: owner,
+            list,
+            direction,
+        }),
+        _ => Err(LineRefusal::BadValue),
+    }
+}
+
+/// `ip access-group NAME in|out`
+pub(crate) fn access_group(owner: Name, mut words: Words) -> Result<Command, LineRefusal>
+    ensures row { result ≡ rows.access_group owner (words_left words.entry) }
+    ensures own { IfOk result IsOwn }
+{
+    match (words.next_word(), words.next_word(), words.next_word()) {
+        (Some(name), Some(way), None) => group_in(owner, Name::new(name), direction_of(way)),
         _ => Err(LineRefusal::BadValue),
     }
 }
@@ -193,7 +235,7 @@ fn prefix_under(addr: &[u8], mask: &[u8]) -> Option<Prefix>
 /// The route to this target with the options behind it.
 fn route_to(prefix: Option<Prefix>, target: Target, options: Words) -> Result<Command, LineRefusal>
     ensures row { result ≡ rows.route_to prefix target (words_left options.entry) }
-    ensures in_range { IfOk result IsInRange }
+    ensures own { IfOk result IsOwn }
 {
     match (prefix, read_distance(options)) {
         (Some(prefix), Some(distance)) => Ok(Command::StaticRoute {
@@ -210,7 +252,7 @@ fn route_to(prefix: Option<Prefix>, target: Target, options: Words) -> Result<Co
 /// The route out of an interface, to a gateway where the next word is one.
 fn route_out(prefix: Option<Prefix>, device: Name, rest: Words) -> Result<Command, LineRefusal>
     ensures row { result ≡ rows.route_out prefix device (words_left rest.entry) }
-    ensures in_range { IfOk result IsInRange }
+    ensures own { IfOk result IsOwn }
 {
     let mut behind = rest;
     match behind.next_word() {
@@ -225,7 +267,7 @@ fn route_out(prefix: Option<Prefix>, device: Name, rest: Words) -> Result<Comman
 /// The route to the target that begins with a word.
 fn route_by(prefix: Option<Prefix>, word: &[u8], rest: Words) -> Result<Command, LineRefusal>
     ensures row { result ≡ rows.route_by prefix (rows.device_of word.now) word.now (words_left rest.entry) }
-    ensures in_range { IfOk result IsInRange }
+    ensures own { IfOk result IsOwn }
 {
     if let Some(device) = device_of(word) {
         return route_out(prefix, device, rest);
@@ -242,7 +284,7 @@ fn route_by(prefix: Option<Prefix>, word: &[u8], rest: Words) -> Result<Command,
 /// `ip route A M TARGET [N] [name WORD] [tag N]`, the options in any order.
 pub(crate) fn static_route(mut words: Words) -> Result<Command, LineRefusal>
     ensures row { result ≡ rows.static_route (words_left words.entry) }
-    ensures in_range { IfOk result IsInRange }
+    ensures own { IfOk result IsOwn }
 {
     match (words.next_word(), words.next_word(), words.next_word()) {
         (Some(addr), Some(mask), Some(word)) => route_by(prefix_under(addr, mask), word, words),

@@ -149,13 +149,6 @@ ip inspect
 bridge
 no ip routing
 no ip classless
-access-list
-ip access-list standard
-ip access-list extended
-ip prefix-list
-ip community-list
-ip community-list standard
-route-map
 router ospf
 router bgp
 ";
@@ -248,7 +241,6 @@ ip ospf
 bridge-group
 xconnect
 backup
-ip access-group
 ip ospf cost
 ip ospf hello-interval
 ip ospf dead-interval
@@ -387,6 +379,22 @@ fn an_interface_takes_addresses_in_range(rt: HostRuntime) -> Result<(), Fail> {
     Ok(())
 }
 
+#[test]
+fn access_groups_have_a_name_and_a_direction(rt: HostRuntime) -> Result<(), Fail> {
+    let inside = Place::Interface(Name::new(b"Serial0").ok_or("Serial0")?);
+    let bad = Some(LineRefusal::BadValue);
+    for (text, refusal) in [
+        (b"ip access-group WEB in".as_slice(), None),
+        (b"ip access-group 101 out", None),
+        (b"ip access-group WEB", bad),
+        (b"ip access-group WEB both", bad),
+        (b"ip access-group WEB in log", bad),
+    ] {
+        check(&rt, rt.alloc(), &inside, text, refusal);
+    }
+    Ok(())
+}
+
 /// One route in every order of its options, and with some of them.
 const SAME_ROUTE: &[u8] = b"\
 ip route 10.1.2.3 255.255.0.0 Null0 250
@@ -456,8 +464,9 @@ fn route_in(alloc: Global, text: &[u8]) -> Option<StaticRoute> {
         place: Place::Global,
         file: &file,
     };
-    match read_line(&line, context) {
-        Ok(Command::StaticRoute { route }) => Some(route),
+    let said = read_line(&line, context);
+    match &said {
+        Ok(Command::StaticRoute { route }) => Some(*route),
         _ => None,
     }
 }

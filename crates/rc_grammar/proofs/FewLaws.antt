@@ -28,12 +28,20 @@ new_is_few es name room none = let test : nat_le 256 (length es) ≡ false = rw 
 
 few-after : (r : RouterText) (c : Command) → is_one_too_many r (interface_of c) ≡ false → length r.interfaces ≤ 256 → length (after r c).interfaces ≤ 256
 few-after r command.Passed room few = few
+few-after r command.Remark room few = few
 few-after r (command.Hostname name line) room few = few
 few-after r (command.StaticRoute route) room few = few
+few-after r (command.FilterOpened list kind) room few = few
+few-after r (command.FilterLine list kind line) room few = few
+few-after r (command.PrefixLine list line) room few = few
+few-after r (command.CommunityLine list line) room few = few
+few-after r (command.MapOpened map n action) room few = few
+few-after r (command.MapLine map n line) room few = few
 few-after r (command.Interface name line) room few = length-with_value r.interfaces name _ 256 (new_is_few r.interfaces name room) few
 few-after r (command.Address name address secondary) room few = length-with_value r.interfaces name _ 256 (new_is_few r.interfaces name room) few
 few-after r (command.Shutdown name down) room few = length-with_value r.interfaces name _ 256 (new_is_few r.interfaces name room) few
 few-after r (command.Bandwidth name kbits) room few = length-with_value r.interfaces name _ 256 (new_is_few r.interfaces name room) few
+few-after r (command.AccessGroup name list direction) room few = length-with_value r.interfaces name _ 256 (new_is_few r.interfaces name room) few
 
 -- of a model that a command made
 pub few-made : (r made : RouterText) (c : Command) → is_one_too_many r (interface_of c) ≡ false → made ≡ after r c → length r.interfaces ≤ 256 → length made.interfaces ≤ 256

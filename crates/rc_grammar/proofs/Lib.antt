@@ -1,2 +1,6 @@
 mod FewLaws
 mod Refused
+mod GrammarLaws
+mod FilterRoom
+mod PolicyLaws
+mod TextLaws

@@ -1,4 +1,4 @@
--- A refusal stays.
+-- One line more: a refusal stays, and what is left gives the same answer.
 use Rattle.std.proofs.Common.{◌≡◌, List, [], ◌∷◌, Ok, Err, refl, ap, ◌∙◌, sym, subst}
 use Rattle.rc_lines.specs.Lines.{TextLine}
 use Rattle.std.specs.Prelude.{Result}
@@ -21,3 +21,8 @@ pub failed : (e : ReadError) (r : Reading) (line : TextLine) (lines rest : List 
 failed e r line lines rest all same is h =
     let here : with_lines (Ok r) (line ∷ rest) ≡ all = ap (λ (ls : List TextLine). with_lines (Ok r) ls) (sym is) ∙ same in
     subst (Fails e) here (fails-lines e r line rest h)
+
+-- where a line is read, what is left says what all lines do
+pub went-on : (r next : Reading) (line : TextLine) (lines rest : List TextLine) (all : Result Reading FileRefusal) → with_lines (Ok r) lines ≡ all → lines ≡ line ∷ rest → step r line ≡ Ok next → with_lines (Ok next) rest ≡ all
+went-on r next line lines rest all same is e =
+    ap (λ (s : Result Reading FileRefusal). with_lines s rest) (sym e) ∙ (ap (λ (ls : List TextLine). with_lines (Ok r) ls) (sym is) ∙ same)

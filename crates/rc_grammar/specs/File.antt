@@ -14,7 +14,7 @@ use Rattle.rc_config.specs.declared.command.Command.TheVariants as command
 use Rattle.rc_config.specs.declared.context.Place.{Place}
 use Rattle.rc_config.specs.declared.context.Place.TheVariants as place
 use Rattle.rc_config.specs.declared.router_text.RouterText.{RouterText}
-use Rattle.rc_gram_if.specs.Reading.{says}
+use Rattle.rc_grammar.specs.Grammars.{says}
 use Rattle.rc_grammar.specs.declared.reading.Reading.{Reading}
 use Rattle.rc_grammar.specs.declared.refusal.FileCause.{FileCause}
 use Rattle.rc_grammar.specs.declared.refusal.FileCause.TheVariants.{Line, LineTooLong, NoHostName, OpenBanner, TooManyInterfaces}
@@ -32,10 +32,12 @@ is_passed ((b ∷ bs) ∷ ws) = b == 33
 abbrev pub place_at : Place → List ℕ → Place
 place_at open' text = if indent_of text == 0 then place.Global else open'
 
--- The block that is open after a command: a line without indent closes the open block, `interface` opens one, and a line
--- without indent that is passed over opens one whose lines are all passed over.
+-- The block that is open after a command: a line without indent closes the open block, `interface`, `ip access-list` and `route-map`
+-- open one, and a line without indent that is passed over opens one whose lines are all passed over.
 abbrev pub open_after : Place → Command → Place
 open_after place.Global (command.Interface name line) = place.Interface name
+open_after place.Global (command.FilterOpened list kind) = place.Acl list kind
+open_after place.Global (command.MapOpened map n action) = place.Map map n
 open_after place.Global command.Passed = place.Ignored
 open_after place.Global _ = place.Closed
 open_after at _ = at
@@ -43,12 +45,20 @@ open_after at _ = at
 -- the interface whose block a command opens or changes. A static route names interfaces without declaring them.
 abbrev pub interface_of : Command → Option (List ℕ)
 interface_of command.Passed = None
+interface_of command.Remark = None
 interface_of (command.Hostname name line) = None
 interface_of (command.Interface name line) = Some name
 interface_of (command.Address name address secondary) = Some name
 interface_of (command.Shutdown name down) = Some name
 interface_of (command.Bandwidth name kbits) = Some name
 interface_of (command.StaticRoute route) = None
+interface_of (command.FilterOpened list kind) = None
+interface_of (command.FilterLine list kind line) = None
+interface_of (command.AccessGroup name list direction) = Some name
+interface_of (command.PrefixLine list line) = None
+interface_of (command.CommunityLine list line) = None
+interface_of (command.MapOpened map n action) = None
+interface_of (command.MapLine map n line) = None
 
 -- a file has at most 256 interfaces
 abbrev pub is_one_too_many : RouterText → Option (List ℕ) → Bool

@@ -1,2 +1,8 @@
+pub mod Answers
 pub mod Codes
 pub mod File
+pub mod Grammars
+pub mod Filters
+pub mod Policies
+pub mod PolicyRows
+pub mod ListRows

@@ -4,11 +4,16 @@
 //! bytes, or the least line that is refused and why, and that a model that is given is lawful.
 #![tactic(auto)]
 
+mod filters;
+mod grammars;
+mod policies;
 mod reading;
 mod refusal;
 
 pub use reading::read_file;
 pub use refusal::{FileCause, FileRefusal, ReadError};
 
+#[cfg(test)]
+mod policy_tests;
 #[cfg(test)]
 mod tests;

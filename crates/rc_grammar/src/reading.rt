@@ -2,14 +2,16 @@
 ghost use Rattle.std.specs.Prelude.{◌≡◌, ◌≤◌, List, ℕ, [], ◌∷◌, length, Some, None, Ok, Err, IfOk};
 ghost use Rattle.rc_openings.specs.Words.{words_of};
 ghost use Rattle.rc_lines.specs.Lines.{TextLine, lines_of};
-ghost use Rattle.rc_config.specs.Lawful.{HasLawfulInterfaces, HasLawfulRoutes, IsInRange, IsLawfulFile};
-ghost use Rattle.rc_gram_if.specs.Reading.{says};
+ghost use Rattle.rc_config.specs.Lawful.{FitsFile, HasLawfulLists, HasLawfulInterfaces, HasLawfulRoutes, IsInRange, IsLawfulFile};
+ghost use Rattle.rc_grammar.specs.Answers.{failed_at};
+ghost use Rattle.rc_grammar.specs.Grammars.{says};
 ghost use Rattle.rc_grammar.specs.File.{is_passed, place_at, open_after, interface_of, is_one_too_many, with_command, with_answer, with_text, by_part, step, start, with_lines, with_host, file_of, Gives};
 
+use crate::grammars::read_line;
 use crate::{FileCause, FileRefusal, ReadError};
 use rc_base::Name;
-use rc_config::{Command, Context, Place, RouterText};
-use rc_gram_if::read_line;
+use rc_config::{Command, Place, RouterText};
+use rc_gram_policy::LineError;
 use rc_lines::{Line, Lines, Part};
 use rc_openings::LineRefusal;
 use std::alloc::Global;
@@ -50,6 +52,8 @@ fn place_after(at: &Place, command: &Command) -> Place
     match at {
         Place::Global => match command {
             Command::Interface { name, line: _ } => Place::Interface(*name),
+            Command::FilterOpened { list, kind } => Place::Acl(*list, *kind),
+            Command::MapOpened { map, number, .. } => Place::Map(*map, *number),
             Command::Passed => Place::Ignored,
             _ => Place::Closed,
         },
@@ -62,12 +66,20 @@ fn interface_named(command: &Command) -> Option<Name>
 {
     match command {
         Command::Passed => None,
+        Command::Remark => None,
         Command::Hostname { .. } => None,
         Command::Interface { name, .. } => Some(*name),
         Command::Address { interface, .. } => Some(*interface),
         Command::Shutdown { interface, .. } => Some(*interface),
         Command::Bandwidth { interface, .. } => Some(*interface),
         Command::StaticRoute { .. } => None,
+        Command::FilterOpened { .. } => None,
+        Command::FilterLine { .. } => None,
+        Command::AccessGroup { interface, .. } => Some(*interface),
+        Command::PrefixLine { .. } => None,
+        Command::CommunityLine { .. } => None,
+        Command::MapOpened { .. } => None,
+        Command::MapLine { .. } => None,
     }
 }
 
@@ -91,19 +103,25 @@ fn refused(line: &Line, cause: FileCause) -> ReadError
     })
 }
 
-fn line_command(line: &Line, at: &Place, file: &RouterText) -> Result<Command, LineRefusal>
-    ensures exact { result ≡ says at.now file.now line.now.number (words_of line.now.text) }
-    ensures in_range { IfOk result IsInRange }
+/// Why the file has no model, where a line gave nothing.
+fn unread(line: &Line, error: LineError) -> ReadError
+    ensures { result ≡ failed_at line.now.number error }
 {
-    read_line(line, Context { place: *at, file })
+    match error {
+        LineError::Refused(refusal) => refused(line, FileCause::Line(refusal)),
+        LineError::Memory => ReadError::Memory,
+    }
 }
 
 impl Reading {
     fn with_command(self, line: &Line, at: &Place, command: Command) -> Result<Reading, ReadError>
-        requires { IsInRange command }
+        requires in_range { IsInRange command }
+        requires fits { FitsFile self.file command }
+        requires lists { HasLawfulLists self.file }
         ensures step { Gives result (with_command line.now.number self at.now command) }
         ensures lawful { IfOk result (λ r. HasLawfulInterfaces self.file → HasLawfulInterfaces r.file) }
         ensures routes { IfOk result (λ r. HasLawfulRoutes self.file → HasLawfulRoutes r.file) }
+        ensures lists { IfOk result (λ r. HasLawfulLists r.file) }
         ensures few { IfOk result (λ r. length self.file.interfaces ≤ 256 → length r.file.interfaces ≤ 256) }
     {
         if is_too_many(&self.file, &interface_named(&command)) {
@@ -129,21 +147,23 @@ impl Reading {
         }
     }
 
-    fn with_text(self, line: &Line) -> Result<Reading, ReadError>
+    fn with_text(self, alloc: Global, line: &Line) -> Result<Reading, ReadError>
+        requires { HasLawfulLists self.file }
         ensures step { Gives result (with_text self line.now) }
         ensures lawful { IfOk result (λ r. HasLawfulInterfaces self.file → HasLawfulInterfaces r.file) }
         ensures routes { IfOk result (λ r. HasLawfulRoutes self.file → HasLawfulRoutes r.file) }
+        ensures lists { IfOk result (λ r. HasLawfulLists r.file) }
         ensures few { IfOk result (λ r. length self.file.interfaces ≤ 256 → length r.file.interfaces ≤ 256) }
     {
         if is_passed_over(line) {
             return Ok(self);
         }
         let at = place_of(&self.place, line);
-        let said = line_command(line, &at, &self.file);
+        let said = read_line(alloc, line, &at, &self.file);
         match said {
             Ok(Command::Passed) => Ok(self.passed(&at)),
             Ok(command) => self.with_command(line, &at, command),
-            Err(refusal) => Err(refused(line, FileCause::Line(refusal))),
+            Err(error) => Err(unread(line, error)),
         }
     }
 
@@ -159,17 +179,19 @@ impl Reading {
 
     /// One line more.
     #[tactic(auto, unfolding(crate::specs::File::step))]
-    fn with_line(self, line: &Line) -> Result<Reading, ReadError>
+    fn with_line(self, alloc: Global, line: &Line) -> Result<Reading, ReadError>
+        requires { HasLawfulLists self.file }
         ensures step { Gives result (step self line.now) }
         ensures lawful { IfOk result (λ r. HasLawfulInterfaces self.file → HasLawfulInterfaces r.file) }
         ensures routes { IfOk result (λ r. HasLawfulRoutes self.file → HasLawfulRoutes r.file) }
+        ensures lists { IfOk result (λ r. HasLawfulLists r.file) }
         ensures few { IfOk result (λ r. length self.file.interfaces ≤ 256 → length r.file.interfaces ≤ 256) }
     {
         if line.is_too_long() {
             return Err(refused(line, FileCause::LineTooLong));
         }
         match line.part() {
-            Part::Plain => self.with_text(line),
+            Part::Plain => self.with_text(alloc, line),
             Part::InBanner => Ok(self),
             Part::Banner => Ok(self.closed()),
             Part::ShortBanner => Err(refused(line, FileCause::Line(LineRefusal::BadValue))),
@@ -182,6 +204,7 @@ fn read_lines(alloc: Global, bytes: &[u8]) -> Result<Reading, ReadError>
     ensures lines { Gives result (with_lines (Ok start) (lines_of bytes.now)) }
     ensures lawful { IfOk result (λ r. HasLawfulInterfaces r.file) }
     ensures routes { IfOk result (λ r. HasLawfulRoutes r.file) }
+    ensures lists { IfOk result (λ r. HasLawfulLists r.file) }
     ensures few { IfOk result (λ r. length r.file.interfaces ≤ 256) }
 {
     let mut lines = Lines::new(bytes);
@@ -190,7 +213,7 @@ fn read_lines(alloc: Global, bytes: &[u8]) -> Result<Reading, ReadError>
         place: Place::Closed,
     };
     while let Some(line) = lines.next() {
-        match reading.with_line(&line) {
+        match reading.with_line(alloc, &line) {
             Ok(next) => reading = next,
             Err(error) => return Err(error),
         }

@@ -63,7 +63,7 @@ fn a_running_configuration(rt: HostRuntime) -> Result<(), Fail> {
     Ok(())
 }
 
-fn check(rt: &impl Abort, alloc: Global, text: &[u8], line: u64, cause: FileCause) {
+pub(crate) fn check(rt: &impl Abort, alloc: Global, text: &[u8], line: u64, cause: FileCause) {
     let refusal = FileRefusal { line, cause };
     let found = read_file(alloc, text);
     assert_eq!(rt; found.err(), Some(ReadError::Refused(refusal)));
@@ -216,4 +216,100 @@ ip route 10.1.0.0 255.255.0.0 Serial9 200 name again
         FileCause::Line(LineRefusal::Unsupported),
     );
     Ok(())
+}
+
+#[test]
+fn access_groups(rt: HostRuntime) -> Result<(), Fail> {
+    let alloc = rt.alloc();
+    let text = b"hostname X
+interface Serial0
+ ip access-group 5 in
+ ip access-group WEB out
+ ip access-group 6 in
+";
+    let file = read_file(alloc, text).ok().ok_or("refused")?;
+    let serial = Name::new(b"Serial0").ok_or("Serial0")?;
+    let block = file.interfaces.get(&serial).ok_or("interface")?;
+    assert_eq!(rt; block.filter_in, Name::new(b"6"));
+    assert_eq!(rt; block.filter_out, Name::new(b"WEB"));
+    assert!(rt; file.lists.filters.is_empty());
+    check(
+        &rt,
+        alloc,
+        b"interface Serial0\n access-list 5 permit any",
+        2,
+        FileCause::Line(LineRefusal::OutOfPlace),
+    );
+    Ok(())
+}
+
+const LISTS: &[u8] = b"hostname X
+ip access-list extended WEB
+ permit tcp any host 10.0.0.1 eq www
+ 5 deny icmp any any
+ 20 remark nothing
+ exit
+access-list 5 remark nothing
+access-list 5 permit 10.0.0.0 0.0.255.0
+access-list 005 deny any
+access-list 9 remark nothing
+ip access-list standard EMPTY
+ip access-list extended WEB
+ deny ip any any
+";
+
+#[test]
+fn access_lists(rt: HostRuntime) -> Result<(), Fail> {
+    let file = read_file(rt.alloc(), LISTS).ok().ok_or("refused")?;
+    assert_eq!(rt; file.lists.filters.len(), 3);
+    for (name, numbers) in [
+        (b"WEB".as_slice(), [5, 10, 20].as_slice()),
+        (b"5", &[10, 20]),
+        (b"EMPTY", &[]),
+    ] {
+        let name = Name::new(name).ok_or("a name")?;
+        let list = file.lists.filters.get(&name).ok_or("a list")?;
+        assert_eq!(rt; list.lines.len(), numbers.len());
+        assert_eq!(rt; list.greatest(), numbers.last().copied());
+    }
+    Ok(())
+}
+
+#[test]
+fn lines_of_lists_are_refused(rt: HostRuntime) {
+    let bad = FileCause::Line(LineRefusal::BadValue);
+    for (text, line, cause) in [
+        (
+            b"access-list 100 permit tcp any any established".as_slice(),
+            1,
+            FileCause::Line(LineRefusal::Unsupported),
+        ),
+        (
+            b"access-list established permit any",
+            1,
+            FileCause::Line(LineRefusal::Unsupported),
+        ),
+        (
+            b"ip access-list standard 5\naccess-list 100 permit ip any any\nip access-list extended 5",
+            3,
+            bad,
+        ),
+        (
+            b"ip access-list standard 5\n 2147483647 permit any\n deny any",
+            3,
+            bad,
+        ),
+        (
+            b"access-list 5 remark x\n permit any",
+            2,
+            FileCause::Line(LineRefusal::OutOfPlace),
+        ),
+        (
+            b"ip access-list standard 5\n 10",
+            2,
+            FileCause::Line(LineRefusal::Unknown),
+        ),
+    ] {
+        check(&rt, rt.alloc(), text, line, cause);
+    }
 }

@@ -1,2 +1,3 @@
 mod BuildLaws
+mod LeastLaws
 pub mod OneNetwork

@@ -1,12 +1,14 @@
 -- The network of the models of files, in the order of their files' names.
-use Rattle.std.specs.Prelude.{◌≡◌, ℕ, List, [], ◌∷◌, ◌++◌, map, Option, Some, None, Result, Ok, Err, if◌then◌else◌, is_some, IsPermutation}
-use Rattle.std.specs.Option.{option_map, option_map_or}
+use Rattle.std.specs.Prelude.{◌≡◌, ℕ, List, [], ◌∷◌, ◌++◌, map, Option, Some, None, Result, Ok, Err, if◌then◌else◌, is_some, slice_get, IsPermutation}
+use Rattle.std.specs.List.{filter_map}
+use Rattle.std.specs.Option.{option_map, option_map_or, option_or}
 use Rattle.rc_config.specs.Named.{named, AreNamesInOrder}
 use Rattle.rc_config.specs.declared.network.Network.{Network}
 use Rattle.rc_config.specs.declared.router_text.RouterText.{RouterText}
+use Rattle.rc_network.specs.Undefined.{undefined_line}
 use Rattle.rc_network.specs.declared.refusal.BuildError.{BuildError}
 use Rattle.rc_network.specs.declared.refusal.BuildError.TheVariants as error
-use Rattle.rc_network.specs.declared.refusal.NetCause.TheVariants.{TwiceNamed}
+use Rattle.rc_network.specs.declared.refusal.NetCause.TheVariants.{TwiceNamed, Undefined}
 use Rattle.rc_network.specs.declared.refusal.NetRefusal.{NetRefusal}
 use Rattle.rc_network.specs.declared.refusal.NetRefusal.TheVariants.{InFile}
 
@@ -40,6 +42,18 @@ twice_from earlier models = option_map twice_refusal (first_twice earlier models
 abbrev pub twice : List Model → Option NetRefusal
 twice models = twice_from [] models
 
+-- a file that names an undefined list is refused at the least line that does
+abbrev pub undefined_in : Model → Option NetRefusal
+undefined_in m = option_map (λ line. InFile m.0 line Undefined) (undefined_line m.1)
+
+-- the first such file
+abbrev pub first_undefined : List Model → Option NetRefusal
+first_undefined models = slice_get (filter_map undefined_in models) 0
+
+-- the first refusal: of a host name that is there already, in whichever file, before that of an undefined list
+abbrev pub first_refusal : List Model → Option NetRefusal
+first_refusal models = option_or (twice models) (first_undefined models)
+
 -- the models under their host names, in byte order of these
 pub record IsNetworkOf (models : List Model) (net : Network) : Type 0 where
   pub same : IsPermutation (map under_host models) net.routers
@@ -49,8 +63,8 @@ pub record IsNetworkOf (models : List Model) (net : Network) : Type 0 where
 abbrev pub HasOneNetwork : Type 0
 HasOneNetwork = (models : List Model) (this that : Network) → IsNetworkOf models this → IsNetworkOf models that → this ≡ that
 
--- what a call gave is the network of the models, or the refusal of the first host name that is there already; unless memory ran out
+-- what a call gave is the network of the models, or their first refusal; unless memory ran out
 abbrev pub IsBuilt : List Model → Result Network BuildError → Type 0
-IsBuilt models (Ok net) = (twice models ≡ None) × IsNetworkOf models net
+IsBuilt models (Ok net) = (first_refusal models ≡ None) × IsNetworkOf models net
 IsBuilt models (Err error.Memory) = Unit {0}
-IsBuilt models (Err (error.Refused refusal)) = twice models ≡ Some refusal
+IsBuilt models (Err (error.Refused refusal)) = first_refusal models ≡ Some refusal

@@ -2,9 +2,10 @@
 use Rattle.std.specs.Prelude.{ℕ}
 use Rattle.rc_grammar.specs.Codes.{cause_code}
 use Rattle.rc_network.specs.declared.refusal.NetCause.{NetCause}
-use Rattle.rc_network.specs.declared.refusal.NetCause.TheVariants.{File, TwiceNamed, FileTooLong}
+use Rattle.rc_network.specs.declared.refusal.NetCause.TheVariants.{File, TwiceNamed, Undefined, FileTooLong}
 
 abbrev pub net_code : NetCause → ℕ
 net_code (File cause) = cause_code cause
 net_code TwiceNamed = 8
+net_code Undefined = 9
 net_code FileTooLong = 11

@@ -1,3 +1,6 @@
 pub mod Codes
+pub mod Undefined
+pub mod Least
 pub mod Build
 pub mod Step
+pub mod Rows

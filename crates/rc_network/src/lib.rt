@@ -7,6 +7,7 @@
 
 mod building;
 mod refusal;
+mod undefined;
 
 pub use building::{build, one_network};
 pub use refusal::{BuildError, NetCause, NetRefusal};

@@ -11,6 +11,9 @@ pub enum NetCause {
     File(FileCause),
     /// Its host name is that of an earlier file.
     TwiceNamed,
+    /// One of its route maps names a list in a `match` line that no line of the file defines: a standard access list, a prefix
+    /// list or a community list.
+    Undefined,
     /// It has more than 1,048,576 bytes.
     FileTooLong,
 }
@@ -25,6 +28,7 @@ impl NetCause {
         match self {
             NetCause::File(cause) => cause.code(),
             NetCause::TwiceNamed => 8,
+            NetCause::Undefined => 9,
             NetCause::FileTooLong => 11,
         }
     }

@@ -1,14 +1,14 @@
 -- The openings of a line under `ip access-list`, behind its sequence number.
 use Rattle.std.specs.Prelude.{List, [], ◌∷◌, ◌++◌, codes}
 use Rattle.rc_openings.specs.declared.form.Form.TheVariants.{Permit, Deny, Remark}
-use Rattle.rc_openings.specs.Opening.{Row, later, refused, ignored}
+use Rattle.rc_openings.specs.Opening.{Row, form, refused, ignored}
 
 -- with these begin the forms
 unfoldable pub acl_forms : List Row
 acl_forms =
-    later (codes "permit") Permit
-    ∷ later (codes "deny") Deny
-    ∷ later (codes "remark") Remark
+    form (codes "permit") Permit
+    ∷ form (codes "deny") Deny
+    ∷ form (codes "remark") Remark
     ∷ []
 
 -- with these begin lines whose meaning is not modelled

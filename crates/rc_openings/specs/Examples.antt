@@ -31,7 +31,7 @@ pub global_lines :
     × IsDecided block.Global (codes "no ip http server") (Some Ignored)
     × IsDecided block.Global (codes "router rip") (Some Refused)
     × IsDecided block.Global (codes "router bgp 65001") (Some (Later form.RouterBgp))
-    × IsDecided block.Global (codes "ip prefix-list X permit 10.0.0.0/8") (Some (Later form.PrefixList))
+    × IsDecided block.Global (codes "ip prefix-list X permit 10.0.0.0/8") (Some (Form form.PrefixList))
     × IsDecided block.Global (codes "ip prefix-list X description y") (Some Ignored)
     × IsDecided block.Global (codes "ip community-list expanded X permit .*") (Some Refused)
     × IsDecided block.Global (codes "ip") None
@@ -56,9 +56,9 @@ unfolding decisive_row interface interface_forms interface_refused interface_ign
 interface_lines = (refl, refl, refl, refl, refl, refl, refl, refl, refl, refl, refl, refl)
 
 pub other_lines :
-    IsDecided block.Acl (codes " remark") (Some (Later form.Remark))
+    IsDecided block.Acl (codes " remark") (Some (Form form.Remark))
     × IsDecided block.Acl (codes " dynamic X permit ip any any") (Some Refused)
-    × IsDecided block.RouteMap (codes " match ip address prefix-list X") (Some (Later form.MatchPrefixList))
+    × IsDecided block.RouteMap (codes " match ip address prefix-list X") (Some (Form form.MatchPrefixList))
     × IsDecided block.RouteMap (codes " set metric-type internal") (Some Refused)
     × IsDecided block.RouteMap (codes " set tag 3") (Some Ignored)
     × IsDecided block.Ospf (codes " passive-interface default") (Some (Later form.PassiveInterfaceDefault))

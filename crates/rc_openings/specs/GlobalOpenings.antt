@@ -8,13 +8,13 @@ unfoldable pub global_forms : List Row
 global_forms =
     form (codes "hostname") Hostname
     ∷ form (codes "interface") Interface
-    ∷ later (codes "access-list") AccessList
-    ∷ later (codes "ip access-list standard") StandardAccessList
-    ∷ later (codes "ip access-list extended") ExtendedAccessList
-    ∷ later (codes "ip prefix-list") PrefixList
-    ∷ later (codes "ip community-list") CommunityList
-    ∷ later (codes "ip community-list standard") StandardCommunityList
-    ∷ later (codes "route-map") RouteMap
+    ∷ form (codes "access-list") AccessList
+    ∷ form (codes "ip access-list standard") StandardAccessList
+    ∷ form (codes "ip access-list extended") ExtendedAccessList
+    ∷ form (codes "ip prefix-list") PrefixList
+    ∷ form (codes "ip community-list") CommunityList
+    ∷ form (codes "ip community-list standard") StandardCommunityList
+    ∷ form (codes "route-map") RouteMap
     ∷ form (codes "ip route") StaticRoute
     ∷ later (codes "router ospf") RouterOspf
     ∷ later (codes "router bgp") RouterBgp

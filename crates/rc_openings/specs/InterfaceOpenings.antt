@@ -10,7 +10,7 @@ interface_forms =
     ∷ form (codes "shutdown") Shutdown
     ∷ form (codes "no shutdown") NoShutdown
     ∷ form (codes "bandwidth") Bandwidth
-    ∷ later (codes "ip access-group") AccessGroup
+    ∷ form (codes "ip access-group") AccessGroup
     ∷ later (codes "ip ospf cost") OspfCost
     ∷ later (codes "ip ospf hello-interval") OspfHelloInterval
     ∷ later (codes "ip ospf dead-interval") OspfDeadInterval

@@ -10,5 +10,6 @@ pub mod BgpOpenings
 pub mod Groups
 pub mod Block
 pub mod Values
+pub mod Part
 pub mod Reading
 pub mod Examples

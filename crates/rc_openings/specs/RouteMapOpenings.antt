@@ -1,24 +1,24 @@
 -- The openings of a line under `route-map`.
 use Rattle.std.specs.Prelude.{List, [], ◌∷◌, ◌++◌, codes}
 use Rattle.rc_openings.specs.declared.form.Form.TheVariants.{MatchAddress, MatchPrefixList, MatchCommunity, SetLocalPreference, SetMetric, SetMetricType1, SetMetricType2, SetWeight, SetOrigin, SetOriginIgp, SetOriginIncomplete, SetCommunity, PrependAsPath}
-use Rattle.rc_openings.specs.Opening.{Row, later, refused, ignored}
+use Rattle.rc_openings.specs.Opening.{Row, form, refused, ignored}
 
 -- with these begin the forms
 unfoldable pub route_map_forms : List Row
 route_map_forms =
-    later (codes "match ip address") MatchAddress
-    ∷ later (codes "match ip address prefix-list") MatchPrefixList
-    ∷ later (codes "match community") MatchCommunity
-    ∷ later (codes "set local-preference") SetLocalPreference
-    ∷ later (codes "set metric") SetMetric
-    ∷ later (codes "set metric-type type-1") SetMetricType1
-    ∷ later (codes "set metric-type type-2") SetMetricType2
-    ∷ later (codes "set weight") SetWeight
-    ∷ later (codes "set origin") SetOrigin
-    ∷ later (codes "set origin igp") SetOriginIgp
-    ∷ later (codes "set origin incomplete") SetOriginIncomplete
-    ∷ later (codes "set community") SetCommunity
-    ∷ later (codes "set as-path prepend") PrependAsPath
+    form (codes "match ip address") MatchAddress
+    ∷ form (codes "match ip address prefix-list") MatchPrefixList
+    ∷ form (codes "match community") MatchCommunity
+    ∷ form (codes "set local-preference") SetLocalPreference
+    ∷ form (codes "set metric") SetMetric
+    ∷ form (codes "set metric-type type-1") SetMetricType1
+    ∷ form (codes "set metric-type type-2") SetMetricType2
+    ∷ form (codes "set weight") SetWeight
+    ∷ form (codes "set origin") SetOrigin
+    ∷ form (codes "set origin igp") SetOriginIgp
+    ∷ form (codes "set origin incomplete") SetOriginIncomplete
+    ∷ form (codes "set community") SetCommunity
+    ∷ form (codes "set as-path prepend") PrependAsPath
     ∷ []
 
 -- with these begin lines whose meaning is not modelled

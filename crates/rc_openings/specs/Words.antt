@@ -23,6 +23,10 @@ words_of text = filter has_bytes (slice_split is_blank text)
 abbrev pub words_left : Words → List (List ℕ)
 words_left w = words_of w.text.now
 
+abbrev pub is_none_left : List (List ℕ) → Bool
+is_none_left [] = true
+is_none_left (w ∷ ws) = false
+
 -- the first byte of the first word
 abbrev pub first_byte : List (List ℕ) → ℕ
 first_byte ((b ∷ bs) ∷ ws) = b

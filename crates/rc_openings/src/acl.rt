@@ -8,7 +8,7 @@ use crate::{Form, Opening, Verdict};
 static ONE_WORD: [Opening; 6] = [
     Opening {
         text: b"deny",
-        verdict: Verdict::Later(Form::Deny),
+        verdict: Verdict::Form(Form::Deny),
     },
     Opening {
         text: b"dynamic",
@@ -24,11 +24,11 @@ static ONE_WORD: [Opening; 6] = [
     },
     Opening {
         text: b"permit",
-        verdict: Verdict::Later(Form::Permit),
+        verdict: Verdict::Form(Form::Permit),
     },
     Opening {
         text: b"remark",
-        verdict: Verdict::Later(Form::Remark),
+        verdict: Verdict::Form(Form::Remark),
     },
 ];
 

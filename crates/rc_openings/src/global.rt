@@ -20,7 +20,7 @@ static ONE_WORD: [Opening; 93] = [
     },
     Opening {
         text: b"access-list",
-        verdict: Verdict::Later(Form::AccessList),
+        verdict: Verdict::Form(Form::AccessList),
     },
     Opening {
         text: b"aaa",
@@ -252,7 +252,7 @@ static ONE_WORD: [Opening; 93] = [
     },
     Opening {
         text: b"route-map",
-        verdict: Verdict::Later(Form::RouteMap),
+        verdict: Verdict::Form(Form::RouteMap),
     },
     Opening {
         text: b"router",
@@ -482,11 +482,11 @@ static ONE_WORD_GROUPS: [Group; 24] = [
 static MORE_WORDS: [Opening; 54] = [
     Opening {
         text: b"ip access-list standard",
-        verdict: Verdict::Later(Form::StandardAccessList),
+        verdict: Verdict::Form(Form::StandardAccessList),
     },
     Opening {
         text: b"ip access-list extended",
-        verdict: Verdict::Later(Form::ExtendedAccessList),
+        verdict: Verdict::Form(Form::ExtendedAccessList),
     },
     Opening {
         text: b"ip access-list",
@@ -506,11 +506,11 @@ static MORE_WORDS: [Opening; 54] = [
     },
     Opening {
         text: b"ip community-list",
-        verdict: Verdict::Later(Form::CommunityList),
+        verdict: Verdict::Form(Form::CommunityList),
     },
     Opening {
         text: b"ip community-list standard",
-        verdict: Verdict::Later(Form::StandardCommunityList),
+        verdict: Verdict::Form(Form::StandardCommunityList),
     },
     Opening {
         text: b"ip community-list expanded",
@@ -626,7 +626,7 @@ static MORE_WORDS: [Opening; 54] = [
     },
     Opening {
         text: b"ip prefix-list",
-        verdict: Verdict::Later(Form::PrefixList),
+        verdict: Verdict::Form(Form::PrefixList),
     },
     Opening {
         text: b"ip pim",

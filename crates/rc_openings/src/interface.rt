@@ -310,7 +310,7 @@ static MORE_WORDS: [Opening; 42] = [
     },
     Opening {
         text: b"ip access-group",
-        verdict: Verdict::Later(Form::AccessGroup),
+        verdict: Verdict::Form(Form::AccessGroup),
     },
     Opening {
         text: b"ip address dhcp",

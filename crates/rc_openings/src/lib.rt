@@ -28,5 +28,5 @@ pub use decide::decisive;
 pub use form::Form;
 pub use opening::{Opening, Verdict};
 pub use reading::{LineRefusal, judged, unopened};
-pub use values::{number_in, word_addr, word_mask, word_prefix, word_u32};
+pub use values::{before_mark, number_in, word_addr, word_mask, word_prefix, word_u32};
 pub use words::Words;

@@ -54,51 +54,51 @@ static ONE_WORD_GROUPS: [Group; 5] = [
 static MORE_WORDS: [Opening; 14] = [
     Opening {
         text: b"set as-path prepend",
-        verdict: Verdict::Later(Form::PrependAsPath),
+        verdict: Verdict::Form(Form::PrependAsPath),
     },
     Opening {
         text: b"match community",
-        verdict: Verdict::Later(Form::MatchCommunity),
+        verdict: Verdict::Form(Form::MatchCommunity),
     },
     Opening {
         text: b"set community",
-        verdict: Verdict::Later(Form::SetCommunity),
+        verdict: Verdict::Form(Form::SetCommunity),
     },
     Opening {
         text: b"match ip address",
-        verdict: Verdict::Later(Form::MatchAddress),
+        verdict: Verdict::Form(Form::MatchAddress),
     },
     Opening {
         text: b"match ip address prefix-list",
-        verdict: Verdict::Later(Form::MatchPrefixList),
+        verdict: Verdict::Form(Form::MatchPrefixList),
     },
     Opening {
         text: b"set local-preference",
-        verdict: Verdict::Later(Form::SetLocalPreference),
+        verdict: Verdict::Form(Form::SetLocalPreference),
     },
     Opening {
         text: b"set metric",
-        verdict: Verdict::Later(Form::SetMetric),
+        verdict: Verdict::Form(Form::SetMetric),
     },
     Opening {
         text: b"set metric-type type-1",
-        verdict: Verdict::Later(Form::SetMetricType1),
+        verdict: Verdict::Form(Form::SetMetricType1),
     },
     Opening {
         text: b"set metric-type type-2",
-        verdict: Verdict::Later(Form::SetMetricType2),
+        verdict: Verdict::Form(Form::SetMetricType2),
     },
     Opening {
         text: b"set origin",
-        verdict: Verdict::Later(Form::SetOrigin),
+        verdict: Verdict::Form(Form::SetOrigin),
     },
     Opening {
         text: b"set origin igp",
-        verdict: Verdict::Later(Form::SetOriginIgp),
+        verdict: Verdict::Form(Form::SetOriginIgp),
     },
     Opening {
         text: b"set origin incomplete",
-        verdict: Verdict::Later(Form::SetOriginIncomplete),
+        verdict: Verdict::Form(Form::SetOriginIncomplete),
     },
     Opening {
         text: b"set tag",
@@ -106,7 +106,7 @@ static MORE_WORDS: [Opening; 14] = [
     },
     Opening {
         text: b"set weight",
-        verdict: Verdict::Later(Form::SetWeight),
+        verdict: Verdict::Form(Form::SetWeight),
     },
 ];
 

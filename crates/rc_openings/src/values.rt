@@ -66,8 +66,8 @@ fn mark_at(word: &[u8], mark: u8) -> Option<usize>
     word.iter().position(|b| *b == mark)
 }
 
-/// What stands before the first such byte, and after it.
-fn before_mark(word: &[u8], mark: u8) -> Option<(&[u8], &[u8])>
+/// What stands before the first such byte of a word, and after it, or `None` exactly where it has none.
+pub fn before_mark(word: &[u8], mark: u8) -> Option<(&[u8], &[u8])>
     ensures { MatchOption result (slice_split (λ b. b == mark) word.now ≡ word.now ∷ [])
         (λ parts. slice_split (λ b. b == mark) word.now ≡ parts.0.now ∷ slice_split (λ b. b == mark) parts.1.now) }
 {

@@ -1,7 +1,7 @@
 //! The words of a line.
 ghost use Rattle.std.specs.Prelude.{◌≡◌, ◌≤◌, false, List, [], ◌∷◌, length, drop, MatchOption};
 ghost use Rattle.std.specs.List.{position_or_len};
-ghost use Rattle.rc_openings.specs.Words.{words_of, words_left, first_byte, second_byte, is_blank as blank, starts_blank};
+ghost use Rattle.rc_openings.specs.Words.{words_of, words_left, first_byte, second_byte, is_blank as blank, is_none_left, starts_blank};
 
 /// A cursor over the words of a text: what stands between blanks, which are space and tab.
 ///
@@ -61,6 +61,13 @@ impl<'a> Words<'a> {
         let end = word_len(text);
         self.text = &text[end..];
         if end == 0 { None } else { Some(&text[..end]) }
+    }
+
+    /// Whether no word is left.
+    pub fn is_empty(mut self) -> bool
+        ensures { result ≡ is_none_left (words_left self.entry) }
+    {
+        self.next_word().is_none()
     }
 
     /// The words behind the first few.

@@ -67,9 +67,9 @@ fn file(alloc: Global, lines: &[Line], shut: &[u8]) -> Result<RouterText, Fail> 
     }
 }
 
-/// Three routers: a line between the first two, and the first's Ethernet0 on three subnets.
-fn three_routers(alloc: Global) -> Result<Network, Fail> {
-    let first = [
+/// The first router: its Ethernet0 on three subnets, and a line to the second one.
+fn first(alloc: Global) -> Result<RouterText, Fail> {
+    let lines = [
         primary(b"Ethernet0", 0x0001, 24),
         secondary(b"Ethernet0", 0x0201, 24),
         secondary(b"Ethernet0", 0x0101, 24),
@@ -77,12 +77,22 @@ fn three_routers(alloc: Global) -> Result<Network, Fail> {
         primary(b"Serial0", 0x0a01, 30),
         primary(b"Ethernet1", 0x0304, 24),
     ];
-    let second = [
+    file(alloc, &lines, b"Ethernet1")
+}
+
+/// The second router.
+fn second(alloc: Global) -> Result<RouterText, Fail> {
+    let lines = [
         primary(b"Ethernet0", 0x0002, 24),
         primary(b"Ethernet1", 0x0202, 24),
         primary(b"Serial0", 0x0a02, 30),
     ];
-    let third = [
+    file(alloc, &lines, b"")
+}
+
+/// The third router.
+fn third(alloc: Global) -> Result<RouterText, Fail> {
+    let lines = [
         primary(b"Ethernet0", 0x0103, 24),
         secondary(b"Ethernet0", 0x0003, 24),
         primary(b"Loopback0", 0x0009, 24),
@@ -90,13 +100,25 @@ fn three_routers(alloc: Global) -> Result<Network, Fail> {
         primary(b"Ethernet2", 0x0305, 24),
         primary(b"Tunnel0", 0x0a03, 29),
     ];
-    let mut routers = Named::new(alloc);
-    let name = Name::new(b"a").ok_or("a name")?;
-    routers.insert(name, file(alloc, &first, b"Ethernet1")?)?;
-    let name = Name::new(b"b").ok_or("a name")?;
-    routers.insert(name, file(alloc, &second, b"")?)?;
-    let name = Name::new(b"c").ok_or("a name")?;
-    routers.insert(name, file(alloc, &third, b"")?)?;
+    file(alloc, &lines, b"")
+}
+
+/// The routers with one more.
+fn with_router(
+    mut routers: Named<RouterText>,
+    name: &[u8],
+    text: RouterText,
+) -> Result<Named<RouterText>, Fail> {
+    let name = Name::new(name).ok_or("a name")?;
+    routers.insert(name, text)?;
+    Ok(routers)
+}
+
+/// Three routers: a line between the first two, and the first's Ethernet0 on three subnets.
+fn three_routers(alloc: Global) -> Result<Network, Fail> {
+    let routers = with_router(Named::new(alloc), b"a", first(alloc)?)?;
+    let routers = with_router(routers, b"b", second(alloc)?)?;
+    let routers = with_router(routers, b"c", third(alloc)?)?;
     Ok(Network { routers })
 }
 

@@ -7,7 +7,7 @@ use Rattle.std.proofs.lemmas.List.Elements.{All-append, All-cons, All-nil, All-m
 use Rattle.std.proofs.lemmas.Map.Keys.{IsDistinct-tail}
 use Rattle.std.proofs.lemmas.Map.Made.{length-le_from_is_member, is_member-Decides}
 use Rattle.rc_base.specs.declared.header.Header.{Header}
-use Rattle.rc_base.specs.declared.ending.Kind.TheVariants.{Accepted, NoRoute, NullRouted, Unreachable, Exits, Delivered}
+use Rattle.rc_base.specs.declared.ending.Kind.TheVariants.{DeniedIn, Accepted, NoRoute, NullRouted, DeniedOut, Unreachable, Exits, Delivered}
 use Rattle.rc_base.specs.declared.place.IfId.{IfId}
 use Rattle.rc_base.specs.declared.place.Pos.{Pos}
 use Rattle.rc_base.specs.declared.place.Pos.TheVariants.{Entering}
@@ -21,7 +21,7 @@ use Rattle.rc_fib.specs.Forwarding.{resolved_hops}
 use Rattle.rc_walk.specs.declared.walk.Move.{Move}
 use Rattle.rc_walk.specs.declared.walk.Move.TheVariants.{Next, End}
 use Rattle.rc_walk.specs.declared.walk.Walk.{Walk}
-use Rattle.rc_walk.specs.Moves.{DataPlane, moves, moves_by, moves_by_hops, moves_over, moves_on_link, moves_onto_or, router_of, fib_of}
+use Rattle.rc_walk.specs.Moves.{DataPlane, is_let_in, is_let_out, moves, moves_by, moves_by_hops, moves_inside, moves_on_link, moves_onto_or, moves_out_of, moves_over, router_of, fib_of}
 use Rattle.rc_walk.specs.Walks.{AreMoves, IsWalk, IsFirstWalk}
 use Rattle.rc_walk.proofs.PositionLaws.{same_position-Decides, same_position-laws}
 use Rattle.rc_walk.proofs.WalkLaws.{first_walk_is_a_walk}
@@ -78,29 +78,40 @@ module _ (links : List (List Port)) where
         let shared : List Move = moves_onto_or (linked links i) exits in
         all-cond LeadsIn (holds links i h.dst) (End Delivered ∷ []) (cond (port_is links is_serial i) shared exits) (one Delivered) (all-cond LeadsIn (port_is links is_serial i) shared exits (onto_or (linked links i) exits (linked_there i) (one Exits)) (one Exits))
 
-    over : (i : IfId) (g : Option ℕ) → All LeadsIn (moves_over links h i g)
-    over i g =
+    out_of : (i : IfId) (g : Option ℕ) → All LeadsIn (moves_out_of links h i g)
+    out_of i g =
         let exits : List Move = End Exits ∷ [] in
         let past : List Move = cond (is_some g) exits (moves_on_link links h i) in
         let there : List IfId = takers links i (unwrap_or g h.dst) in
         let past_leads : All LeadsIn past = all-cond LeadsIn (is_some g) exits (moves_on_link links h i) (one Exits) (on_link i) in
         all-cond LeadsIn (port_is links is_loopback i) (End Unreachable ∷ []) (moves_onto_or there past) (one Unreachable) (onto_or there past (takers_there i (unwrap_or g h.dst)) past_leads)
 
-    by_hop : (hop : Hop) → All LeadsIn (moves_by links h hop)
-    by_hop Null = one NullRouted
+module _ (plane : DataPlane) (h : Header) where
+  abbrev Leads : Move → Type 0
+  Leads m = LeadsIn plane.links m
+
+  module _ (q : Pos) where
+    over : (i : IfId) (g : Option ℕ) → All Leads (moves_over plane h q i g)
+    over i g =
+        all-cond Leads (is_let_out plane.network h q i) (moves_out_of plane.links h i g) (End DeniedOut ∷ []) (out_of plane.links h i g) (one plane.links DeniedOut)
+
+    by_hop : (hop : Hop) → All Leads (moves_by plane h q hop)
+    by_hop Null = one plane.links NullRouted
     by_hop (Dev i) = over i None
-    by_hop (Via g None) = All-nil LeadsIn
+    by_hop (Via g None) = All-nil Leads
     by_hop (Via g (Some i)) = over i (Some g)
 
-    by_hops : (hops : List Hop) → All LeadsIn (moves_by_hops links h hops)
-    by_hops [] = one NoRoute
-    by_hops (x ∷ xs) = all-flat_map LeadsIn (moves_by links h) by_hop (x ∷ xs)
+    by_hops : (hops : List Hop) → All Leads (moves_by_hops plane h q hops)
+    by_hops [] = one plane.links NoRoute
+    by_hops (x ∷ xs) = all-flat_map Leads (moves_by plane h q) by_hop (x ∷ xs)
 
-module _ (plane : DataPlane) (h : Header) where
-  lead_in : (q : Pos) → All (LeadsIn plane.links) (moves plane h q)
-  lead_in q =
-      let onward : List Move = moves_by_hops plane.links h (resolved_hops (fib_of plane (router_of q)) h.dst) in
-      all-cond (LeadsIn plane.links) (is_own plane.links (router_of q) h.dst) (End Accepted ∷ []) onward (one plane.links Accepted) (by_hops plane.links h (resolved_hops (fib_of plane (router_of q)) h.dst))
+    inside : All Leads (moves_inside plane h q)
+    inside =
+        let hops : List Hop = resolved_hops (fib_of plane (router_of q)) h.dst in
+        all-cond Leads (is_own plane.links (router_of q) h.dst) (End Accepted ∷ []) (moves_by_hops plane h q hops) (one plane.links Accepted) (by_hops hops)
+
+    lead_in : All Leads (moves plane h q)
+    lead_in = all-cond Leads (is_let_in plane.network h q) (moves_inside plane h q) (End DeniedIn ∷ []) inside (one plane.links DeniedIn)
 
   steps_enter : (q : Pos) (ts : List Pos) → AreMoves plane h q ts → All (Contains (entries plane.links)) ts
   steps_enter q [] m = All-nil (Contains (entries plane.links))

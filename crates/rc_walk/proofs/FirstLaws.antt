@@ -8,7 +8,7 @@ use Rattle.std.proofs.lemmas.List.Elements.{All-head, All-tail, All-nil, All-fil
 use Rattle.std.proofs.lemmas.Map.Keys.{IsDistinct-push}
 use Rattle.rc_base.specs.declared.header.Header.{Header}
 use Rattle.rc_base.specs.declared.ending.Kind.{Kind}
-use Rattle.rc_base.specs.declared.ending.Kind.TheVariants.{Accepted, Unreachable, Exits, Delivered}
+use Rattle.rc_base.specs.declared.ending.Kind.TheVariants.{DeniedIn, Accepted, DeniedOut, Unreachable, Exits, Delivered}
 use Rattle.rc_base.specs.declared.place.IfId.{IfId}
 use Rattle.rc_base.specs.declared.place.Pos.{Pos}
 use Rattle.rc_base.specs.Place.{same_position}
@@ -23,7 +23,7 @@ use Rattle.rc_fib.specs.Forwarding.{is_resolved, resolved_hops}
 use Rattle.rc_walk.specs.declared.walk.Move.{Move}
 use Rattle.rc_walk.specs.declared.walk.Move.TheVariants.{Next, End}
 use Rattle.rc_walk.specs.declared.walk.Stop.TheVariants.{At, Loop}
-use Rattle.rc_walk.specs.Moves.{DataPlane, HasResolvedHops, moves_by, moves_by_hops, moves_over, moves_on_link, moves_onto_or, router_of, fib_of}
+use Rattle.rc_walk.specs.Moves.{DataPlane, HasResolvedHops, is_let_in, is_let_out, moves_by, moves_by_hops, moves_inside, moves_on_link, moves_onto_or, moves_out_of, moves_over, router_of, fib_of}
 use Rattle.rc_walk.specs.Walks.{stands_in, last_position, first_move, AreFirstMoves, IsFirstWalk, follow, first_walk_on, first_walk}
 use Rattle.rc_walk.proofs.PositionLaws.{same_position-laws}
 use Rattle.rc_walk.proofs.WalkLaws.{among_moves}
@@ -55,21 +55,26 @@ module _ (links : List (List Port)) (h : Header) where
   begins-on_link i =
       begins-cond (holds links i h.dst) (End Delivered ∷ []) (cond (port_is links is_serial i) (moves_onto_or (linked links i) (End Exits ∷ [])) (End Exits ∷ [])) refl (begins-cond (port_is links is_serial i) (moves_onto_or (linked links i) (End Exits ∷ [])) (End Exits ∷ []) (begins-onto (linked links i) (End Exits ∷ []) refl) refl)
 
-  begins-over : (i : IfId) (g : Option ℕ) → Begins (moves_over links h i g)
-  begins-over i g =
+  begins-out_of : (i : IfId) (g : Option ℕ) → Begins (moves_out_of links h i g)
+  begins-out_of i g =
       let past : List Move = cond (is_some g) (End Exits ∷ []) (moves_on_link links h i) in
       let there : List IfId = takers links i (unwrap_or g h.dst) in
       begins-cond (port_is links is_loopback i) (End Unreachable ∷ []) (moves_onto_or there past) refl (begins-onto there past (begins-cond (is_some g) (End Exits ∷ []) (moves_on_link links h i) refl (begins-on_link i)))
 
-  begins-by : (hop : Hop) → IsResolved hop → Begins (moves_by links h hop)
+module _ (plane : DataPlane) (h : Header) (q : Pos) where
+  begins-over : (i : IfId) (g : Option ℕ) → Begins (moves_over plane h q i g)
+  begins-over i g =
+      begins-cond (is_let_out plane.network h q i) (moves_out_of plane.links h i g) (End DeniedOut ∷ []) (begins-out_of plane.links h i g) refl
+
+  begins-by : (hop : Hop) → IsResolved hop → Begins (moves_by plane h q hop)
   begins-by Null r = refl
   begins-by (Dev i) r = begins-over i None
   begins-by (Via g None) r = absurd (cc)
   begins-by (Via g (Some i)) r = begins-over i (Some g)
 
-  begins-by_hops : (hops : List Hop) → All IsResolved hops → Begins (moves_by_hops links h hops)
+  begins-by_hops : (hops : List Hop) → All IsResolved hops → Begins (moves_by_hops plane h q hops)
   begins-by_hops [] all = refl
-  begins-by_hops (x ∷ xs) all = begins-append (moves_by links h x) (flat_map (moves_by links h) xs) (begins-by x (All-head IsResolved x xs all))
+  begins-by_hops (x ∷ xs) all = begins-append (moves_by plane h q x) (flat_map (moves_by plane h q) xs) (begins-by x (All-head IsResolved x xs all))
 
 abbrev HasResolved : Entry → Type 0
 HasResolved e = All IsResolved e.hops
@@ -97,10 +102,14 @@ fib_resolved (fib ∷ fibs) zero all = All-head (All HasResolved) fib fibs all
 fib_resolved (fib ∷ fibs) (suc r) all = fib_resolved fibs r (All-tail (All HasResolved) fib fibs all)
 
 module _ (plane : DataPlane) (h : Header) (resolved : HasResolvedHops plane.fibs) where
+  begins-inside : (q : Pos) → Begins (moves_inside plane h q)
+  begins-inside q =
+      let hops : List Hop = resolved_hops (fib_of plane (router_of q)) h.dst in
+      let all : All IsResolved hops = hops_resolved (fib_of plane (router_of q)) h.dst (fib_resolved plane.fibs (router_of q) resolved) in
+      begins-cond (is_own plane.links (router_of q) h.dst) (End Accepted ∷ []) (moves_by_hops plane h q hops) refl (begins-by_hops plane h q hops all)
+
   pub has_first_move : (q : Pos) → is_some (first_move plane h q) ≡ true
-  has_first_move q =
-      let fib : List Entry = fib_of plane (router_of q) in
-      begins-cond (is_own plane.links (router_of q) h.dst) (End Accepted ∷ []) (moves_by_hops plane.links h (resolved_hops fib h.dst)) refl (begins-by_hops plane.links h (resolved_hops fib h.dst) (hops_resolved fib h.dst (fib_resolved plane.fibs (router_of q) resolved)))
+  has_first_move q = begins-cond (is_let_in plane.network h q) (moves_inside plane h q) (End DeniedIn ∷ []) (begins-inside q) refl
 
 -- ---- on by first moves
 

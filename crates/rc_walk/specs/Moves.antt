@@ -1,11 +1,13 @@
 -- The moves of a packet at a position (RFC 1812 s.5.2).
-use Rattle.std.specs.Prelude.{◌≡◌, ℕ, true, List, [], ◌∷◌, map, All, Option, Some, None, unwrap_or, is_some, if◌then◌else◌, slice_get, flat_map}
+use Rattle.std.specs.Prelude.{◌≡◌, ℕ, Bool, true, List, [], ◌∷◌, map, All, Option, Some, None, unwrap_or, is_some, if◌then◌else◌, slice_get, flat_map}
 use Rattle.rc_base.specs.declared.header.Header.{Header}
 use Rattle.rc_base.specs.declared.place.IfId.{IfId}
 use Rattle.rc_base.specs.declared.place.Pos.{Pos}
 use Rattle.rc_base.specs.declared.place.Pos.TheVariants.{Own, Entering}
-use Rattle.rc_base.specs.declared.ending.Kind.TheVariants.{Accepted, NoRoute, NullRouted, Unreachable, Exits, Delivered}
+use Rattle.rc_base.specs.declared.ending.Kind.TheVariants.{DeniedIn, Accepted, NoRoute, NullRouted, DeniedOut, Unreachable, Exits, Delivered}
+use Rattle.rc_config.specs.declared.interface.Direction.TheVariants.{In, Out}
 use Rattle.rc_config.specs.declared.network.Network.{Network}
+use Rattle.rc_filter.specs.Groups.{passes_at}
 use Rattle.rc_topology.specs.declared.port.Port.{Port}
 use Rattle.rc_topology.specs.Ports.{links_of, is_loopback, is_serial}
 use Rattle.rc_topology.specs.Links.{linked, takers, is_own, holds, port_is}
@@ -52,9 +54,31 @@ module _ (links : List (List Port)) (h : Header) where
       if holds links i h.dst then End Delivered ∷ [] else (if port_is links is_serial i then moves_onto_or (linked links i) (End Exits ∷ []) else End Exits ∷ [])
 
   -- out of an interface, to a gateway or straight to the destination
-  abbrev pub moves_over : IfId → Option ℕ → List Move
-  moves_over i gateway =
+  abbrev pub moves_out_of : IfId → Option ℕ → List Move
+  moves_out_of i gateway =
       if port_is links is_loopback i then End Unreachable ∷ [] else moves_onto_or (takers links i (unwrap_or gateway h.dst)) (if is_some gateway then End Exits ∷ [] else moves_on_link i)
+
+-- Access lists filter what enters a router and what it forwards (RFC 1812 s.5.3.9). What it sends by itself enters by no interface,
+-- and no outbound list is asked for it.
+module _ (net : Network) (h : Header) where
+  -- the router at a position takes the packet in
+  abbrev pub is_let_in : Pos → Bool
+  is_let_in (Own r) = true
+  is_let_in (Entering i) = passes_at net In h i
+
+  -- and lets it out by an interface
+  abbrev pub is_let_out : Pos → IfId → Bool
+  is_let_out (Own r) i = true
+  is_let_out (Entering j) i = passes_at net Out h i
+
+-- a router's table
+abbrev pub fib_of : DataPlane → ℕ → List Entry
+fib_of plane r = unwrap_or (slice_get plane.fibs r) []
+
+module _ (plane : DataPlane) (h : Header) (q : Pos) where
+  -- over an interface, whose outbound list is asked before all else
+  abbrev pub moves_over : IfId → Option ℕ → List Move
+  moves_over i gateway = if is_let_out plane.network h q i then moves_out_of plane.links h i gateway else End DeniedOut ∷ []
 
   -- the moves that a hop gives. A gateway without an interface says nowhere to go, and resolved hops have none.
   abbrev pub moves_by : Hop → List Move
@@ -68,12 +92,11 @@ module _ (links : List (List Port)) (h : Header) where
   moves_by_hops [] = End NoRoute ∷ []
   moves_by_hops (x ∷ xs) = flat_map moves_by (x ∷ xs)
 
--- a router's table
-abbrev pub fib_of : DataPlane → ℕ → List Entry
-fib_of plane r = unwrap_or (slice_get plane.fibs r) []
+  -- what the router does with a packet that it has taken in: it keeps what is addressed to it, and sends all else by its table
+  abbrev pub moves_inside : List Move
+  moves_inside =
+      if is_own plane.links (router_of q) h.dst then End Accepted ∷ [] else moves_by_hops (resolved_hops (fib_of plane (router_of q)) h.dst)
 
-module _ (plane : DataPlane) (h : Header) where
-  -- the moves at a position, in order: a router takes what is addressed to it, and sends all else by its table
-  abbrev pub moves : Pos → List Move
-  moves q =
-      if is_own plane.links (router_of q) h.dst then End Accepted ∷ [] else moves_by_hops plane.links h (resolved_hops (fib_of plane (router_of q)) h.dst)
+  -- the moves at a position, in order
+  abbrev pub moves : List Move
+  moves = if is_let_in plane.network h q then moves_inside else End DeniedIn ∷ []

@@ -1,4 +1,4 @@
-//! The moves of one hop, one after another.
+//! The moves out of one interface, one after another.
 ghost use Rattle.std.specs.Prelude.{◌≡◌, ◌∷◌, []};
 ghost use Rattle.std.specs.Iterator.{YieldsFirst};
 ghost use Rattle.rc_topology.specs.Links.{takers};
@@ -7,7 +7,6 @@ ghost use Rattle.rc_walk.specs.Moves as spec;
 
 use crate::Move;
 use rc_base::{Addr, Header, IfId, Kind, Pos};
-use rc_route::Hop;
 use rc_topology::{Linked, Links, Takers};
 
 /// The interfaces that moves are still to lead onto.
@@ -152,8 +151,13 @@ fn to_destination<'a>(links: &'a Links, header: &Header, interface: &IfId) -> Be
 }
 
 /// The moves out of an interface, to a gateway or straight to the destination.
-fn over<'a>(links: &'a Links, header: &Header, interface: &IfId, gateway: Option<Addr>) -> Begun<'a>
-    ensures { moves_begun result ≡ spec.moves_over links.now header.now interface.now gateway }
+pub(crate) fn out_of<'a>(
+    links: &'a Links,
+    header: &Header,
+    interface: &IfId,
+    gateway: Option<Addr>,
+) -> Begun<'a>
+    ensures { moves_begun result ≡ spec.moves_out_of links.now header.now interface.now gateway }
 {
     if links.is_loopback(*interface) {
         return Begun::ending(Kind::Unreachable);
@@ -161,19 +165,5 @@ fn over<'a>(links: &'a Links, header: &Header, interface: &IfId, gateway: Option
     match gateway {
         Some(gateway) => to_gateway(links, interface, gateway),
         None => to_destination(links, header, interface),
-    }
-}
-
-/// Begins the moves that a hop gives.
-pub(crate) fn moves_by<'a>(links: &'a Links, header: &Header, hop: &Hop) -> Begun<'a>
-    ensures { moves_begun result ≡ spec.moves_by links.now header.now hop.now }
-{
-    match hop {
-        Hop::Null => Begun::ending(Kind::NullRouted),
-        Hop::Dev(interface) => over(links, header, interface, None),
-        Hop::Via(gateway, through) => match through {
-            Some(interface) => over(links, header, interface, Some(*gateway)),
-            None => Begun::nothing(),
-        },
     }
 }

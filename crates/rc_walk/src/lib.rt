@@ -1,12 +1,13 @@
 //! The moves of a packet at a position, and the walks that they make.
 //!
-//! It stands on the links of rc_topology and on the hops of rc_fib. The layer above knows the moves of a header at a
-//! position as a list, and a packet's first walk as the one that takes the first move each time.
+//! It stands on the links of rc_topology, the hops of rc_fib and the access groups of rc_filter. The layer above knows the
+//! moves of a header at a position as a list, and a packet's first walk as the one that takes the first move each time.
 #![tactic(auto)]
 
 mod begun;
 mod laws;
 mod plane;
+mod sending;
 mod steps;
 #[cfg(test)]
 mod tests;

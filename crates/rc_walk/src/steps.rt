@@ -4,19 +4,18 @@ ghost use Rattle.std.specs.Iterator.{YieldsFirst, item_count};
 ghost use Rattle.rc_walk.specs.Moves as spec;
 ghost use Rattle.rc_walk.specs.Walks.{first_move};
 
-use crate::begun::{Begun, moves_by};
+use crate::begun::Begun;
+use crate::sending::Sending;
 use crate::{Move, Plane};
-use rc_base::{Header, Kind, Pos, RouterId};
+use rc_base::{Header, Kind, Pos};
 use rc_route::Hop;
-use rc_topology::Links;
 use std::marker::Model;
 
 /// The moves of a packet at a position, seen as the list of those that are left. It takes no memory, and each move is
 /// looked for only when it is asked for.
 #[derive(Drop)]
 pub struct Steps<'a> {
-    links: &'a Links,
-    header: Header,
+    sending: Sending<'a>,
     begun: Begun<'a>,
     hops: &'a [Hop],
 }
@@ -30,7 +29,7 @@ impl<'a> Model for Steps<'a> {
     ghost use Rattle.rc_walk.specs.Left.{moves_begun};
     ghost use Rattle.rc_walk.specs.Moves as spec;
 
-    ghost view = { λ s. moves_begun s.begun ++ flat_map (spec.moves_by s.links.now s.header) s.hops.now };
+    ghost view = { λ s. moves_begun s.begun ++ flat_map (spec.moves_by s.sending.plane.now s.sending.header s.sending.place) s.hops.now };
 }
 
 impl<'a> Iterator for Steps<'a> {
@@ -50,53 +49,53 @@ impl<'a> Iterator for Steps<'a> {
                 return None;
             };
             self.hops = rest;
-            self.begun = moves_by(self.links, &self.header, hop);
+            self.begun = self.sending.moves_by(hop);
         }
-    }
-}
-
-/// The router at a position.
-fn router_of(place: &Pos) -> RouterId
-    ensures { result ≡ spec.router_of place.now }
-{
-    match place {
-        Pos::Own(router) => *router,
-        Pos::Entering(interface) => interface.router,
     }
 }
 
 /// The moves of a packet at a position, in order (RFC 1812 s.5.2).
 ///
-/// A router takes what is addressed to it. All else goes by the hops of the longest prefix that holds the destination:
-/// nowhere, to the gateway or to the destination itself where a router on the link has that address, out of the network,
-/// to a host of the subnet, or over a serial line to whoever is there.
+/// An inbound list that denies the packet ends all at the interface by which it would enter. A router takes what is
+/// addressed to it. All else goes by the hops of the longest prefix that holds the destination: nowhere, to the gateway or
+/// to the destination itself where a router on the link has that address, out of the network, to a host of the subnet, or
+/// over a serial line to whoever is there; where the router forwards it, only by an interface whose outbound list lets it.
 pub fn step<'a>(plane: &'a Plane<'a>, place: Pos, header: &Header) -> Steps<'a>
     ensures { result ≡ spec.moves plane.now header.now place }
 {
-    let links = plane.links();
-    let router = router_of(&place);
-    if links.is_own(router, header.dst) {
-        return ending(links, header, Kind::Accepted);
+    let sending = Sending {
+        plane,
+        header: *header,
+        place,
+    };
+    if !sending.is_let_in() {
+        return ending(plane, &place, header, Kind::DeniedIn);
+    }
+    let router = sending.router();
+    if plane.links().is_own(router, header.dst) {
+        return ending(plane, &place, header, Kind::Accepted);
     }
     let hops = plane.hops(router, header.dst);
     if hops.is_empty() {
-        return ending(links, header, Kind::NoRoute);
+        return ending(plane, &place, header, Kind::NoRoute);
     }
     Steps {
-        links,
-        header: *header,
+        sending,
         begun: Begun::nothing(),
         hops,
     }
 }
 
 /// An ending alone.
-fn ending<'a>(links: &'a Links, header: &Header, kind: Kind) -> Steps<'a>
+fn ending<'a>(plane: &'a Plane<'a>, place: &Pos, header: &Header, kind: Kind) -> Steps<'a>
     ensures { result ≡ Move.End kind ∷ [] }
 {
     Steps {
-        links,
-        header: *header,
+        sending: Sending {
+            plane,
+            header: *header,
+            place: *place,
+        },
         begun: Begun::ending(kind),
         hops: &[],
     }

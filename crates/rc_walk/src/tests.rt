@@ -4,7 +4,10 @@ ghost use Rattle.rc_route.specs.Tables.{IsRouterState};
 
 use crate::{Move, Plane, Stop, Walk, step, trace};
 use rc_base::{Addr, Header, IfId, Items, Kind, Name, Pos, Prefix, RouterId};
-use rc_config::{Command, IfAddr, Named, Network, RouterText};
+use rc_config::{
+    Action, AddressTest, Command, Direction, FilterKind, FilterLine, IfAddr, Named, Network,
+    RouterText,
+};
 use rc_route::{Hop, Route, RouterState, Source, State, push_hop};
 use rc_topology::Links;
 use std::alloc::{AllocError, Global};
@@ -47,14 +50,36 @@ fn router(alloc: Global, ethernet: u32, loopback: u32) -> Result<RouterText, Fai
     Ok(text)
 }
 
-/// Two routers, 10.0.0.1 and 10.0.0.2.
-fn network(alloc: Global) -> Result<Network, Fail> {
+/// A router 10.0.0.1 and this one.
+fn pair(alloc: Global, second: RouterText) -> Result<Network, Fail> {
     let mut routers = Named::new(alloc);
     let first = router(alloc, 0x0a00_0001, 0x0101_0101)?;
     routers.insert(Name::new(b"A").ok_or("A")?, first)?;
-    let second = router(alloc, 0x0a00_0002, 0x0202_0202)?;
     routers.insert(Name::new(b"B").ok_or("B")?, second)?;
     Ok(Network { routers })
+}
+
+/// Two routers, 10.0.0.1 and 10.0.0.2.
+fn network(alloc: Global) -> Result<Network, Fail> {
+    pair(alloc, router(alloc, 0x0a00_0002, 0x0202_0202)?)
+}
+
+/// The same, where the second one's Ethernet0 has a list that lets only packets from 10.0.0.7 pass.
+fn filtered(alloc: Global, direction: Direction) -> Result<Network, Fail> {
+    let list = Name::new(b"5").ok_or("5")?;
+    let source = AddressTest::host(Addr::new(0x0a00_0007));
+    let second = router(alloc, 0x0a00_0002, 0x0202_0202)?;
+    let second = second.put(Command::FilterLine {
+        list,
+        kind: FilterKind::Standard,
+        line: FilterLine::standard(10, Action::Permit, source),
+    })?;
+    let second = second.put(Command::AccessGroup {
+        interface: Name::new(b"Ethernet0").ok_or("Ethernet0")?,
+        list,
+        direction,
+    })?;
+    pair(alloc, second)
 }
 
 /// A router that knows a default route.
@@ -171,5 +196,31 @@ fn steps(rt: HostRuntime) -> Result<(), Fail> {
     assert_eq!(rt; plane.network().routers.len(), 2);
     assert!(rt; plane.fib(RouterId::at(1)).is_some());
     assert!(rt; plane.fib(RouterId::at(2)).is_none());
+    Ok(())
+}
+
+/// How a packet from here stops that the first router sends to the second one, which sends all back.
+fn stop_filtered(alloc: Global, direction: Direction, src: u32) -> Result<Stop, Fail> {
+    let net = filtered(alloc, direction)?;
+    let links = Links::of(alloc, &net)?;
+    let there = Hop::Via(Addr::new(0x0a00_0002), Some(device(0, 0)));
+    let back = Hop::Via(Addr::new(0x0a00_0001), Some(device(1, 0)));
+    let known = state(alloc, &there, &back)?;
+    let plane = Plane::of(alloc, &net, &links, &known)?;
+    let mut header = to(0x0808_0808);
+    header.src = Addr::new(src);
+    Ok(trace(alloc, &plane, home(), &header)?.stop)
+}
+
+#[test]
+fn lists(rt: HostRuntime) -> Result<(), Fail> {
+    for (direction, src, stop) in [
+        (Direction::In, 0x0a00_0007, Stop::Loop),
+        (Direction::In, 0x0a00_0008, Stop::At(Kind::DeniedIn)),
+        (Direction::Out, 0x0a00_0007, Stop::Loop),
+        (Direction::Out, 0x0a00_0008, Stop::At(Kind::DeniedOut)),
+    ] {
+        assert_eq!(rt; stop_filtered(rt.alloc(), direction, src)?, stop);
+    }
     Ok(())
 }

@@ -242,6 +242,15 @@ fn routes_that_are_taken(rt: HostRuntime) -> Result<(), Fail> {
             None,
             [7, 4, 1_048_576],
         ),
+    ] {
+        check_routes(&rt, line, dir, router, numbers)?;
+    }
+    Ok(())
+}
+
+#[test]
+fn routes_that_are_written_otherwise(rt: HostRuntime) -> Result<(), Fail> {
+    for (line, dir, router, numbers) in [
         ("routes d --rounds=5", "d", None, [5, 4, 1_048_576]),
         ("routes d --rounds +5", "d", None, [5, 4, 1_048_576]),
         ("routes --workers 2 d", "d", None, [1000, 2, 1_048_576]),
@@ -298,32 +307,37 @@ fn traces_that_are_taken(rt: HostRuntime) -> Result<(), Fail> {
             only_dst,
             [1000, 64, 16],
         ),
+    ] {
+        check_trace(&rt, line, "d", place, header, numbers)?;
+    }
+    Ok(())
+}
+
+#[test]
+fn headers_that_are_taken(rt: HostRuntime) -> Result<(), Fail> {
+    for (line, header, numbers) in [
         (
             "trace d --from R1 --dst 255.255.255.255 --src 0.0.1.0 --proto 6 --sport 1 --dport 2",
-            ("R1", None),
             [4_294_967_295, 256, 6, 1, 2],
             USUAL,
         ),
         (
             "trace d --from R1 --dst 10.0.0.1 --dport 65535 --sport 65534 --proto 255 --rounds 1",
-            ("R1", None),
             [167_772_161, 0, 255, 65_534, 65_535],
             [1, 4, 1_048_576],
         ),
         (
             "trace d --from R1 --dst 10.0.0.1 --dport 0080 --sport +5 --proto 007",
-            ("R1", None),
             [167_772_161, 0, 7, 5, 80],
             USUAL,
         ),
         (
             "trace d --from R1 --dst 10.0.0.1 --src=0.0.0.7",
-            ("R1", None),
             [167_772_161, 7, 0, 0, 0],
             USUAL,
         ),
     ] {
-        check_trace(&rt, line, "d", place, header, numbers)?;
+        check_trace(&rt, line, "d", ("R1", None), header, numbers)?;
     }
     Ok(())
 }

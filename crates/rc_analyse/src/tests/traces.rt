@@ -7,7 +7,7 @@ use std::test::Fail;
 use std::thread::Threads;
 
 /// The words of a line, parted by blanks, over some files.
-fn check_line<R: Threads + Sync + AllocGlobal + Abort>(
+pub(super) fn check_line<R: Threads + Sync + AllocGlobal + Abort>(
     rt: &R,
     files: &[(&str, &str)],
     line: &str,

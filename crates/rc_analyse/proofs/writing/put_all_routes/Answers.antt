@@ -1,7 +1,7 @@
 use Rattle.std.proofs.Common.{◌+◌, ◌-◌, ◌∙◌, refl, length, flat_map, arith}
 use Rattle.std.specs.List.{range_with_len}
 use Rattle.rc_analyse.specs.Texts.{routes_in}
-use Rattle.rc_analyse.proofs.Puts.{put-more, put-failed}
+use Rattle.rc_report.proofs.InHandLaws.{put-more, put-more-failed}
 use Rattle.rc_analyse.proofs.RouteLaws.{all_left, next_left}
 use Rattle.rc_analyse.proofs.writing.put_all_routes.Goals as goal
 
@@ -13,7 +13,7 @@ returns-in-Err-clause-err g c =
     let net = c.args.net.now in
     let state = c.args.state.now in
     let place = c.loop-place.place in
-    put-failed (routes_in net state place) (flat_map (routes_in net state) (range_with_len (place + 1) (length net.routers - (place + 1)))) (next_left net state place (omega arith) c.loop-place.invariant.put) c.in-Err.ensures.err
+    put-more-failed (routes_in net state place) (flat_map (routes_in net state) (range_with_len (place + 1) (length net.routers - (place + 1)))) (next_left net state place (omega arith) c.loop-place.invariant.put) c.in-Err.ensures.err
 
 pub loop-place-preserved : goal.loop-place-preserved
 loop-place-preserved g c =

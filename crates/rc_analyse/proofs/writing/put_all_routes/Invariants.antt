@@ -1,7 +1,7 @@
 use Rattle.std.proofs.Common.{◌≡◌, ◌-◌, flat_map, length}
 use Rattle.std.specs.List.{range_with_len}
 use Rattle.rc_analyse.specs.Texts.{routes_in, all_routes}
-use Rattle.rc_analyse.proofs.Puts.{HasPut}
+use Rattle.rc_report.specs.InHand.{HasPut}
 use Rattle.rc_analyse.proofs.writing.put_all_routes.Given as goal
 
 abbrev pub invariant-loop-place : goal.invariant-loop-place

@@ -1,6 +1,6 @@
 use Rattle.std.proofs.Common.{◌≡◌, flat_map, drop}
 use Rattle.rc_analyse.specs.Texts.{usage_text}
-use Rattle.rc_analyse.proofs.Puts.{HasPut}
+use Rattle.rc_report.specs.InHand.{HasPut}
 use Rattle.rc_analyse.proofs.writing.put_usage.Given as goal
 
 abbrev pub invariant-loop-text : goal.invariant-loop-text

@@ -1,7 +1,7 @@
-use Rattle.std.proofs.Common.{◌≡◌, drop}
+use Rattle.std.proofs.Common.{◌≡◌}
 use Rattle.rc_filter.specs.Verdict.{first_action}
 use Rattle.rc_filter.proofs.lines.first_permits.Given as goal
 
 -- the lines that are left decide
 abbrev pub invariant-loop-line : goal.invariant-loop-line
-invariant-loop-line l = first_action l.lines l.header ≡ first_action (drop l.line-index l.lines) l.header
+invariant-loop-line l = first_action l.lines l.header ≡ first_action l.line-iterator l.header

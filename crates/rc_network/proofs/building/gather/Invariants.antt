@@ -5,7 +5,7 @@ use Rattle.rc_network.proofs.building.gather.Given as goal
 
 abbrev pub invariant-loop-file : goal.invariant-loop-file
 invariant-loop-file l = record {
-  left : AreLeft l.fn.models.items l.left.items l.routers;
+  left : AreLeft l.fn.models.items l.left.items l.gathered;
   hosts : All (λ m. IsSome m.1.host) l.left.items;
 }
 

@@ -1,0 +1,40 @@
+//! Community lists (IOS `ip community-list`).
+ghost use Rattle.std.specs.Prelude.{◌≡◌, IfOk};
+ghost use Rattle.rc_config.specs.CommunityList.{no_lines, with_line};
+
+use crate::Action;
+use rc_base::{Communities, Items};
+use std::alloc::{AllocError, Global};
+
+/// A line of a community list. It matches the routes that have all of its communities (RFC 1997).
+#[derive(Debug, Drop, PartialEq, Eq)]
+pub struct CommunityLine {
+    pub action: Action,
+    pub communities: Communities,
+}
+
+/// A community list: its lines in file order.
+#[derive(Drop)]
+pub struct CommunityList {
+    pub lines: Items<CommunityLine>,
+}
+
+impl CommunityList {
+    /// A list without lines. It takes no memory.
+    pub fn new(alloc: Global) -> CommunityList
+        ensures { result ≡ no_lines }
+    {
+        CommunityList {
+            lines: Items::new(alloc),
+        }
+    }
+
+    /// The list with one more line behind the others.
+    pub fn with_line(self, line: CommunityLine) -> Result<CommunityList, AllocError>
+        ensures { IfOk result (λ c. c ≡ with_line self line) }
+    {
+        let CommunityList { mut lines } = self;
+        lines.push(line)?;
+        Ok(CommunityList { lines })
+    }
+}

@@ -1,0 +1,86 @@
+//! What an entry of a route map sets.
+ghost use Rattle.std.specs.Prelude.{◌≡◌};
+ghost use Rattle.rc_config.specs.Sets.{no_sets, with_set};
+
+use crate::SetLine;
+use rc_base::{Communities, Items, Origin};
+use std::alloc::Global;
+
+/// How the metric of an external route counts in OSPF (RFC 2328 s.2.3), the preferred type first.
+#[derive(Clone, Copy, Debug, PartialEq, Eq, PartialOrd, Ord)]
+pub enum MetricType {
+    /// In the units of the costs within OSPF: both are summed.
+    Type1,
+    /// Greater than any cost within OSPF.
+    Type2,
+}
+
+/// What becomes of the communities of a route (RFC 1997).
+#[derive(Debug, Drop, PartialEq, Eq)]
+pub enum CommunityChange {
+    /// They stay.
+    Keep,
+    /// The route has these instead.
+    Replace(Communities),
+    /// The route has these too.
+    Add(Communities),
+}
+
+/// What an entry of a route map sets: of each opening the last line, where there is one.
+#[derive(Debug, Drop, PartialEq, Eq)]
+pub struct Sets {
+    /// LOCAL_PREF (RFC 4271 s.5.1.5).
+    pub local_preference: Option<u32>,
+    /// The metric, of a BGP path its MULTI_EXIT_DISC (RFC 4271 s.5.1.4).
+    pub metric: Option<u32>,
+    pub metric_type: Option<MetricType>,
+    /// The weight of a BGP path, which no other router sees.
+    pub weight: Option<u16>,
+    /// ORIGIN (RFC 4271 s.5.1.1).
+    pub origin: Option<Origin>,
+    pub communities: CommunityChange,
+    /// One to ten numbers of AS that are put before the AS path, in their order, or none.
+    pub prepended: Items<u32>,
+}
+
+impl Sets {
+    /// Nothing is set. It takes no memory.
+    pub fn new(alloc: Global) -> Sets
+        ensures { result ≡ no_sets }
+    {
+        Sets {
+            local_preference: None,
+            metric: None,
+            metric_type: None,
+            weight: None,
+            origin: None,
+            communities: CommunityChange::Keep,
+            prepended: Items::new(alloc),
+        }
+    }
+
+    /// The sets after one more line, which counts in place of an earlier one of the same opening. It takes no memory.
+    pub(crate) fn with_line(mut self, line: SetLine) -> Sets
+        ensures { result ≡ with_set self line }
+    {
+        match line {
+            SetLine::LocalPreference(number) => self.local_preference = Some(number),
+            SetLine::Metric(number) => self.metric = Some(number),
+            SetLine::MetricType(metric_type) => self.metric_type = Some(metric_type),
+            SetLine::Weight(number) => self.weight = Some(number),
+            SetLine::Origin(origin) => self.origin = Some(origin),
+            SetLine::Communities {
+                communities,
+                additive,
+            } => {
+                self.communities = if additive {
+                    CommunityChange::Add(communities)
+                } else {
+                    CommunityChange::Replace(communities)
+                }
+            }
+            SetLine::Prepend(numbers) => self.prepended = numbers,
+        }
+        self
+    }
+}

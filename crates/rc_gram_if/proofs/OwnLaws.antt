@@ -1,0 +1,50 @@
+-- A command of this grammar is in range, and fits each file.
+use Rattle.std.specs.Prelude.{Result, Ok, Err, IfOk}
+use Rattle.rc_openings.specs.declared.reading.LineRefusal.{LineRefusal}
+use Rattle.rc_config.specs.declared.command.Command.{Command}
+use Rattle.rc_config.specs.declared.command.Command.TheVariants.{Passed, Remark, Hostname, Interface, Address, Shutdown, Bandwidth, StaticRoute, FilterOpened, FilterLine, AccessGroup, PrefixLine, CommunityLine, MapOpened, MapLine}
+use Rattle.rc_config.specs.declared.router_text.RouterText.{RouterText}
+use Rattle.rc_config.specs.Lawful.{FitsFile, IsInRange}
+use Rattle.rc_gram_if.specs.Own.{IsOwn}
+
+range-of : (c : Command) → IsOwn c → IsInRange c
+range-of Passed h = h
+range-of Remark h = h
+range-of (Hostname name line) h = h
+range-of (Interface name line) h = h
+range-of (Address name a secondary) h = h
+range-of (Shutdown name down) h = h
+range-of (Bandwidth name kbits) h = h
+range-of (StaticRoute route) h = h
+range-of (AccessGroup name list direction) h = h
+range-of (FilterOpened list kind) h = absurd h
+range-of (FilterLine list kind line) h = absurd h
+range-of (PrefixLine list line) h = absurd h
+range-of (CommunityLine list line) h = absurd h
+range-of (MapOpened map n action) h = absurd h
+range-of (MapLine map n line) h = absurd h
+
+fits-of : (file : RouterText) (c : Command) → IsOwn c → FitsFile file c
+fits-of file Passed h = tt
+fits-of file Remark h = tt
+fits-of file (Hostname name line) h = tt
+fits-of file (Interface name line) h = tt
+fits-of file (Address name a secondary) h = tt
+fits-of file (Shutdown name down) h = tt
+fits-of file (Bandwidth name kbits) h = tt
+fits-of file (StaticRoute route) h = tt
+fits-of file (AccessGroup name list direction) h = tt
+fits-of file (FilterOpened list kind) h = absurd h
+fits-of file (FilterLine list kind line) h = absurd h
+fits-of file (PrefixLine list line) h = absurd h
+fits-of file (CommunityLine list line) h = absurd h
+fits-of file (MapOpened map n action) h = absurd h
+fits-of file (MapLine map n line) h = absurd h
+
+pub own-range : (r : Result Command LineRefusal) → IfOk r IsOwn → IfOk r IsInRange
+own-range (Ok c) h = range-of c h
+own-range (Err e) h = h
+
+pub own-fits : (file : RouterText) (r : Result Command LineRefusal) → IfOk r IsOwn → IfOk r (FitsFile file)
+own-fits file (Ok c) h = fits-of file c h
+own-fits file (Err e) h = h

@@ -1,0 +1,15 @@
+use Rattle.std.proofs.Common.{◌≡◌, [], length}
+use Rattle.rc_openings.specs.Words.{words_left}
+use Rattle.rc_gram_policy.specs.Parts.{values_from}
+use Rattle.rc_gram_policy.specs.Values.{community_of}
+use Rattle.rc_gram_policy.proofs.communities.read_communities.Given as goal
+
+-- what is left gives the same communities
+abbrev pub invariant-loop-word : goal.invariant-loop-word
+invariant-loop-word l = record {
+  same : values_from community_of l.numbers (words_left l.behind) ≡ values_from community_of [] (words_left l.fn.words);
+  kept : words_left l.rest ≡ words_left l.behind;
+}
+
+abbrev pub decreases-loop-word : goal.decreases-loop-word
+decreases-loop-word l = length (words_left l.behind)

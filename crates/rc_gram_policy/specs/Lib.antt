@@ -1,0 +1,12 @@
+pub mod Values
+pub mod Parts
+pub mod Error
+pub mod PrefixLines
+pub mod CommunityLines
+pub mod MapLines
+pub mod Refused
+pub mod Reading
+pub mod ValueRows
+pub mod PrefixRows
+pub mod CommunityRows
+pub mod MapRows

@@ -1,0 +1,128 @@
+-- Worked cases of undefined lists, each by computation.
+use Rattle.std.specs.Prelude.{◌≡◌, ℕ, List, [], ◌∷◌, ◌++◌, fold, Some, None, codes, refl}
+use Rattle.rc_config.specs.Filter.{host_address, standard_line}
+use Rattle.rc_config.specs.Update.{after, empty}
+use Rattle.rc_config.specs.declared.command.Command.{Command}
+use Rattle.rc_config.specs.declared.command.Command.TheVariants as command
+use Rattle.rc_config.specs.declared.filter.Action.TheVariants.{Permit}
+use Rattle.rc_config.specs.declared.filter.FilterKind.TheVariants.{Standard, Extended}
+use Rattle.rc_config.specs.declared.map_line.MapLine.TheVariants.{Match, Set}
+use Rattle.rc_config.specs.declared.map_line.MatchKind.{MatchKind}
+use Rattle.rc_config.specs.declared.map_line.MatchKind.TheVariants.{AccessList, PrefixList, CommunityList}
+use Rattle.rc_config.specs.declared.map_line.SetLine.TheVariants.{Weight}
+use Rattle.rc_config.specs.declared.router_text.RouterText.{RouterText}
+use Rattle.rc_base.specs.Prefix.{prefix_at}
+use Rattle.rc_network.specs.Build.{Model, first_refusal}
+use Rattle.rc_network.specs.Undefined.{undefined_line}
+use Rattle.rc_network.specs.declared.refusal.NetCause.TheVariants.{TwiceNamed, Undefined}
+use Rattle.rc_network.specs.declared.refusal.NetRefusal.TheVariants.{InFile}
+
+-- the model of a file whose lines say these commands
+abbrev file : List Command → RouterText
+file commands = fold after empty commands
+
+abbrev one : List ℕ
+one = codes "ONE"
+
+abbrev two : List ℕ
+two = codes "TWO"
+
+-- a `match` line of this number, in the block of the entry of this number of a route map
+abbrev matching : ℕ → MatchKind → List (List ℕ) → ℕ → List Command
+matching entry kind names line = command.MapOpened (codes "M") entry Permit ∷ command.MapLine (codes "M") entry (Match kind names line) ∷ []
+
+-- a line of a list of each kind
+abbrev access_line : List ℕ → Command
+access_line name = command.FilterLine name Standard (standard_line 10 Permit (host_address 7))
+
+abbrev prefix_line : List ℕ → Command
+prefix_line name = command.PrefixLine name (record { sequence = 5; action = Permit; prefix = prefix_at 0 0; ge = None; le = None })
+
+abbrev community_line : List ℕ → Command
+community_line name = command.CommunityLine name (record { action = Permit; communities = 7 ∷ [] })
+
+-- a list that no line defines, of each kind
+pub no_access_list : undefined_line (file (matching 10 AccessList (one ∷ []) 5)) ≡ Some 5
+no_access_list = refl
+
+pub no_prefix_list : undefined_line (file (matching 10 PrefixList (one ∷ []) 5)) ≡ Some 5
+no_prefix_list = refl
+
+pub no_community_list : undefined_line (file (matching 10 CommunityList (one ∷ []) 5)) ≡ Some 5
+no_community_list = refl
+
+-- a line of a list defines it, also behind the line that names it
+pub access_list_defined : undefined_line (file (access_line one ∷ matching 10 AccessList (one ∷ []) 5)) ≡ None
+access_list_defined = refl
+
+pub prefix_list_defined : undefined_line (file (matching 10 PrefixList (one ∷ []) 5 ++ prefix_line one ∷ [])) ≡ None
+prefix_list_defined = refl
+
+pub community_list_defined : undefined_line (file (matching 10 CommunityList (one ∷ []) 5 ++ community_line one ∷ [])) ≡ None
+community_list_defined = refl
+
+-- so does a line that opens it, if no line of it comes
+pub opened_alone : undefined_line (file (command.FilterOpened one Standard ∷ matching 10 AccessList (one ∷ []) 5)) ≡ None
+opened_alone = refl
+
+-- an extended access list is none that a route map matches by
+pub extended : undefined_line (file (command.FilterOpened one Extended ∷ matching 10 AccessList (one ∷ []) 5)) ≡ Some 5
+extended = refl
+
+-- a remark defines nothing, nor does a list of another kind under the name
+pub remark_alone : undefined_line (file (command.Remark ∷ matching 10 AccessList (one ∷ []) 5)) ≡ Some 5
+remark_alone = refl
+
+pub other_kinds : undefined_line (file (access_line one ∷ community_line one ∷ matching 10 PrefixList (one ∷ []) 5)) ≡ Some 5
+other_kinds = refl
+
+-- each name of a line counts
+pub second_name : undefined_line (file (prefix_line one ∷ matching 10 PrefixList (one ∷ two ∷ []) 5)) ≡ Some 5
+second_name = refl
+
+-- The least line counts: also where its entry, its route map or its kind of list stands behind that of a later line. Entries stand by
+-- number.
+pub least_of_entries : undefined_line (file (matching 20 PrefixList (one ∷ []) 5 ++ matching 10 PrefixList (one ∷ []) 7)) ≡ Some 5
+least_of_entries = refl
+
+pub least_of_kinds : undefined_line (file (matching 10 CommunityList (one ∷ []) 5 ++ matching 10 AccessList (one ∷ []) 6)) ≡ Some 5
+least_of_kinds = refl
+
+pub least_of_maps : undefined_line (file (command.MapOpened (codes "N") 10 Permit ∷ matching 10 PrefixList (one ∷ []) 6 ++ command.MapLine (codes "N") 10 (Match PrefixList (one ∷ []) 8) ∷ [])) ≡ Some 6
+least_of_maps = refl
+
+-- the first undefined list and not the first list
+pub first_is_defined : undefined_line (file (prefix_line one ∷ matching 10 PrefixList (one ∷ []) 5 ++ matching 20 PrefixList (two ∷ []) 7)) ≡ Some 7
+first_is_defined = refl
+
+-- a route map without `match` lines names nothing
+pub no_match_line : undefined_line (file (command.MapOpened (codes "M") 10 Permit ∷ command.MapLine (codes "M") 10 (Set (Weight 7)) ∷ [])) ≡ None
+no_match_line = refl
+
+-- the file of a router, whose first line gives the host name
+abbrev router : List ℕ → List ℕ → List Command → Model
+router name host commands = (name, file (command.Hostname host 1 ∷ commands))
+
+abbrev first : List ℕ
+first = codes "a.cfg"
+
+abbrev second : List ℕ
+second = codes "b.cfg"
+
+abbrev naming : ℕ → List Command
+naming line = matching 10 PrefixList (one ∷ []) line
+
+-- of two files the first counts, whatever their lines and host names
+pub first_file : first_refusal (router first (codes "r2") (naming 7) ∷ router second (codes "r1") (naming 5) ∷ []) ≡ Some (InFile first 7 Undefined)
+first_file = refl
+
+-- a list of another file doesn't count
+pub defined_elsewhere : first_refusal (router first (codes "r1") (prefix_line one ∷ []) ∷ router second (codes "r2") (naming 5) ∷ []) ≡ Some (InFile second 5 Undefined)
+defined_elsewhere = refl
+
+-- a host name that is there already comes first, also behind a file that names an undefined list
+pub host_name_first : first_refusal (router first (codes "r1") (naming 5) ∷ router second (codes "r1") [] ∷ []) ≡ Some (InFile second 1 TwiceNamed)
+host_name_first = refl
+
+pub none_refused : first_refusal (router first (codes "r1") (prefix_line one ∷ naming 5) ∷ router second (codes "r2") [] ∷ []) ≡ None
+none_refused = refl
