@@ -3,6 +3,8 @@ pub mod Prefix
 pub mod Name
 pub mod Lists
 pub mod Place
+pub mod Header
+pub mod Orders
 pub mod Groups
 pub mod Index
 pub mod IndexRows

@@ -10,11 +10,11 @@ pub mod Place
 pub mod ActionWord
 pub mod Down
 pub mod DownRows
-pub mod FilterPorts
+pub mod PortLists
 pub mod ByNumber
 pub mod ByNumberRows
-pub mod Filter
-pub mod FilterRows
+pub mod AccessList
+pub mod AccessListRows
 pub mod PrefixList
 pub mod Sets
 pub mod RouteMap

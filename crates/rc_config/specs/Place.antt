@@ -9,6 +9,6 @@ abbrev pub block_at : Place → Block
 block_at place.Closed = block.Closed
 block_at place.Global = block.Global
 block_at (place.Interface name) = block.Interface
-block_at (place.Acl list kind) = block.Acl
+block_at (place.AccessList list kind) = block.AccessList
 block_at (place.Map map number) = block.RouteMap
 block_at place.Ignored = block.Ignored

@@ -1,12 +1,12 @@
 //! Where a line stands.
 ghost use Rattle.std.specs.Prelude.{◌≡◌};
 
-use crate::{FilterKind, RouterText};
+use crate::{AccessListKind, RouterText};
 use rc_base::Name;
 use rc_openings::Block;
 
 /// The block that is open at a line.
-#[derive(Clone, Copy, Debug)]
+#[derive(Clone, Copy)]
 pub enum Place {
     /// None is open, and the line is indented.
     Closed,
@@ -15,7 +15,7 @@ pub enum Place {
     /// The block of this interface.
     Interface(Name),
     /// The block of this named access list, which is of this kind.
-    Acl(Name, FilterKind),
+    AccessList(Name, AccessListKind),
     /// The block of the entry of this number of a route map.
     Map(Name, u32),
     /// A block whose lines are all passed over.
@@ -33,7 +33,7 @@ impl Place {
             Place::Closed => Block::Closed,
             Place::Global => Block::Global,
             Place::Interface(_) => Block::Interface,
-            Place::Acl(_, _) => Block::Acl,
+            Place::AccessList(_, _) => Block::AccessList,
             Place::Map(_, _) => Block::RouteMap,
             Place::Ignored => Block::Ignored,
         }

@@ -6,9 +6,15 @@ use crate::{Interface, Named, RouterText};
 use rc_base::{IfId, Name, RouterId};
 
 /// A network: the models of its files under their host names, in byte order of these.
-#[derive(Drop)]
 pub struct Network {
     pub routers: Named<RouterText>,
+}
+
+/// By a function of its own, so that what holds a network drops it by one call.
+impl Drop for Network {
+    fn drop(self) {
+        let Network { routers: _ } = self;
+    }
 }
 
 impl Network {

@@ -36,7 +36,7 @@ place_at open' text = if indent_of text == 0 then place.Global else open'
 -- open one, and a line without indent that is passed over opens one whose lines are all passed over.
 abbrev pub open_after : Place → Command → Place
 open_after place.Global (command.Interface name line) = place.Interface name
-open_after place.Global (command.FilterOpened list kind) = place.Acl list kind
+open_after place.Global (command.AccessListOpened list kind) = place.AccessList list kind
 open_after place.Global (command.MapOpened map n action) = place.Map map n
 open_after place.Global command.Passed = place.Ignored
 open_after place.Global _ = place.Closed
@@ -52,8 +52,8 @@ interface_of (command.Address name address secondary) = Some name
 interface_of (command.Shutdown name down) = Some name
 interface_of (command.Bandwidth name kbits) = Some name
 interface_of (command.StaticRoute route) = None
-interface_of (command.FilterOpened list kind) = None
-interface_of (command.FilterLine list kind line) = None
+interface_of (command.AccessListOpened list kind) = None
+interface_of (command.AccessListLine list kind line) = None
 interface_of (command.AccessGroup name list direction) = Some name
 interface_of (command.PrefixLine list line) = None
 interface_of (command.CommunityLine list line) = None

@@ -12,15 +12,15 @@ use Rattle.rc_config.specs.declared.context.Place.{Place}
 use Rattle.rc_config.specs.declared.context.Place.TheVariants as place
 use Rattle.rc_config.specs.declared.router_text.RouterText.{RouterText}
 use Rattle.rc_gram_if.specs.Reading.{rows_at as other_rows}
-use Rattle.rc_grammar.specs.Filters.{is_filter_form, filter_fronts, filter_rows, written_at}
+use Rattle.rc_grammar.specs.AccessLists.{is_access_list_form, access_list_fronts, access_list_rows, written_at}
 use Rattle.rc_grammar.specs.Policies.{is_policy_form, policy_fronts, policy_rows}
 use Rattle.rc_grammar.specs.declared.grammars.Grammar.{Grammar}
-use Rattle.rc_grammar.specs.declared.grammars.Grammar.TheVariants.{Filters, Policies, Others}
+use Rattle.rc_grammar.specs.declared.grammars.Grammar.TheVariants.{AccessLists, Policies, Others}
 
 -- Which grammar reads a line: each reads those that begin with one of its fronts, and one grammar all others.
 abbrev pub grammar_at : Place → List (List ℕ) → Grammar
 grammar_at at line =
-    if list_any (begins_with line) (filter_fronts (block_at at)) then Filters
+    if list_any (begins_with line) (access_list_fronts (block_at at)) then AccessLists
     else (if list_any (begins_with line) (policy_fronts (block_at at)) then Policies
     else Others)
 
@@ -31,7 +31,7 @@ behind_number (w ∷ ws) = if is_some (number_within 1 2147483647 w) then ws els
 
 -- the words that are a line's own: in the block of an access list those behind the sequence number
 abbrev pub own_words : Place → List (List ℕ) → List (List ℕ)
-own_words (place.Acl list kind) line = behind_number line
+own_words (place.AccessList list kind) line = behind_number line
 own_words place.Closed line = line
 own_words place.Global line = line
 own_words (place.Interface name) line = line
@@ -49,7 +49,7 @@ joined own these others = record {
 -- the rows for a line at a place
 abbrev pub rows_at : Place → RouterText → ℕ → List (List ℕ) → FormRows Command
 rows_at at file number line =
-    joined is_filter_form (filter_rows at file (written_at at line))
+    joined is_access_list_form (access_list_rows at file (written_at at line))
     (joined is_policy_form (policy_rows at file number)
     (other_rows at file number))
 

@@ -6,10 +6,10 @@ ghost use Rattle.rc_config.specs.Lawful.{FitsFile, HasLawfulLists, IsInRange};
 ghost use Rattle.rc_config.specs.Place.{block_at};
 ghost use Rattle.rc_gram_if.specs.Reading.{Says as SaysOther};
 ghost use Rattle.rc_grammar.specs.Answers.{IfAnswered};
-ghost use Rattle.rc_grammar.specs.Filters.{filter_rows, written_at};
+ghost use Rattle.rc_grammar.specs.AccessLists.{access_list_rows, written_at};
 ghost use Rattle.rc_grammar.specs.Grammars.{Says, grammar_at as grammar_of_line, own_words, says};
 
-use crate::{filters, policies};
+use crate::{access_lists, policies};
 use rc_config::{Command, Context, Place, RouterText};
 use rc_gram_policy::LineError;
 use rc_lines::Line;
@@ -17,10 +17,10 @@ use rc_openings::Words;
 use std::alloc::Global;
 
 /// The grammars of lines.
-#[derive(Clone, Copy, Debug, PartialEq, Eq)]
+#[derive(Clone, Copy, PartialEq, Eq)]
 enum Grammar {
     /// Access lists.
-    Filters,
+    AccessLists,
     /// Prefix lists, community lists and route maps.
     Policies,
     /// All else.
@@ -35,7 +35,7 @@ fn behind_ip(mut words: Words) -> Grammar
         None => Grammar::Others,
         Some(word) => {
             if b"access-list".as_slice() == word {
-                Grammar::Filters
+                Grammar::AccessLists
             } else if b"prefix-list".as_slice() == word || b"community-list".as_slice() == word {
                 Grammar::Policies
             } else {
@@ -55,7 +55,7 @@ fn global_grammar(mut words: Words) -> Grammar
             if b"ip".as_slice() == word {
                 behind_ip(words)
             } else if b"access-list".as_slice() == word {
-                Grammar::Filters
+                Grammar::AccessLists
             } else if b"route-map".as_slice() == word {
                 Grammar::Policies
             } else {
@@ -71,7 +71,7 @@ fn grammar_at(at: &Place, words: Words) -> Grammar
 {
     match at {
         Place::Global => global_grammar(words),
-        Place::Acl(_, _) => Grammar::Filters,
+        Place::AccessList(_, _) => Grammar::AccessLists,
         Place::Map(_, _) => Grammar::Policies,
         Place::Interface(_) => Grammar::Others,
         Place::Closed => Grammar::Others,
@@ -80,13 +80,13 @@ fn grammar_at(at: &Place, words: Words) -> Grammar
 }
 
 /// What a line says by the grammar of access lists. It takes no memory.
-fn read_filter(line: &Line, place: &Place, file: &RouterText) -> Result<Command, LineError>
+fn read_access_list(line: &Line, place: &Place, file: &RouterText) -> Result<Command, LineError>
     requires { HasLawfulLists file.now }
-    ensures decided { IfAnswered result (SaysBy (filter_rows place.now file.now (written_at place.now (words_of line.now.text))) (block_at place.now) (own_words place.now (words_of line.now.text))) }
+    ensures decided { IfAnswered result (SaysBy (access_list_rows place.now file.now (written_at place.now (words_of line.now.text))) (block_at place.now) (own_words place.now (words_of line.now.text))) }
     ensures in_range { IfOk result IsInRange }
     ensures fits { IfOk result (FitsFile file.now) }
 {
-    match filters::read_line(
+    match access_lists::read_line(
         line,
         Context {
             place: *place,
@@ -134,7 +134,7 @@ pub(crate) fn read_line(
     ensures fits { IfOk result (FitsFile file.now) }
 {
     match grammar_at(at, line.words()) {
-        Grammar::Filters => read_filter(line, at, file),
+        Grammar::AccessLists => read_access_list(line, at, file),
         Grammar::Policies => policies::read_line(alloc, line, Context { place: *at, file }),
         Grammar::Others => read_other(line, at, file),
     }

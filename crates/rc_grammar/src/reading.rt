@@ -52,7 +52,7 @@ fn place_after(at: &Place, command: &Command) -> Place
     match at {
         Place::Global => match command {
             Command::Interface { name, line: _ } => Place::Interface(*name),
-            Command::FilterOpened { list, kind } => Place::Acl(*list, *kind),
+            Command::AccessListOpened { list, kind } => Place::AccessList(*list, *kind),
             Command::MapOpened { map, number, .. } => Place::Map(*map, *number),
             Command::Passed => Place::Ignored,
             _ => Place::Closed,
@@ -73,8 +73,8 @@ fn interface_named(command: &Command) -> Option<Name>
         Command::Shutdown { interface, .. } => Some(*interface),
         Command::Bandwidth { interface, .. } => Some(*interface),
         Command::StaticRoute { .. } => None,
-        Command::FilterOpened { .. } => None,
-        Command::FilterLine { .. } => None,
+        Command::AccessListOpened { .. } => None,
+        Command::AccessListLine { .. } => None,
         Command::AccessGroup { interface, .. } => Some(*interface),
         Command::PrefixLine { .. } => None,
         Command::CommunityLine { .. } => None,

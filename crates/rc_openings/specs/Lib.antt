@@ -3,7 +3,7 @@ pub mod Opening
 pub mod Apart
 pub mod GlobalOpenings
 pub mod InterfaceOpenings
-pub mod AclOpenings
+pub mod AccessListOpenings
 pub mod RouteMapOpenings
 pub mod OspfOpenings
 pub mod BgpOpenings

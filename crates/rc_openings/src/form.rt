@@ -3,7 +3,7 @@
 /// What a line may say, by the words that it begins with: one for each form opening of each kind of block.
 ///
 /// Where a choice of words follows at once, each of them makes an opening of its own, and so a form.
-#[derive(Clone, Copy, Debug, PartialEq, Eq)]
+#[derive(Clone, Copy, PartialEq, Eq)]
 pub enum Form {
     /// `hostname` with no indent.
     Hostname,

@@ -6,7 +6,7 @@
 //! forms. No call here takes memory.
 #![tactic(auto)]
 
-mod acl;
+mod access_list;
 mod bgp;
 mod block;
 mod decide;

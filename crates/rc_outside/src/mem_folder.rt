@@ -11,7 +11,7 @@ use rc_base::{FileName, Items};
 use std::alloc::{AllocError, Global};
 
 /// A file for a folder in memory.
-#[derive(Debug, Drop)]
+#[derive(Drop)]
 pub struct MemFile {
     /// The text of the folder that it is in.
     pub folder: String,
@@ -23,7 +23,7 @@ pub struct MemFile {
 
 /// A folder in memory, which tells its files and may be asked for any folder text. Of the files in one place it has
 /// the first alone. Chosen calls fail, so that a caller can be tried on a folder that does.
-#[derive(Debug, Drop)]
+#[derive(Drop)]
 pub struct MemFolder {
     files: Vec<MemFile>,
     /// The numbers of the calls that fail, counted from 1 over both kinds of call.
