@@ -5,7 +5,7 @@ use Rattle.std.specs.Cmp.Lexicographic.{slice_cmp}
 use Rattle.std.specs.declared.cmp.Ordering.{Ordering}
 use Rattle.rc_base.specs.declared.origin.Origin.{Origin}
 use Rattle.rc_base.specs.declared.origin.Origin.TheVariants.{Igp, Egp, Incomplete}
-use Rattle.rc_base.specs.declared.place.IfId.{IfId}
+use Rattle.rc_base.specs.declared.position.IfId.{IfId}
 
 -- the number of an origin on the wire (RFC 4271 s.4.3); the lowest is preferred (RFC 4271 s.9.1.2.2 b)
 abbrev pub origin_number : Origin → ℕ

@@ -1,6 +1,6 @@
 //! The endings of a walk.
 ghost use Rattle.std.specs.Prelude.{◌≡◌};
-ghost use Rattle.rc_base.specs.Place.{is_among};
+ghost use Rattle.rc_base.specs.Positions.{is_among};
 
 /// How a walk ends.
 #[derive(Clone, Copy, PartialEq, Eq, PartialOrd, Ord)]

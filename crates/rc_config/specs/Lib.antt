@@ -6,7 +6,7 @@ pub mod Update
 pub mod Members
 pub mod Lawful
 pub mod Rows
-pub mod Place
+pub mod OpenBlock
 pub mod ActionWord
 pub mod Down
 pub mod DownRows

@@ -135,7 +135,7 @@ fn lists_of_a_file(rt: HostRuntime) -> Result<(), Fail> {
         })?;
     }
     assert_eq!(rt; text.lists.access_lists.len(), 2);
-    assert_eq!(rt; text.lists.access_lists.place_of(&empty), Some(1));
+    assert_eq!(rt; text.lists.access_lists.index_of(&empty), Some(1));
     let found = text.lists.access_lists.get(&list).ok_or("the list")?;
     assert_eq!(rt; found.lines.len(), 2);
     assert_eq!(rt; found.greatest(), Some(20));

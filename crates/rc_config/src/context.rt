@@ -7,7 +7,7 @@ use rc_openings::Block;
 
 /// The block that is open at a line.
 #[derive(Clone, Copy)]
-pub enum Place {
+pub enum OpenBlock {
     /// None is open, and the line is indented.
     Closed,
     /// The line has no indent.
@@ -22,20 +22,20 @@ pub enum Place {
     Ignored,
 }
 
-impl Place {
-    ghost use Rattle.rc_config.specs.Place.{block_at};
+impl OpenBlock {
+    ghost use Rattle.rc_config.specs.OpenBlock.{block_at};
 
     /// The kind of the block, which has its openings.
-    pub fn block(&self) -> Block
+    pub fn kind(&self) -> Block
         ensures { result ≡ block_at self.now }
     {
         match self {
-            Place::Closed => Block::Closed,
-            Place::Global => Block::Global,
-            Place::Interface(_) => Block::Interface,
-            Place::AccessList(_, _) => Block::AccessList,
-            Place::Map(_, _) => Block::RouteMap,
-            Place::Ignored => Block::Ignored,
+            OpenBlock::Closed => Block::Closed,
+            OpenBlock::Global => Block::Global,
+            OpenBlock::Interface(_) => Block::Interface,
+            OpenBlock::AccessList(_, _) => Block::AccessList,
+            OpenBlock::Map(_, _) => Block::RouteMap,
+            OpenBlock::Ignored => Block::Ignored,
         }
     }
 }
@@ -43,6 +43,6 @@ impl Place {
 /// Where a line stands: the open block, and what the file has said before.
 #[derive(Clone, Copy)]
 pub struct Context<'a> {
-    pub place: Place,
+    pub block: OpenBlock,
     pub file: &'a RouterText,
 }

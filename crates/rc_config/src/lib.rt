@@ -38,7 +38,7 @@ pub use action_word::action_of;
 pub use by_number::{ByNumber, Numbered};
 pub use command::Command;
 pub use community_list::{CommunityLine, CommunityList};
-pub use context::{Context, Place};
+pub use context::{Context, OpenBlock};
 pub use access_list::{Action, AddressTest, AccessList, AccessListKind, AccessListLine, PortTest, ProtocolTest};
 pub use if_type::{IfType, type_of_name};
 pub use interface::{Direction, IfAddr, Interface};

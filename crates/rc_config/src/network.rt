@@ -24,7 +24,7 @@ impl Network {
     pub fn router(&self, name: &Name) -> Option<RouterId>
         ensures { result ≡ router_named self.now name.now }
     {
-        let place = self.routers.place_of(name)?;
+        let place = self.routers.index_of(name)?;
         Some(RouterId::at(place))
     }
 
@@ -41,7 +41,7 @@ impl Network {
         ensures { result ≡ interface_named self.now router name.now }
     {
         let found = self.router_at(router)?;
-        let index = found.interfaces.place_of(name)?;
+        let index = found.interfaces.index_of(name)?;
         Some(IfId { router, index })
     }
 

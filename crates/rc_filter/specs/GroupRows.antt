@@ -1,7 +1,7 @@
 -- Worked cases of access groups at the interfaces of a network, each by computation.
 use Rattle.std.specs.Prelude.{◌≡◌, ℕ, true, false, List, [], ◌∷◌, None, codes, refl}
 use Rattle.rc_base.specs.declared.header.Header.{Header}
-use Rattle.rc_base.specs.declared.place.IfId.{IfId}
+use Rattle.rc_base.specs.declared.position.IfId.{IfId}
 use Rattle.rc_config.specs.AccessList.{any_address, no_lines, standard_line, with_line}
 use Rattle.rc_config.specs.Interface.{fresh, with_group}
 use Rattle.rc_config.specs.Lists.{no_lists}

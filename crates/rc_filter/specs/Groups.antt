@@ -2,7 +2,7 @@
 use Rattle.std.specs.Prelude.{ℕ, Bool, true, List, []}
 use Rattle.std.specs.Option.{option_map_or}
 use Rattle.rc_base.specs.declared.header.Header.{Header}
-use Rattle.rc_base.specs.declared.place.IfId.{IfId}
+use Rattle.rc_base.specs.declared.position.IfId.{IfId}
 use Rattle.rc_config.specs.Interface.{group_of}
 use Rattle.rc_config.specs.Members.{interface_at, router_at}
 use Rattle.rc_config.specs.declared.access_list.AccessList.{AccessList}

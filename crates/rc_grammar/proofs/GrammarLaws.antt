@@ -22,10 +22,10 @@ use Rattle.rc_openings.specs.BgpOpenings.{bgp, bgp_forms, bgp_refused, bgp_ignor
 use Rattle.rc_openings.specs.Words.{words_of}
 use Rattle.rc_openings.proofs.FrontLemmas.{front_decides, form_has_front}
 use Rattle.rc_openings.proofs.ReadingLaws.{says_is}
-use Rattle.rc_config.specs.Place.{block_at}
+use Rattle.rc_config.specs.OpenBlock.{block_at}
 use Rattle.rc_config.specs.declared.command.Command.{Command}
-use Rattle.rc_config.specs.declared.context.Place.{Place}
-use Rattle.rc_config.specs.declared.context.Place.TheVariants as place
+use Rattle.rc_config.specs.declared.context.OpenBlock.{OpenBlock}
+use Rattle.rc_config.specs.declared.context.OpenBlock.TheVariants as place
 use Rattle.rc_config.specs.declared.router_text.RouterText.{RouterText}
 use Rattle.rc_gram_if.specs.Reading.{rows_at as other_rows, Says as SaysOther}
 use Rattle.rc_gram_policy.specs.declared.error.LineError.{LineError}
@@ -141,18 +141,18 @@ policies-each block.Bgp = refl
 policies-each block.Ignored = refl
 
 -- ---- which grammar a line is read by
-abbrev begins_access_list : Place → List (List ℕ) → Bool
+abbrev begins_access_list : OpenBlock → List (List ℕ) → Bool
 begins_access_list at line = list_any (begins_with line) (access_list_fronts (block_at at))
 
-abbrev begins_policy : Place → List (List ℕ) → Bool
+abbrev begins_policy : OpenBlock → List (List ℕ) → Bool
 begins_policy at line = list_any (begins_with line) (policy_fronts (block_at at))
 
-abbrev IsChosen : Place → List (List ℕ) → Grammar → Type 0
+abbrev IsChosen : OpenBlock → List (List ℕ) → Grammar → Type 0
 IsChosen at line AccessLists = begins_access_list at line ≡ true
 IsChosen at line Policies = (begins_access_list at line ≡ false) × (begins_policy at line ≡ true)
 IsChosen at line Others = (begins_access_list at line ≡ false) × (begins_policy at line ≡ false)
 
-chosen : (at : Place) (line : List (List ℕ)) → IsChosen at line (grammar_at at line)
+chosen : (at : OpenBlock) (line : List (List ℕ)) → IsChosen at line (grammar_at at line)
 chosen at line = by (begins_access_list at line) (begins_policy at line) refl refl
   where
     by : (f p : Bool) → begins_access_list at line ≡ f → begins_policy at line ≡ p → IsChosen at line (cond f AccessLists (cond p Policies Others))
@@ -161,7 +161,7 @@ chosen at line = by (begins_access_list at line) (begins_policy at line) refl re
     by false false is_filter is_policy = (is_filter, is_policy)
 
 -- ---- lines of access lists, by the words that are their own
-own-front : (at : Place) (line : List (List ℕ)) → begins_access_list at line ≡ true → begins_access_list at (own_words at line) ≡ true
+own-front : (at : OpenBlock) (line : List (List ℕ)) → begins_access_list at line ≡ true → begins_access_list at (own_words at line) ≡ true
 own-front place.Closed line h = h
 own-front place.Global line h = h
 own-front (place.Interface name) line h = h
@@ -170,7 +170,7 @@ own-front (place.Map map n) line h = h
 own-front place.Ignored line h = h
 
 -- any other line is its own words
-same-words : (at : Place) (line : List (List ℕ)) → begins_access_list at line ≡ false → own_words at line ≡ line
+same-words : (at : OpenBlock) (line : List (List ℕ)) → begins_access_list at line ≡ false → own_words at line ≡ line
 same-words place.Closed line h = refl
 same-words place.Global line h = refl
 same-words (place.Interface name) line h = refl
@@ -178,7 +178,7 @@ same-words (place.AccessList list kind) line h = absurd (true≢false h)
 same-words (place.Map map n) line h = refl
 same-words place.Ignored line h = refl
 
-module _ (at : Place) (file : RouterText) (number : ℕ) (line : List (List ℕ)) (answer : Answer) where
+module _ (at : OpenBlock) (file : RouterText) (number : ℕ) (line : List (List ℕ)) (answer : Answer) where
   -- the grammars behind that of access lists
   abbrev behind : FormRows Command
   behind = joined is_policy_form (policy_rows at file number) (other_rows at file number)
@@ -205,7 +205,7 @@ answered-as (Ok c) P Q step h = step (Ok c) h
 answered-as (Err (error.Refused refusal)) P Q step h = step (Err refusal) h
 answered-as (Err error.Memory) P Q step h = tt
 
-module _ (at : Place) (file : RouterText) (number : ℕ) (line : List (List ℕ)) (r : Result Command LineError) where
+module _ (at : OpenBlock) (file : RouterText) (number : ℕ) (line : List (List ℕ)) (r : Result Command LineError) where
   pub access_lists-answer : grammar_at at line ≡ AccessLists → IfAnswered r (SaysBy (access_list_rows at file (written_at at line)) (block_at at) (own_words at line)) → IfAnswered r (Says at file number line)
   access_lists-answer is h = answered-as r (SaysBy (access_list_rows at file (written_at at line)) (block_at at) (own_words at line)) (Says at file number line)
       (λ a said. access_lists-say at file number line a (subst (IsChosen at line) is (chosen at line)) said) h

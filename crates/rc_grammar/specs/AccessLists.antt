@@ -15,8 +15,8 @@ use Rattle.rc_config.specs.Named.{named}
 use Rattle.rc_config.specs.Lists.{access_list_named}
 use Rattle.rc_config.specs.declared.command.Command.{Command}
 use Rattle.rc_config.specs.declared.command.Command.TheVariants as command
-use Rattle.rc_config.specs.declared.context.Place.{Place}
-use Rattle.rc_config.specs.declared.context.Place.TheVariants as place
+use Rattle.rc_config.specs.declared.context.OpenBlock.{OpenBlock}
+use Rattle.rc_config.specs.declared.context.OpenBlock.TheVariants as place
 use Rattle.rc_config.specs.declared.access_list.AccessList.{AccessList}
 use Rattle.rc_config.specs.declared.access_list.AccessListKind.{AccessListKind}
 use Rattle.rc_config.specs.declared.access_list.AccessListKind.TheVariants.{Standard, Extended}
@@ -115,7 +115,7 @@ opened file kind (name ∷ []) = opened_as file kind (name_of name)
 opened file kind _ = Err BadValue
 
 -- the answer of the rows of a form, where this sequence number is written in front of the line
-abbrev pub row_answer : Form → Place → RouterText → Option ℕ → List (List ℕ) → Answer
+abbrev pub row_answer : Form → OpenBlock → RouterText → Option ℕ → List (List ℕ) → Answer
 row_answer form.AccessList at file written line = numbered file (drop 1 line)
 row_answer form.StandardAccessList at file written line = opened file Standard (drop 3 line)
 row_answer form.ExtendedAccessList at file written line = opened file Extended (drop 3 line)
@@ -131,7 +131,7 @@ refused_behind form.AccessList = refused_words
 refused_behind _ = []
 
 -- the rows at a place
-abbrev pub access_list_rows : Place → RouterText → Option ℕ → FormRows Command
+abbrev pub access_list_rows : OpenBlock → RouterText → Option ℕ → FormRows Command
 access_list_rows at file written = record { answer = λ f line. row_answer f at file written line; refused = refused_behind; passed = command.Passed }
 
 -- the sequence number that a first word is
@@ -140,7 +140,7 @@ number_in_front [] = None
 number_in_front (w ∷ ws) = number_within 1 2147483647 w
 
 -- the sequence number that is written in front of a line in the block of an access list
-abbrev pub written_at : Place → List (List ℕ) → Option ℕ
+abbrev pub written_at : OpenBlock → List (List ℕ) → Option ℕ
 written_at (place.AccessList list kind) line = number_in_front line
 written_at place.Closed line = None
 written_at place.Global line = None

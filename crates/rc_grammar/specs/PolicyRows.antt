@@ -13,8 +13,8 @@ use Rattle.rc_openings.specs.Words.{words_of}
 use Rattle.rc_openings.specs.declared.reading.LineRefusal.TheVariants.{Unknown, Unsupported, BadValue, OutOfPlace}
 use Rattle.rc_config.specs.Update.{empty}
 use Rattle.rc_config.specs.declared.command.Command.TheVariants.{Passed, PrefixLine, CommunityLine, MapOpened, MapLine}
-use Rattle.rc_config.specs.declared.context.Place.{Place}
-use Rattle.rc_config.specs.declared.context.Place.TheVariants as place
+use Rattle.rc_config.specs.declared.context.OpenBlock.{OpenBlock}
+use Rattle.rc_config.specs.declared.context.OpenBlock.TheVariants as place
 use Rattle.rc_config.specs.declared.access_list.Action.TheVariants.{Permit, Deny}
 use Rattle.rc_config.specs.declared.map_line.MapLine.TheVariants.{Match, Set}
 use Rattle.rc_config.specs.declared.map_line.MatchKind.TheVariants as match_kind
@@ -25,11 +25,11 @@ use Rattle.rc_grammar.specs.Grammars.{Answer, grammar_at, says}
 use Rattle.rc_grammar.specs.declared.grammars.Grammar.TheVariants.{AccessLists, Policies, Others}
 
 -- the seventh line of a file that said nothing before
-abbrev pub Says : Place → List ℕ → Answer → Type 0
+abbrev pub Says : OpenBlock → List ℕ → Answer → Type 0
 Says at text answer = says at empty 7 (words_of text) ≡ answer
 
 -- the block of an entry
-abbrev pub in_map : Place
+abbrev pub in_map : OpenBlock
 in_map = place.Map (codes "M") 10
 
 -- which grammar reads: without indent two words tell, and in a block all lines are of one

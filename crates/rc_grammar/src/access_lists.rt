@@ -5,14 +5,14 @@ ghost use Rattle.rc_openings.specs.Reading.{SaysBy};
 ghost use Rattle.rc_openings.specs.Words.{words_left, words_of};
 ghost use Rattle.rc_config.specs.AccessList.{IsLawfulAccessList, IsSequence};
 ghost use Rattle.rc_config.specs.Lawful.{FitsFile, HasLawfulLists, IsInRange};
-ghost use Rattle.rc_config.specs.Place.{block_at};
+ghost use Rattle.rc_config.specs.OpenBlock.{block_at};
 ghost use Rattle.rc_gram_acl.specs.ListNumber.{kind_of_number as kind_by_number};
 ghost use Rattle.rc_gram_acl.specs.Reading.{line_answer};
 ghost use Rattle.rc_grammar.specs.AccessLists as access_lists;
 ghost use Rattle.rc_grammar.specs.Grammars.{behind_number as words_behind_number, own_words as words_of_its_own};
 
 use rc_base::Name;
-use rc_config::{Command, Context, AccessList, AccessListKind, Place, PortTest, RouterText};
+use rc_config::{Command, Context, AccessList, AccessListKind, OpenBlock, PortTest, RouterText};
 use rc_gram_acl::{kind_of_number, read_access_list_line, refused_words, sequence_for};
 use rc_lines::Line;
 use rc_openings::{Form, LineRefusal, Verdict, Words, judged, number_in, unopened, word_u32};
@@ -204,7 +204,7 @@ fn opened(file: &RouterText, kind: AccessListKind, mut words: Words) -> Result<C
 /// The answer of the rows of a form, where this sequence number is written in front of the line.
 fn read_form(
     form: Form,
-    place: &Place,
+    place: &OpenBlock,
     file: &RouterText,
     written: Option<u32>,
     words: Words,
@@ -218,8 +218,8 @@ fn read_form(
         (Form::AccessList, _) => numbered(file, words.skip(1)),
         (Form::StandardAccessList, _) => opened(file, AccessListKind::Standard, words.skip(3)),
         (Form::ExtendedAccessList, _) => opened(file, AccessListKind::Extended, words.skip(3)),
-        (Form::Permit, Place::AccessList(list, kind)) => access_list_line(file, list, kind, written, words),
-        (Form::Deny, Place::AccessList(list, kind)) => access_list_line(file, list, kind, written, words),
+        (Form::Permit, OpenBlock::AccessList(list, kind)) => access_list_line(file, list, kind, written, words),
+        (Form::Deny, OpenBlock::AccessList(list, kind)) => access_list_line(file, list, kind, written, words),
         (Form::Remark, _) => Ok(Command::Remark),
         _ => Err(LineRefusal::BadValue),
     }
@@ -236,16 +236,16 @@ fn number_in_front(mut words: Words) -> Option<u32>
 }
 
 /// The sequence number that is written in front of a line.
-fn written_at(at: &Place, words: Words) -> Option<u32>
+fn written_at(at: &OpenBlock, words: Words) -> Option<u32>
     ensures { result ≡ access_lists.written_at at.now (words_left words.entry) }
 {
     match at {
-        Place::AccessList(_, _) => number_in_front(words),
-        Place::Closed => None,
-        Place::Global => None,
-        Place::Interface(_) => None,
-        Place::Map(_, _) => None,
-        Place::Ignored => None,
+        OpenBlock::AccessList(_, _) => number_in_front(words),
+        OpenBlock::Closed => None,
+        OpenBlock::Global => None,
+        OpenBlock::Interface(_) => None,
+        OpenBlock::Map(_, _) => None,
+        OpenBlock::Ignored => None,
     }
 }
 
@@ -267,16 +267,16 @@ fn behind_number(words: Words) -> Words
 }
 
 /// The words that are a line's own.
-fn own_words<'a>(at: &Place, words: Words<'a>) -> Words<'a>
+fn own_words<'a>(at: &OpenBlock, words: Words<'a>) -> Words<'a>
     ensures { words_left result ≡ words_of_its_own at.now (words_left words.entry) }
 {
     match at {
-        Place::AccessList(_, _) => behind_number(words),
-        Place::Closed => words,
-        Place::Global => words,
-        Place::Interface(_) => words,
-        Place::Map(_, _) => words,
-        Place::Ignored => words,
+        OpenBlock::AccessList(_, _) => behind_number(words),
+        OpenBlock::Closed => words,
+        OpenBlock::Global => words,
+        OpenBlock::Interface(_) => words,
+        OpenBlock::Map(_, _) => words,
+        OpenBlock::Ignored => words,
     }
 }
 
@@ -292,7 +292,7 @@ fn refused_behind(form: Form) -> Words<'static>
 }
 
 fn read_words(
-    place: &Place,
+    place: &OpenBlock,
     file: &RouterText,
     written: Option<u32>,
     words: Words,
@@ -304,7 +304,7 @@ fn read_words(
 {
     // The generated proof of a generic call wants each enum within its type named in the function.
     let _test: PortTest = PortTest::Any;
-    match place.block().decide(words) {
+    match block.kind().decide(words) {
         None => Err(unopened(words)),
         Some(opening) => match opening.verdict {
             Verdict::Ignored => Ok(Command::Passed),

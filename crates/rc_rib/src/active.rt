@@ -27,7 +27,7 @@ fn up_interface(router: RouterId, file: &RouterText, name: &Name) -> Option<IfId
     if file.is_down(name) {
         return None;
     }
-    let index = file.interfaces.place_of(name)?;
+    let index = file.interfaces.index_of(name)?;
     Some(IfId { router, index })
 }
 

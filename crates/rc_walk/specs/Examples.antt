@@ -3,7 +3,7 @@ use Rattle.std.specs.Prelude.{ℕ, ◌+◌, ◌*◌, true, List, [], ◌∷◌, 
 use Rattle.std.specs.List.{enumerate_from}
 use Rattle.rc_base.specs.Prefix.{prefix_at}
 use Rattle.rc_base.specs.declared.header.Header.{Header}
-use Rattle.rc_base.specs.declared.place.IfId.{IfId}
+use Rattle.rc_base.specs.declared.position.IfId.{IfId}
 use Rattle.rc_config.specs.AccessList.{any_address, host_address, no_lines, standard_line, with_line}
 use Rattle.rc_config.specs.Interface.{fresh}
 use Rattle.rc_config.specs.Lists.{no_lists}
