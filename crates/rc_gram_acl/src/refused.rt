@@ -16,7 +16,7 @@ use rc_openings::Words;
 /// The words that make a line of an access list one that isn't modelled, wherever they stand behind its opening, where it fits no
 /// row.
 #[tactic(auto, unfolding(crate::specs::Refused::refused_words))]
-pub fn refused_words() -> Words<'static>
+pub(crate) fn refused_words() -> Words<'static>
     ensures { words_left result ≡ refused.refused_words }
 {
     Words::new(
