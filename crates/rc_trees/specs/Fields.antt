@@ -1,11 +1,11 @@
 -- The trees of tests of a header's fields.
-use Rattle.std.specs.Prelude.{ℕ, zero, suc, ◌-◌, ◌^◌, Bool, true, false, nat_lt, if◌then◌else◌}
+use Rattle.std.specs.Prelude.{ℕ, zero, suc, ◌-◌, ◌^◌, Bool, true, false, nat_lt, if◌then◌else◌, List, flat_map}
 use Rattle.rc_base.specs.Addr.{leading_bits}
 use Rattle.rc_base.specs.Prefix.{Cidr, prefix_at}
 use Rattle.rc_trees.specs.Headers.{is_set}
 use Rattle.rc_trees.specs.Trees.{Tree, never, always, node}
 use Rattle.rc_trees.specs.Combine.{joined}
-use Rattle.rc_trees.specs.Recipes.{Recipe, given}
+use Rattle.rc_trees.specs.Recipes.{Recipe, given, nodes}
 
 -- ---- numbers of a header, bit by bit: the last bit of the number is the header's bit `last`
 
@@ -50,3 +50,7 @@ chain p = given (exact (p.len - 1) p.len (leading_bits p.len p.network))
 -- those to one address
 abbrev pub host : ℕ → Recipe
 host a = chain (prefix_at a 32)
+
+-- the nodes of the chains of some prefixes
+abbrev pub chain_nodes : List Cidr → List Tree
+chain_nodes ps = flat_map (λ p. nodes (chain p)) ps
