@@ -16,9 +16,9 @@ use Rattle.std.proofs.lemmas.List.Sums.{fold-append}
 use Rattle.rc_base.specs.Groups.{under, with_thing, grouped}
 use Rattle.rc_base.specs.Index.{Rows, members, ends_with, with_last, with_member, with_interface, index_of}
 use Rattle.rc_base.specs.Lists.{in_order}
-use Rattle.rc_base.specs.Place.{same_interface}
+use Rattle.rc_base.specs.Positions.{same_interface}
 use Rattle.rc_base.specs.Prefix.{Cidr, prefix_cmp, same_prefix}
-use Rattle.rc_base.specs.declared.place.IfId.{IfId}
+use Rattle.rc_base.specs.declared.position.IfId.{IfId}
 use Rattle.rc_base.proofs.GroupLaws.{keys_grouped, found_grouped}
 use Rattle.rc_base.proofs.OrderedLaws.{prefix_cmp_total, in_order-sorted, all-weaker}
 

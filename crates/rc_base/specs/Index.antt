@@ -4,9 +4,9 @@ use Rattle.std.specs.List.{fold}
 use Rattle.std.specs.Option.{option_map_or, unwrap_or}
 use Rattle.std.specs.BTreeMap.{insert_entry}
 use Rattle.rc_base.specs.Groups.{under}
-use Rattle.rc_base.specs.Place.{same_interface}
+use Rattle.rc_base.specs.Positions.{same_interface}
 use Rattle.rc_base.specs.Prefix.{Cidr, prefix_cmp}
-use Rattle.rc_base.specs.declared.place.IfId.{IfId}
+use Rattle.rc_base.specs.declared.position.IfId.{IfId}
 
 -- prefixes in order, each with its members
 abbrev pub Rows : Type 0

@@ -2,7 +2,7 @@
 use Rattle.std.specs.Prelude.{◌≡◌, ℕ, ◌+◌, ◌*◌, List, [], ◌∷◌, refl}
 use Rattle.rc_base.specs.Index.{members, index_of}
 use Rattle.rc_base.specs.Prefix.{Cidr, prefix_at}
-use Rattle.rc_base.specs.declared.place.IfId.{IfId}
+use Rattle.rc_base.specs.declared.position.IfId.{IfId}
 
 -- 10.0.m.0/24
 abbrev subnet : ℕ → Cidr

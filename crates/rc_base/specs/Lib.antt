@@ -2,7 +2,9 @@ pub mod Addr
 pub mod Prefix
 pub mod Name
 pub mod Lists
-pub mod Place
+pub mod Positions
+pub mod Header
+pub mod Orders
 pub mod Groups
 pub mod Index
 pub mod IndexRows

@@ -1,5 +1,5 @@
 -- Prefixes of IPv4 addresses (RFC 4632 s.3.1).
-use Rattle.std.specs.Prelude.{◌≡◌, ℕ, ◌-◌, ◌*◌, ◌^◌, ◌≤◌, Bool, ◌&&◌, ◌==◌, nat_le, List, [], ◌∷◌, ◌++◌, codes, decimal}
+use Rattle.std.specs.Prelude.{◌≡◌, ℕ, ◌-◌, ◌*◌, ◌^◌, ◌<◌, ◌≤◌, Bool, ◌&&◌, ◌==◌, nat_le, List, [], ◌∷◌, ◌++◌, codes, decimal}
 use Rattle.std.specs.Ordering.{nat_cmp, eq_by_cmp}
 use Rattle.std.specs.Cmp.Lexicographic.{slice_cmp}
 use Rattle.std.specs.declared.cmp.Ordering.{Ordering}
@@ -14,8 +14,9 @@ pub record Cidr : Type 0 where
 abbrev pub prefix_at : ℕ → ℕ → Cidr
 prefix_at a len = record { network = leading_bits len a * 2 ^ (32 - len); len = len }
 
--- a prefix has at most 32 bits, and no host bit is set
+-- a prefix is one of 32-bit addresses, it has at most 32 bits, and no host bit is set
 pub record IsCidr (p : Cidr) : Type 0 where
+  pub below : p.network < 2 ^ 32
   pub short : p.len ≤ 32
   pub no_host_bits : p.network ≡ (prefix_at p.network p.len).network
 

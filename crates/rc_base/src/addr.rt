@@ -5,7 +5,7 @@ ghost use Rattle.rc_base.specs.Addr.{leading_bits, mask, mask_len};
 use std::marker::Model;
 
 /// An IPv4 address (RFC 791 s.3.2), seen as a number below 2^32, its first octet the most significant.
-#[derive(Clone, Copy, Debug, PartialEq, Eq, PartialOrd, Ord, Hash)]
+#[derive(Clone, Copy, PartialEq, Eq, PartialOrd, Ord, Hash)]
 pub struct Addr {
     bits: u32,
 }

@@ -9,7 +9,7 @@ use std::alloc::{AllocError, Global};
 use std::marker::Model;
 
 /// A set of communities (RFC 1997), seen as the list of their 32-bit numbers, rising, each once.
-#[derive(Debug, Drop, PartialEq, Eq)]
+#[derive(Drop, PartialEq, Eq)]
 pub struct Communities {
     numbers: Items<u32>,
 }
@@ -27,6 +27,11 @@ impl Model for Communities {
 
     ghost inverse = { λ numbers. record { numbers = numbers } };
 }
+
+/// The numbers that RFC 1997 gives to the well-known communities, written as `AS:value`.
+const _: () = prove!(Communities::NO_EXPORT == 65_535 * 65_536 + 65_281);
+const _: () = prove!(Communities::NO_ADVERTISE == 65_535 * 65_536 + 65_282);
+const _: () = prove!(Communities::NO_EXPORT_SUBCONFED == 65_535 * 65_536 + 65_283);
 
 /// Puts numbers in rising order, each once. It errs only where memory runs out.
 fn settle(numbers: &mut Vec<u32>) -> Result<(), AllocError>

@@ -1,9 +1,9 @@
 //! The endings of a walk.
 ghost use Rattle.std.specs.Prelude.{◌≡◌};
-ghost use Rattle.rc_base.specs.Place.{is_among};
+ghost use Rattle.rc_base.specs.Positions.{is_among};
 
 /// How a walk ends.
-#[derive(Clone, Copy, Debug, PartialEq, Eq, PartialOrd, Ord)]
+#[derive(Clone, Copy, PartialEq, Eq, PartialOrd, Ord)]
 pub enum Kind {
     /// An inbound access list denies the packet.
     DeniedIn,
@@ -24,7 +24,7 @@ pub enum Kind {
 }
 
 /// A set of endings.
-#[derive(Clone, Copy, Debug, PartialEq, Eq)]
+#[derive(Clone, Copy, PartialEq, Eq)]
 pub struct Ends {
     pub denied_in: bool,
     pub accepted: bool,

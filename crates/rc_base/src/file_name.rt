@@ -10,7 +10,7 @@ use std::cmp::Ordering;
 use std::marker::Model;
 
 /// The name of a file in a folder, seen as the list of its bytes. Names are ordered as their bytes are.
-#[derive(Debug, Drop)]
+#[derive(Drop)]
 pub struct FileName {
     text: String,
 }

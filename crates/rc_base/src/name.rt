@@ -16,7 +16,7 @@ use std::marker::Model;
 /// A name of 1 to 63 printable ASCII bytes without a blank, seen as the list of its bytes. It takes no memory.
 ///
 /// Names are equal, ordered and hashed as their bytes are.
-#[derive(Clone, Copy, Debug)]
+#[derive(Clone, Copy)]
 pub struct Name {
     bytes: [u8; 63],
     len: u8,

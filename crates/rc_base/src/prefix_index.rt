@@ -11,10 +11,16 @@ use std::marker::Model;
 
 /// Interfaces under each of their prefixes, seen as the list of its rows: the prefixes by address, then length, each with
 /// its members.
-#[derive(Drop)]
 pub struct PrefixIndex {
     alloc: Global,
     rows: PrefixMap<Items<IfId>>,
+}
+
+/// By a function of its own, so that what holds an index drops it by one call.
+impl Drop for PrefixIndex {
+    fn drop(self) {
+        let PrefixIndex { alloc: _, rows: _ } = self;
+    }
 }
 
 impl Model for PrefixIndex {

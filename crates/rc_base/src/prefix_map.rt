@@ -11,9 +11,15 @@ use std::marker::Model;
 
 /// A value under each of some prefixes, seen as the list of its rows: the prefixes by address, then length, each with its
 /// value.
-#[derive(Drop)]
 pub struct PrefixMap<V> {
     rows: BTreeMap<Prefix, V>,
+}
+
+/// By a function of its own, so that what holds such a map drops it by one call.
+impl<V: Drop> Drop for PrefixMap<V> {
+    fn drop(self) {
+        let PrefixMap { rows: _ } = self;
+    }
 }
 
 impl<V> Model for PrefixMap<V> {

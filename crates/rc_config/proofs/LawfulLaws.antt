@@ -7,8 +7,8 @@ use Rattle.std.proofs.lemmas.List.Elements.{All-nil, All-cons, All-head, All-tai
 use Rattle.std.specs.Cmp.Lexicographic.{bytes_decides}
 use Rattle.rc_base.specs.Name.{same_name}
 use Rattle.rc_config.specs.declared.command.Command.{Command}
-use Rattle.rc_config.specs.declared.command.Command.TheVariants.{Passed, Remark, Hostname, Interface, Address, Shutdown, Bandwidth, StaticRoute, FilterOpened, FilterLine, AccessGroup, PrefixLine, CommunityLine, MapOpened, MapLine}
-use Rattle.rc_config.specs.declared.filter.FilterKind.{FilterKind}
+use Rattle.rc_config.specs.declared.command.Command.TheVariants.{Passed, Remark, Hostname, Interface, Address, Shutdown, Bandwidth, StaticRoute, AccessListOpened, AccessListLine, AccessGroup, PrefixLine, CommunityLine, MapOpened, MapLine}
+use Rattle.rc_config.specs.declared.access_list.AccessListKind.{AccessListKind}
 use Rattle.rc_config.specs.declared.interface.Direction.{Direction}
 use Rattle.rc_config.specs.declared.interface.Direction.TheVariants.{In, Out}
 use Rattle.rc_config.specs.declared.interface.IfAddr.{IfAddr}
@@ -16,19 +16,19 @@ use Rattle.rc_config.specs.declared.interface.Interface.{Interface as Block}
 use Rattle.rc_config.specs.declared.router_text.RouterText.{RouterText}
 use Rattle.rc_config.specs.declared.static_route.StaticRoute.{StaticRoute as Route}
 use Rattle.rc_config.specs.IfType.{type_of}
-use Rattle.rc_config.specs.Filter.{IsLawfulFilter, IsLawfulLine}
+use Rattle.rc_config.specs.AccessList.{IsLawfulAccessList, IsLawfulLine}
 use Rattle.rc_config.specs.Interface.{fresh, with_address, with_group}
 use Rattle.rc_config.specs.Lawful.{IsLawfulInterface, HasLawfulInterfaces, HasLawfulRoutes, HasLawfulLists, IsDistance, IsInRange, FitsFile}
-use Rattle.rc_config.specs.Lists.{filter_named, prefix_list_named, with_filter_line, with_prefix_line}
+use Rattle.rc_config.specs.Lists.{access_list_named, prefix_list_named, with_access_list_line, with_prefix_line}
 use Rattle.rc_config.specs.PrefixList.{IsLawfulLine as IsLawfulPrefixLine, IsLawfulList as IsLawfulPrefixList}
 use Rattle.rc_config.specs.RouteMap.{IsLawfulMap}
-use Rattle.rc_config.specs.declared.filter.FilterLine.{FilterLine as FilterRow}
+use Rattle.rc_config.specs.declared.access_list.AccessListLine.{AccessListLine as AccessListRow}
 use Rattle.rc_config.specs.declared.lists.Lists.{Lists}
 use Rattle.rc_config.specs.declared.prefix_list.PrefixLine.{PrefixLine as PrefixRow}
 use Rattle.rc_config.specs.MaskedAddr.{IsMaskLen}
 use Rattle.rc_config.specs.Named.{named, with_value}
 use Rattle.rc_config.specs.Update.{after, interface_named, route_map_named}
-use Rattle.rc_config.proofs.FilterLaws.{no_lines_lawful, placed_lawful}
+use Rattle.rc_config.proofs.AccessListLaws.{no_lines_lawful, placed_lawful}
 use Rattle.rc_config.proofs.PolicyLaws.{line_lawful as prefix_line_lawful, map_line_lawful, no_entries_lawful, no_lines_lawful as no_prefix_lines_lawful, opened_lawful}
 
 module _ {V : Type 0} (P : List ℕ → V → Type 0) where
@@ -95,8 +95,8 @@ after-lawful r (Bandwidth name kbits) h k =
     let was = block-lawful r name h in
     All-with_value IsLawfulInterface r.interfaces name _ h (record { has_type = was.has_type; masks = was.masks; bandwidth = k })
 after-lawful r (StaticRoute route) h k = h
-after-lawful r (FilterOpened name kind) h k = h
-after-lawful r (FilterLine name kind line) h k = h
+after-lawful r (AccessListOpened name kind) h k = h
+after-lawful r (AccessListLine name kind line) h k = h
 after-lawful r (PrefixLine name line) h k = h
 after-lawful r (CommunityLine name line) h k = h
 after-lawful r (MapOpened name n action) h k = h
@@ -113,8 +113,8 @@ after-routes r (Address name a secondary) h k = h
 after-routes r (Shutdown name down) h k = h
 after-routes r (Bandwidth name kbits) h k = h
 after-routes r (StaticRoute route) h k = All-push (λ (s : Route). IsDistance s.distance) r.static_routes route h k
-after-routes r (FilterOpened name kind) h k = h
-after-routes r (FilterLine name kind line) h k = h
+after-routes r (AccessListOpened name kind) h k = h
+after-routes r (AccessListLine name kind line) h k = h
 after-routes r (AccessGroup name list direction) h k = h
 after-routes r (PrefixLine name line) h k = h
 after-routes r (CommunityLine name line) h k = h
@@ -122,17 +122,17 @@ after-routes r (MapOpened name n action) h k = h
 after-routes r (MapLine name n line) h k = h
 
 -- and its lists and route maps, where the command fits the file
-abbrev AreLawfulFilters : Lists → Type 0
-AreLawfulFilters l = All (λ e. IsLawfulFilter e.1) l.filters
+abbrev AreLawfulAccessLists : Lists → Type 0
+AreLawfulAccessLists l = All (λ e. IsLawfulAccessList e.1) l.access_lists
 
-filter-lawful : (l : Lists) (name : List ℕ) (kind : FilterKind) → AreLawfulFilters l → IsLawfulFilter (filter_named l name kind)
-filter-lawful l name kind h = named-or (λ n f. IsLawfulFilter f) l.filters name _ h (no_lines_lawful kind)
+access_list-lawful : (l : Lists) (name : List ℕ) (kind : AccessListKind) → AreLawfulAccessLists l → IsLawfulAccessList (access_list_named l name kind)
+access_list-lawful l name kind h = named-or (λ n f. IsLawfulAccessList f) l.access_lists name _ h (no_lines_lawful kind)
 
-filter_line-lawful : (l : Lists) (name : List ℕ) (kind : FilterKind) (line : FilterRow) → AreLawfulFilters l → IsLawfulLine kind line → (filter_named l name kind).kind ≡ kind
-    → AreLawfulFilters (with_filter_line l name kind line)
-filter_line-lawful l name kind line h k same =
-    let of_kind : IsLawfulLine (filter_named l name kind).kind line = subst (λ (at : FilterKind). IsLawfulLine at line) (sym same) k in
-    All-with_value (λ n g. IsLawfulFilter g) l.filters name _ h (placed_lawful (filter_named l name kind) line (filter-lawful l name kind h) of_kind)
+access_list_line-lawful : (l : Lists) (name : List ℕ) (kind : AccessListKind) (line : AccessListRow) → AreLawfulAccessLists l → IsLawfulLine kind line → (access_list_named l name kind).kind ≡ kind
+    → AreLawfulAccessLists (with_access_list_line l name kind line)
+access_list_line-lawful l name kind line h k same =
+    let of_kind : IsLawfulLine (access_list_named l name kind).kind line = subst (λ (at : AccessListKind). IsLawfulLine at line) (sym same) k in
+    All-with_value (λ n g. IsLawfulAccessList g) l.access_lists name _ h (placed_lawful (access_list_named l name kind) line (access_list-lawful l name kind h) of_kind)
 
 prefix_line-lawful : (l : Lists) (name : List ℕ) (line : PrefixRow) → All (λ e. IsLawfulPrefixList e.1) l.prefix_lists → IsLawfulPrefixLine line
     → All (λ e. IsLawfulPrefixList e.1) (with_prefix_line l name line).prefix_lists
@@ -145,36 +145,36 @@ map-lawful r name h = named-or (λ n m. IsLawfulMap m) r.route_maps name _ h.rou
 after-lists : (r : RouterText) (c : Command) → HasLawfulLists r → IsInRange c → FitsFile r c → HasLawfulLists (after r c)
 after-lists r Passed h k f = h
 after-lists r Remark h k f = h
-after-lists r (Hostname name line) h k f = record { filters = h.filters; prefix_lists = h.prefix_lists; route_maps = h.route_maps }
-after-lists r (Interface name line) h k f = record { filters = h.filters; prefix_lists = h.prefix_lists; route_maps = h.route_maps }
-after-lists r (Address name a secondary) h k f = record { filters = h.filters; prefix_lists = h.prefix_lists; route_maps = h.route_maps }
-after-lists r (Shutdown name down) h k f = record { filters = h.filters; prefix_lists = h.prefix_lists; route_maps = h.route_maps }
-after-lists r (Bandwidth name kbits) h k f = record { filters = h.filters; prefix_lists = h.prefix_lists; route_maps = h.route_maps }
-after-lists r (StaticRoute route) h k f = record { filters = h.filters; prefix_lists = h.prefix_lists; route_maps = h.route_maps }
-after-lists r (AccessGroup name list direction) h k f = record { filters = h.filters; prefix_lists = h.prefix_lists; route_maps = h.route_maps }
-after-lists r (FilterOpened name kind) h k f = record {
-  filters = All-with_value (λ n g. IsLawfulFilter g) r.lists.filters name _ h.filters (filter-lawful r.lists name kind h.filters);
+after-lists r (Hostname name line) h k f = record { access_lists = h.access_lists; prefix_lists = h.prefix_lists; route_maps = h.route_maps }
+after-lists r (Interface name line) h k f = record { access_lists = h.access_lists; prefix_lists = h.prefix_lists; route_maps = h.route_maps }
+after-lists r (Address name a secondary) h k f = record { access_lists = h.access_lists; prefix_lists = h.prefix_lists; route_maps = h.route_maps }
+after-lists r (Shutdown name down) h k f = record { access_lists = h.access_lists; prefix_lists = h.prefix_lists; route_maps = h.route_maps }
+after-lists r (Bandwidth name kbits) h k f = record { access_lists = h.access_lists; prefix_lists = h.prefix_lists; route_maps = h.route_maps }
+after-lists r (StaticRoute route) h k f = record { access_lists = h.access_lists; prefix_lists = h.prefix_lists; route_maps = h.route_maps }
+after-lists r (AccessGroup name list direction) h k f = record { access_lists = h.access_lists; prefix_lists = h.prefix_lists; route_maps = h.route_maps }
+after-lists r (AccessListOpened name kind) h k f = record {
+  access_lists = All-with_value (λ n g. IsLawfulAccessList g) r.lists.access_lists name _ h.access_lists (access_list-lawful r.lists name kind h.access_lists);
   prefix_lists = h.prefix_lists;
   route_maps = h.route_maps;
 }
-after-lists r (FilterLine name kind line) h k f = record {
-  filters = filter_line-lawful r.lists name kind line h.filters k f.0;
+after-lists r (AccessListLine name kind line) h k f = record {
+  access_lists = access_list_line-lawful r.lists name kind line h.access_lists k f.0;
   prefix_lists = h.prefix_lists;
   route_maps = h.route_maps;
 }
 after-lists r (PrefixLine name line) h k f = record {
-  filters = h.filters;
+  access_lists = h.access_lists;
   prefix_lists = prefix_line-lawful r.lists name line h.prefix_lists k;
   route_maps = h.route_maps;
 }
-after-lists r (CommunityLine name line) h k f = record { filters = h.filters; prefix_lists = h.prefix_lists; route_maps = h.route_maps }
+after-lists r (CommunityLine name line) h k f = record { access_lists = h.access_lists; prefix_lists = h.prefix_lists; route_maps = h.route_maps }
 after-lists r (MapOpened name n action) h k f = record {
-  filters = h.filters;
+  access_lists = h.access_lists;
   prefix_lists = h.prefix_lists;
   route_maps = All-with_value (λ s m. IsLawfulMap m) r.route_maps name _ h.route_maps (opened_lawful (route_map_named r name) n action (map-lawful r name h) k);
 }
 after-lists r (MapLine name n line) h k f = record {
-  filters = h.filters;
+  access_lists = h.access_lists;
   prefix_lists = h.prefix_lists;
   route_maps = All-with_value (λ s m. IsLawfulMap m) r.route_maps name _ h.route_maps (map_line_lawful (route_map_named r name) n line (map-lawful r name h) k);
 }

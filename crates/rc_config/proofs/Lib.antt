@@ -3,5 +3,5 @@ mod LawfulLaws
 pub mod OrderLaws
 pub mod DownLaws
 pub mod ByNumberLaws
-pub mod FilterLaws
+pub mod AccessListLaws
 pub mod PolicyLaws

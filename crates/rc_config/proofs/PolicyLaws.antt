@@ -8,7 +8,7 @@ use Rattle.rc_config.specs.ByNumber.{placed, with_number, without_number, IsByNu
 use Rattle.rc_config.specs.PrefixList.{sequence_of, no_lines, with_line as list_with, IsLawfulLine, IsLawfulList}
 use Rattle.rc_config.specs.RouteMap.{number_of, no_entries, fresh_entry, entry_opened, entry_with, with_mentions, mentions, opened, with_line, IsLawfulEntry, IsLawfulMap, IsLawfulMapLine}
 use Rattle.rc_config.specs.Sets.{with_set, IsLawfulSet, IsPrepended}
-use Rattle.rc_config.specs.declared.filter.Action.{Action}
+use Rattle.rc_config.specs.declared.access_list.Action.{Action}
 use Rattle.rc_config.specs.declared.map_line.MapLine.{MapLine}
 use Rattle.rc_config.specs.declared.map_line.MapLine.TheVariants.{Match, Set}
 use Rattle.rc_config.specs.declared.map_line.MatchKind.{MatchKind}

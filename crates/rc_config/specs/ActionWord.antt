@@ -1,8 +1,8 @@
 -- The words with which lines of lists say what becomes of what they match (IOS).
 use Rattle.std.specs.Prelude.{ℕ, List, Option, Some, None, if◌then◌else◌, codes}
 use Rattle.std.specs.Str.{bytes_eq}
-use Rattle.rc_config.specs.declared.filter.Action.{Action}
-use Rattle.rc_config.specs.declared.filter.Action.TheVariants.{Permit, Deny}
+use Rattle.rc_config.specs.declared.access_list.Action.{Action}
+use Rattle.rc_config.specs.declared.access_list.Action.TheVariants.{Permit, Deny}
 
 -- `permit` or `deny`
 abbrev pub action_of : List ℕ → Option Action

@@ -8,7 +8,7 @@ use Rattle.rc_config.specs.declared.interface.Interface.{Interface}
 
 -- an interface with no line in its block
 abbrev pub fresh : Interface
-fresh = record { primary = None; secondary = []; shutdown = false; bandwidth = None; filter_in = None; filter_out = None }
+fresh = record { primary = None; secondary = []; shutdown = false; bandwidth = None; access_group_in = None; access_group_out = None }
 
 -- a secondary address is one more, and a primary one stands in place of any other
 abbrev pub with_address : Interface → IfAddr → Bool → Interface
@@ -16,13 +16,13 @@ with_address i a secondary = if secondary then record i { secondary = i.secondar
 
 -- the list of a direction stands in place of any other
 abbrev pub with_group : Interface → List ℕ → Direction → Interface
-with_group i list In = record i { filter_in = Some list }
-with_group i list Out = record i { filter_out = Some list }
+with_group i list In = record i { access_group_in = Some list }
+with_group i list Out = record i { access_group_out = Some list }
 
 -- the list of a direction, where a line names one
 abbrev pub group_of : Interface → Direction → Option (List ℕ)
-group_of i In = i.filter_in
-group_of i Out = i.filter_out
+group_of i In = i.access_group_in
+group_of i Out = i.access_group_out
 
 -- the addresses of an interface, the primary one first, then the others as written
 abbrev pub declared_addresses : Interface → List IfAddr

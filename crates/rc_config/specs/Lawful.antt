@@ -7,22 +7,22 @@ use Rattle.std.specs.Cmp.Lexicographic.{slice_cmp}
 use Rattle.std.specs.List.Sorted.{IsStrictlySortedBy}
 use Rattle.std.specs.Map.{keys_of}
 use Rattle.std.specs.Option.{option_map}
-use Rattle.rc_base.specs.declared.place.IfId.{IfId}
-use Rattle.rc_base.specs.declared.place.Pos.{Pos}
-use Rattle.rc_base.specs.declared.place.Pos.TheVariants.{Own, Entering}
+use Rattle.rc_base.specs.declared.position.IfId.{IfId}
+use Rattle.rc_base.specs.declared.position.Pos.{Pos}
+use Rattle.rc_base.specs.declared.position.Pos.TheVariants.{Own, Entering}
 use Rattle.rc_config.specs.declared.command.Command.{Command}
-use Rattle.rc_config.specs.declared.command.Command.TheVariants.{Passed, Remark, Hostname, Interface, Address, Shutdown, Bandwidth, StaticRoute, FilterOpened, FilterLine, AccessGroup, PrefixLine, CommunityLine, MapOpened, MapLine}
+use Rattle.rc_config.specs.declared.command.Command.TheVariants.{Passed, Remark, Hostname, Interface, Address, Shutdown, Bandwidth, StaticRoute, AccessListOpened, AccessListLine, AccessGroup, PrefixLine, CommunityLine, MapOpened, MapLine}
 use Rattle.rc_config.specs.declared.interface.IfAddr.{IfAddr}
 use Rattle.rc_config.specs.declared.interface.Interface.{Interface as Block}
 use Rattle.rc_config.specs.declared.network.Network.{Network}
 use Rattle.rc_config.specs.declared.router_text.RouterText.{RouterText}
 use Rattle.rc_config.specs.declared.static_route.StaticRoute.{StaticRoute as Route}
-use Rattle.rc_config.specs.Filter.{has_sequence, IsLawfulFilter, IsLawfulLine}
+use Rattle.rc_config.specs.AccessList.{has_sequence, IsLawfulAccessList, IsLawfulLine}
 use Rattle.rc_config.specs.IfType.{type_of}
 use Rattle.rc_config.specs.Interface.{declared_addresses}
 use Rattle.rc_config.specs.MaskedAddr.{IsMaskLen}
 use Rattle.rc_config.specs.Members.{interfaces_of}
-use Rattle.rc_config.specs.Lists.{filter_named}
+use Rattle.rc_config.specs.Lists.{access_list_named}
 use Rattle.rc_config.specs.PrefixList.{IsLawfulLine as IsLawfulPrefixLine, IsLawfulList as IsLawfulPrefixList}
 use Rattle.rc_config.specs.RouteMap.{IsLawfulMap, IsLawfulMapLine}
 
@@ -50,7 +50,7 @@ HasLawfulRoutes r = All (λ (s : Route). IsDistance s.distance) r.static_routes
 
 -- each access list and each prefix list has lawful lines by rising number, and each route map lawful entries by rising number
 pub record HasLawfulLists (r : RouterText) : Type 0 where
-  pub filters : All (λ e. IsLawfulFilter e.1) r.lists.filters
+  pub access_lists : All (λ e. IsLawfulAccessList e.1) r.lists.access_lists
   pub prefix_lists : All (λ e. IsLawfulPrefixList e.1) r.lists.prefix_lists
   pub route_maps : All (λ e. IsLawfulMap e.1) r.route_maps
 
@@ -74,8 +74,8 @@ IsInRange (Address name a secondary) = IsSome (type_of name) × IsMaskLen a.len
 IsInRange (Shutdown name down) = Unit {0}
 IsInRange (Bandwidth name kbits) = IsBandwidth kbits
 IsInRange (StaticRoute route) = IsDistance route.distance
-IsInRange (FilterOpened name kind) = Unit {0}
-IsInRange (FilterLine name kind line) = IsLawfulLine kind line
+IsInRange (AccessListOpened name kind) = Unit {0}
+IsInRange (AccessListLine name kind line) = IsLawfulLine kind line
 IsInRange (AccessGroup name list direction) = Unit {0}
 IsInRange (PrefixLine name line) = IsLawfulPrefixLine line
 IsInRange (CommunityLine name line) = Unit {0}
@@ -85,8 +85,8 @@ IsInRange (MapLine name n line) = IsLawfulMapLine line
 -- A command that the access lists of a file have room for: the list that it opens or adds a line to is of the kind that it says,
 -- where it is there, and none of its lines has the number of the new one.
 abbrev pub FitsFile : RouterText → Command → Type 0
-FitsFile r (FilterOpened name kind) = (filter_named r.lists name kind).kind ≡ kind
-FitsFile r (FilterLine name kind line) = ((filter_named r.lists name kind).kind ≡ kind) × (has_sequence (filter_named r.lists name kind).lines line.sequence ≡ false)
+FitsFile r (AccessListOpened name kind) = (access_list_named r.lists name kind).kind ≡ kind
+FitsFile r (AccessListLine name kind line) = ((access_list_named r.lists name kind).kind ≡ kind) × (has_sequence (access_list_named r.lists name kind).lines line.sequence ≡ false)
 FitsFile r Passed = Unit {0}
 FitsFile r Remark = Unit {0}
 FitsFile r (Hostname name line) = Unit {0}

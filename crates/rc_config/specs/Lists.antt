@@ -1,36 +1,36 @@
 -- The access lists, prefix lists and community lists of a router: what a line adds to them.
 use Rattle.std.specs.Prelude.{ℕ, List, [], unwrap_or}
 use Rattle.rc_config.specs.CommunityList.{no_lines as no_community_lines, with_line as community_list_with}
-use Rattle.rc_config.specs.Filter.{no_lines as no_filter_lines, with_line as filter_with}
+use Rattle.rc_config.specs.AccessList.{no_lines as no_access_list_lines, with_line as access_list_with}
 use Rattle.rc_config.specs.Named.{named, with_value}
 use Rattle.rc_config.specs.PrefixList.{no_lines as no_prefix_lines, with_line as prefix_list_with}
 use Rattle.rc_config.specs.declared.community_list.CommunityLine.{CommunityLine}
 use Rattle.rc_config.specs.declared.community_list.CommunityList.{CommunityList}
-use Rattle.rc_config.specs.declared.filter.Filter.{Filter}
-use Rattle.rc_config.specs.declared.filter.FilterKind.{FilterKind}
-use Rattle.rc_config.specs.declared.filter.FilterLine.{FilterLine}
+use Rattle.rc_config.specs.declared.access_list.AccessList.{AccessList}
+use Rattle.rc_config.specs.declared.access_list.AccessListKind.{AccessListKind}
+use Rattle.rc_config.specs.declared.access_list.AccessListLine.{AccessListLine}
 use Rattle.rc_config.specs.declared.lists.Lists.{Lists}
 use Rattle.rc_config.specs.declared.prefix_list.PrefixLine.{PrefixLine}
 use Rattle.rc_config.specs.declared.prefix_list.PrefixList.{PrefixList}
 
 abbrev pub no_lists : Lists
-no_lists = record { filters = []; prefix_lists = []; community_lists = [] }
+no_lists = record { access_lists = []; prefix_lists = []; community_lists = [] }
 
 -- the access list of a name, one of this kind without lines where there is none
-abbrev pub filter_named : Lists → List ℕ → FilterKind → Filter
-filter_named l name kind = unwrap_or (named l.filters name) (no_filter_lines kind)
+abbrev pub access_list_named : Lists → List ℕ → AccessListKind → AccessList
+access_list_named l name kind = unwrap_or (named l.access_lists name) (no_access_list_lines kind)
 
 -- the lists with this access list under a name, which keeps its place or goes last
-abbrev pub with_filter : Lists → List ℕ → Filter → Lists
-with_filter l name f = record l { filters = with_value l.filters name f }
+abbrev pub with_access_list : Lists → List ℕ → AccessList → Lists
+with_access_list l name f = record l { access_lists = with_value l.access_lists name f }
 
 -- an access list that is there keeps its lines where it is opened again
-abbrev pub with_filter_opened : Lists → List ℕ → FilterKind → Lists
-with_filter_opened l name kind = with_filter l name (filter_named l name kind)
+abbrev pub with_access_list_opened : Lists → List ℕ → AccessListKind → Lists
+with_access_list_opened l name kind = with_access_list l name (access_list_named l name kind)
 
 -- a line of an access list goes to its place by number
-abbrev pub with_filter_line : Lists → List ℕ → FilterKind → FilterLine → Lists
-with_filter_line l name kind line = with_filter l name (filter_with (filter_named l name kind) line)
+abbrev pub with_access_list_line : Lists → List ℕ → AccessListKind → AccessListLine → Lists
+with_access_list_line l name kind line = with_access_list l name (access_list_with (access_list_named l name kind) line)
 
 -- the prefix list of a name, one without lines where there is none
 abbrev pub prefix_list_named : Lists → List ℕ → PrefixList

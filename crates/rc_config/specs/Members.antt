@@ -4,13 +4,13 @@
 use Rattle.std.specs.Prelude.{ℕ, List, [], ◌∷◌, length, map, Option, slice_get}
 use Rattle.std.specs.List.{range_with_len, flat_map}
 use Rattle.std.specs.Option.{option_map, option_map_or}
-use Rattle.rc_base.specs.declared.place.IfId.{IfId}
-use Rattle.rc_base.specs.declared.place.Pos.{Pos}
-use Rattle.rc_base.specs.declared.place.Pos.TheVariants.{Own, Entering}
+use Rattle.rc_base.specs.declared.position.IfId.{IfId}
+use Rattle.rc_base.specs.declared.position.Pos.{Pos}
+use Rattle.rc_base.specs.declared.position.Pos.TheVariants.{Own, Entering}
 use Rattle.rc_config.specs.declared.interface.Interface.{Interface}
 use Rattle.rc_config.specs.declared.router_text.RouterText.{RouterText}
 use Rattle.rc_config.specs.declared.network.Network.{Network}
-use Rattle.rc_config.specs.Named.{place_of}
+use Rattle.rc_config.specs.Named.{index_of}
 
 -- all routers, in their order
 abbrev pub router_ids : Network → List ℕ
@@ -42,8 +42,8 @@ positions net = flat_map (λ r. Own r ∷ map Entering (interface_ids net r)) (r
 
 -- the router of a host name
 abbrev pub router_named : Network → List ℕ → Option ℕ
-router_named net name = place_of net.routers name
+router_named net name = index_of net.routers name
 
 -- the interface of a router that has this name
 abbrev pub interface_named : Network → ℕ → List ℕ → Option IfId
-interface_named net r name = option_map (λ n. record { router = r; index = n }) (place_of (interfaces_of net r) name)
+interface_named net r name = option_map (λ n. record { router = r; index = n }) (index_of (interfaces_of net r) name)

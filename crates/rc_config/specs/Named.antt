@@ -12,9 +12,9 @@ use Rattle.rc_base.specs.Name.{same_name}
 abbrev pub named : {V : Type 0} → List (List ℕ × V) → List ℕ → Option V
 named entries name = lookup (same_name name) entries
 
--- the place of a name
-abbrev pub place_of : {V : Type 0} → List (List ℕ × V) → List ℕ → Option ℕ
-place_of entries name = position (same_name name) (keys_of entries)
+-- the index of a name
+abbrev pub index_of : {V : Type 0} → List (List ℕ × V) → List ℕ → Option ℕ
+index_of entries name = position (same_name name) (keys_of entries)
 
 -- the entries with a value under a name: a name that is there keeps its place, and a new one goes last
 abbrev pub with_value : {V : Type 0} → List (List ℕ × V) → List ℕ → V → List (List ℕ × V)

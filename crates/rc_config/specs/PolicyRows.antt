@@ -5,7 +5,7 @@ use Rattle.rc_base.specs.declared.origin.Origin.TheVariants.{Igp, Incomplete}
 use Rattle.rc_config.specs.PrefixList as prefixes
 use Rattle.rc_config.specs.RouteMap.{fresh_entry, no_entries, opened, with_line}
 use Rattle.rc_config.specs.Sets.{no_sets, with_set}
-use Rattle.rc_config.specs.declared.filter.Action.TheVariants.{Permit, Deny}
+use Rattle.rc_config.specs.declared.access_list.Action.TheVariants.{Permit, Deny}
 use Rattle.rc_config.specs.declared.map_line.MapLine.{MapLine}
 use Rattle.rc_config.specs.declared.map_line.MapLine.TheVariants.{Match, Set}
 use Rattle.rc_config.specs.declared.map_line.MatchKind.{MatchKind}

@@ -3,7 +3,7 @@ use Rattle.std.specs.Prelude.{ℕ, ◌≤◌, List, [], ◌++◌, All, map, leng
 use Rattle.std.specs.Option.{option_map_or, unwrap_or}
 use Rattle.rc_config.specs.ByNumber.{placed, with_number, IsByNumber}
 use Rattle.rc_config.specs.Sets.{no_sets, with_set, IsLawfulSet, IsPrepended}
-use Rattle.rc_config.specs.declared.filter.Action.{Action}
+use Rattle.rc_config.specs.declared.access_list.Action.{Action}
 use Rattle.rc_config.specs.declared.map_line.MapLine.{MapLine}
 use Rattle.rc_config.specs.declared.map_line.MapLine.TheVariants.{Match, Set}
 use Rattle.rc_config.specs.declared.map_line.MatchKind.{MatchKind}

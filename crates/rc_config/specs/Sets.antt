@@ -2,8 +2,15 @@
 use Rattle.std.specs.Prelude.{ℕ, ◌≤◌, if◌then◌else◌, List, [], All, length, Some, None}
 use Rattle.rc_config.specs.declared.map_line.SetLine.{SetLine}
 use Rattle.rc_config.specs.declared.map_line.SetLine.TheVariants.{LocalPreference, Metric, MetricType, Weight, Origin, Communities, Prepend}
+use Rattle.rc_config.specs.declared.sets.MetricType.{MetricType as ExternalType}
+use Rattle.rc_config.specs.declared.sets.MetricType.TheVariants.{Type1, Type2}
 use Rattle.rc_config.specs.declared.sets.CommunityChange.TheVariants.{Keep, Replace, Add}
 use Rattle.rc_config.specs.declared.sets.Sets.{Sets}
+
+-- the type of an external metric (RFC 2328 s.2.3): any type 1 is preferred to any type 2
+abbrev pub metric_type_number : ExternalType → ℕ
+metric_type_number Type1 = 1
+metric_type_number Type2 = 2
 
 -- nothing is set
 abbrev pub no_sets : Sets

@@ -1,14 +1,14 @@
 -- What a command changes in the model of a file.
 use Rattle.std.specs.Prelude.{ℕ, List, [], ◌∷◌, ◌++◌, Some, None, unwrap_or}
 use Rattle.rc_config.specs.declared.command.Command.{Command}
-use Rattle.rc_config.specs.declared.command.Command.TheVariants.{Passed, Remark, Hostname, Interface, Address, Shutdown, Bandwidth, StaticRoute, FilterOpened, FilterLine, AccessGroup, PrefixLine, CommunityLine, MapOpened, MapLine}
+use Rattle.rc_config.specs.declared.command.Command.TheVariants.{Passed, Remark, Hostname, Interface, Address, Shutdown, Bandwidth, StaticRoute, AccessListOpened, AccessListLine, AccessGroup, PrefixLine, CommunityLine, MapOpened, MapLine}
 use Rattle.rc_config.specs.declared.interface.Interface.{Interface as Block}
 use Rattle.rc_config.specs.declared.lists.Lists.{Lists}
 use Rattle.rc_config.specs.declared.route_map.RouteMap.{RouteMap}
 use Rattle.rc_config.specs.declared.router_text.RouterText.{RouterText}
 use Rattle.rc_config.specs.declared.static_route.StaticRoute.{StaticRoute as Route}
 use Rattle.rc_config.specs.Interface.{fresh, with_address, with_group}
-use Rattle.rc_config.specs.Lists.{no_lists, with_filter_opened, with_filter_line, with_prefix_line, with_community_line}
+use Rattle.rc_config.specs.Lists.{no_lists, with_access_list_opened, with_access_list_line, with_prefix_line, with_community_line}
 use Rattle.rc_config.specs.Named.{named, with_value}
 use Rattle.rc_config.specs.RouteMap.{no_entries, opened, with_line}
 
@@ -51,8 +51,8 @@ after r (Address name a secondary) = with_interface r name (with_address (interf
 after r (Shutdown name down) = with_interface r name (record (interface_named r name) { shutdown = down })
 after r (Bandwidth name kbits) = with_interface r name (record (interface_named r name) { bandwidth = Some kbits })
 after r (StaticRoute route) = with_static_route r route
-after r (FilterOpened name kind) = with_lists r (with_filter_opened r.lists name kind)
-after r (FilterLine name kind line) = with_lists r (with_filter_line r.lists name kind line)
+after r (AccessListOpened name kind) = with_lists r (with_access_list_opened r.lists name kind)
+after r (AccessListLine name kind line) = with_lists r (with_access_list_line r.lists name kind line)
 after r (AccessGroup name list direction) = with_interface r name (with_group (interface_named r name) list direction)
 after r (PrefixLine name line) = with_lists r (with_prefix_line r.lists name line)
 after r (CommunityLine name line) = with_lists r (with_community_line r.lists name line)

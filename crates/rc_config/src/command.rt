@@ -1,12 +1,12 @@
 //! What one line of a configuration says.
 use crate::{
-    Action, CommunityLine, Direction, FilterKind, FilterLine, IfAddr, MapLine, PrefixLine,
+    Action, CommunityLine, Direction, AccessListKind, AccessListLine, IfAddr, MapLine, PrefixLine,
     StaticRoute,
 };
 use rc_base::Name;
 
 /// What one line of a configuration says: a form with its values, and the interface in whose block it stands.
-#[derive(Debug, Drop)]
+#[derive(Drop)]
 pub enum Command {
     /// A line that says nothing here.
     Passed,
@@ -45,15 +45,15 @@ pub enum Command {
     },
     /// `ip access-list standard NAME`, or `ip access-list extended NAME`: the block of a new list, or that of a known one
     /// again.
-    FilterOpened {
+    AccessListOpened {
         list: Name,
-        kind: FilterKind,
+        kind: AccessListKind,
     },
     /// A line of an access list of this kind, which is made where it isn't there.
-    FilterLine {
+    AccessListLine {
         list: Name,
-        kind: FilterKind,
-        line: FilterLine,
+        kind: AccessListKind,
+        line: AccessListLine,
     },
     /// `ip access-group NAME in`, or `ip access-group NAME out`. The list need not be there.
     AccessGroup {

@@ -7,7 +7,7 @@ use rc_base::{Communities, Items};
 use std::alloc::{AllocError, Global};
 
 /// A line of a community list. It matches the routes that have all of its communities (RFC 1997).
-#[derive(Debug, Drop, PartialEq, Eq)]
+#[derive(Drop, PartialEq, Eq)]
 pub struct CommunityLine {
     pub action: Action,
     pub communities: Communities,

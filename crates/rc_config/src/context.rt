@@ -1,13 +1,13 @@
 //! Where a line stands.
 ghost use Rattle.std.specs.Prelude.{◌≡◌};
 
-use crate::{FilterKind, RouterText};
+use crate::{AccessListKind, RouterText};
 use rc_base::Name;
 use rc_openings::Block;
 
 /// The block that is open at a line.
-#[derive(Clone, Copy, Debug)]
-pub enum Place {
+#[derive(Clone, Copy)]
+pub enum OpenBlock {
     /// None is open, and the line is indented.
     Closed,
     /// The line has no indent.
@@ -15,27 +15,27 @@ pub enum Place {
     /// The block of this interface.
     Interface(Name),
     /// The block of this named access list, which is of this kind.
-    Acl(Name, FilterKind),
+    AccessList(Name, AccessListKind),
     /// The block of the entry of this number of a route map.
     Map(Name, u32),
     /// A block whose lines are all passed over.
     Ignored,
 }
 
-impl Place {
-    ghost use Rattle.rc_config.specs.Place.{block_at};
+impl OpenBlock {
+    ghost use Rattle.rc_config.specs.OpenBlock.{block_at};
 
     /// The kind of the block, which has its openings.
-    pub fn block(&self) -> Block
+    pub fn kind(&self) -> Block
         ensures { result ≡ block_at self.now }
     {
         match self {
-            Place::Closed => Block::Closed,
-            Place::Global => Block::Global,
-            Place::Interface(_) => Block::Interface,
-            Place::Acl(_, _) => Block::Acl,
-            Place::Map(_, _) => Block::RouteMap,
-            Place::Ignored => Block::Ignored,
+            OpenBlock::Closed => Block::Closed,
+            OpenBlock::Global => Block::Global,
+            OpenBlock::Interface(_) => Block::Interface,
+            OpenBlock::AccessList(_, _) => Block::AccessList,
+            OpenBlock::Map(_, _) => Block::RouteMap,
+            OpenBlock::Ignored => Block::Ignored,
         }
     }
 }
@@ -43,6 +43,6 @@ impl Place {
 /// Where a line stands: the open block, and what the file has said before.
 #[derive(Clone, Copy)]
 pub struct Context<'a> {
-    pub place: Place,
+    pub block: OpenBlock,
     pub file: &'a RouterText,
 }

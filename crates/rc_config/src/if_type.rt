@@ -6,7 +6,7 @@ ghost use Rattle.rc_config.specs.IfType.{all_types, front_of, nominal_bandwidth,
 use rc_base::Name;
 
 /// A type of interfaces that may have addresses. An interface of any other type is taken, and has none.
-#[derive(Clone, Copy, Debug, PartialEq, Eq)]
+#[derive(Clone, Copy, PartialEq, Eq)]
 pub enum IfType {
     Ethernet,
     FastEthernet,

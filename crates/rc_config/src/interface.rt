@@ -11,7 +11,7 @@ use std::marker::Model;
 /// An address of an interface with the length of its mask, from 1 to 32, seen as the record of the two.
 ///
 /// The address is kept whole, its host bits too.
-#[derive(Clone, Copy, Debug, PartialEq, Eq)]
+#[derive(Clone, Copy, PartialEq, Eq)]
 pub struct IfAddr {
     addr: Addr,
     len: u8,
@@ -64,7 +64,7 @@ impl IfAddr {
 }
 
 /// The direction in which an access list filters at an interface.
-#[derive(Clone, Copy, Debug, PartialEq, Eq)]
+#[derive(Clone, Copy, PartialEq, Eq)]
 pub enum Direction {
     /// What enters there.
     In,
@@ -84,9 +84,9 @@ pub struct Interface {
     /// The bandwidth that the block sets, from 1 to 10,000,000 kbit/s.
     pub bandwidth: Option<u32>,
     /// The list of the last line `ip access-group NAME in`. The file may have no list of this name.
-    pub filter_in: Option<Name>,
+    pub access_group_in: Option<Name>,
     /// The list of the last line `ip access-group NAME out`, likewise.
-    pub filter_out: Option<Name>,
+    pub access_group_out: Option<Name>,
 }
 
 impl Interface {
@@ -101,8 +101,8 @@ impl Interface {
             secondary: Items::new(alloc),
             shutdown: false,
             bandwidth: None,
-            filter_in: None,
-            filter_out: None,
+            access_group_in: None,
+            access_group_out: None,
         }
     }
 
@@ -127,8 +127,8 @@ impl Interface {
         ensures { result ≡ with_group self list direction }
     {
         match direction {
-            Direction::In => self.filter_in = Some(list),
-            Direction::Out => self.filter_out = Some(list),
+            Direction::In => self.access_group_in = Some(list),
+            Direction::Out => self.access_group_out = Some(list),
         }
         self
     }
@@ -138,8 +138,8 @@ impl Interface {
         ensures { option_copied result ≡ group_of self.now direction }
     {
         match direction {
-            Direction::In => self.filter_in.as_ref(),
-            Direction::Out => self.filter_out.as_ref(),
+            Direction::In => self.access_group_in.as_ref(),
+            Direction::Out => self.access_group_out.as_ref(),
         }
     }
 }

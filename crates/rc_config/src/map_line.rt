@@ -3,7 +3,7 @@ use crate::MetricType;
 use rc_base::{Communities, Items, Name, Origin};
 
 /// The openings of `match` lines. Each makes a condition of its own.
-#[derive(Clone, Copy, Debug, PartialEq, Eq)]
+#[derive(Clone, Copy, PartialEq, Eq)]
 pub enum MatchKind {
     /// `match ip address`: standard access lists, which test the network address of the route.
     AccessList,
@@ -14,7 +14,7 @@ pub enum MatchKind {
 }
 
 /// A `set` line.
-#[derive(Debug, Drop)]
+#[derive(Drop)]
 pub enum SetLine {
     /// `set local-preference` (RFC 4271 s.5.1.5)
     LocalPreference(u32),
@@ -36,7 +36,7 @@ pub enum SetLine {
 }
 
 /// What one line in a block of a route map says.
-#[derive(Debug, Drop)]
+#[derive(Drop)]
 pub enum MapLine {
     /// A `match` line with its names and its number.
     Match {

@@ -6,9 +6,15 @@ use crate::{Interface, Named, RouterText};
 use rc_base::{IfId, Name, RouterId};
 
 /// A network: the models of its files under their host names, in byte order of these.
-#[derive(Drop)]
 pub struct Network {
     pub routers: Named<RouterText>,
+}
+
+/// By a function of its own, so that what holds a network drops it by one call.
+impl Drop for Network {
+    fn drop(self) {
+        let Network { routers: _ } = self;
+    }
 }
 
 impl Network {
@@ -18,7 +24,7 @@ impl Network {
     pub fn router(&self, name: &Name) -> Option<RouterId>
         ensures { result ≡ router_named self.now name.now }
     {
-        let place = self.routers.place_of(name)?;
+        let place = self.routers.index_of(name)?;
         Some(RouterId::at(place))
     }
 
@@ -35,7 +41,7 @@ impl Network {
         ensures { result ≡ interface_named self.now router name.now }
     {
         let found = self.router_at(router)?;
-        let index = found.interfaces.place_of(name)?;
+        let index = found.interfaces.index_of(name)?;
         Some(IfId { router, index })
     }
 

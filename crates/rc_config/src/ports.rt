@@ -6,7 +6,7 @@ ghost use Rattle.std.specs.Cmp.Rules.{comparing};
 ghost use Rattle.std.specs.Cmp.Lexicographic.{pointwise, slice_cmp};
 ghost use Rattle.std.specs.Ordering.{nat_cmp, as_partial_cmp};
 ghost use Rattle.std.proofs.Common.{rules};
-ghost use Rattle.rc_config.specs.FilterPorts.{are_ports, ports_of};
+ghost use Rattle.rc_config.specs.PortLists.{are_ports, ports_of};
 
 use std::cmp::Ordering;
 use std::marker::Model;
@@ -14,7 +14,7 @@ use std::marker::Model;
 /// The one to ten ports of a test `eq` or `neq`, seen as their list. It takes no memory.
 ///
 /// Ports are equal and ordered as their lists are.
-#[derive(Clone, Copy, Debug)]
+#[derive(Clone, Copy)]
 pub struct Ports {
     ports: [u16; 10],
     len: u8,
@@ -25,7 +25,7 @@ impl Model for Ports {
 
     ghost Value = { List ℕ };
 
-    ghost use Rattle.rc_config.specs.FilterPorts.{padded, IsPadded, padded-take};
+    ghost use Rattle.rc_config.specs.PortLists.{padded, IsPadded, padded-take};
 
     ghost view = { λ p. take p.len p.ports };
 

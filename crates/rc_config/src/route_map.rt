@@ -8,7 +8,7 @@ use rc_base::{Items, Name};
 use std::alloc::{AllocError, Global};
 
 /// A list that a `match` line names, and the number of the line.
-#[derive(Clone, Copy, Debug, PartialEq, Eq)]
+#[derive(Clone, Copy, PartialEq, Eq)]
 pub struct Mention {
     pub name: Name,
     pub line: u64,
@@ -16,7 +16,6 @@ pub struct Mention {
 
 /// An entry of a route map. Each of its three lists of names is a condition, which holds where one of the lists so named
 /// permits, and no condition where it is empty.
-#[derive(Drop)]
 pub struct MapEntry {
     /// The number, from 0 to 65535.
     pub number: u32,
@@ -28,6 +27,20 @@ pub struct MapEntry {
     /// What the lines `match community` name.
     pub community_lists: Items<Mention>,
     pub sets: Sets,
+}
+
+/// By a function of its own, so that what holds one drops it by one call.
+impl Drop for MapEntry {
+    fn drop(self) {
+        let MapEntry {
+            number: _,
+            action: _,
+            access_lists: _,
+            prefix_lists: _,
+            community_lists: _,
+            sets: _,
+        } = self;
+    }
 }
 
 impl Numbered for MapEntry {
@@ -91,7 +104,7 @@ impl MapEntry {
                 line,
             ),
             MapLine::Set(set) => {
-                self.sets = self.sets.with_line(set);
+                self.sets.put_line(set);
                 Ok(self)
             }
         }

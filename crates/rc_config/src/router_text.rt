@@ -1,27 +1,30 @@
 //! The model of a file.
-ghost use Rattle.std.specs.Prelude.{◌≡◌, IfOk, OnOk};
+ghost use Rattle.std.specs.Prelude.{◌≡◌, IfOk, OnOk, unwrap_or, ◌++◌, ◌∷◌, []};
 ghost use Rattle.rc_config.specs.Lawful.{FitsFile, HasLawfulInterfaces, HasLawfulLists, HasLawfulRoutes, IsInRange};
-ghost use Rattle.rc_config.specs.Lists.{with_community_line as community_line_put, with_filter_line as filter_line_put, with_filter_opened as filter_opened, with_prefix_line as prefix_line_put};
-ghost use Rattle.rc_config.specs.RouteMap.{opened, with_line};
+ghost use Rattle.rc_config.specs.CommunityList.{no_lines as no_community_lines, with_line as community_list_with};
+ghost use Rattle.rc_config.specs.AccessList.{no_lines as no_access_list_lines, with_line as access_list_with};
+ghost use Rattle.rc_config.specs.Named.{named, with_value};
+ghost use Rattle.rc_config.specs.PrefixList.{no_lines as no_prefix_lines, with_line as prefix_list_with};
+ghost use Rattle.rc_config.specs.RouteMap.{no_entries, opened, with_line};
 ghost use Rattle.rc_config.specs.Interface.{fresh, with_address as address_put, with_group as group_put};
-ghost use Rattle.rc_config.specs.Update.{after, empty, interface_named as interface_of, route_map_named as map_of, with_interface as with_block, with_lists, with_route_map as with_map, with_static_route as with_route};
+ghost use Rattle.rc_config.specs.Update.{after, empty};
 
 use crate::{
-    Action, Command, CommunityLine, Direction, FilterKind, FilterLine, IfAddr, Interface, Lists,
-    MapLine, Named, PrefixLine, RouteMap, StaticRoute, Target,
+    Action, Command, CommunityLine, CommunityList, Direction, AccessList, AccessListKind, AccessListLine,
+    IfAddr, Interface, Lists, MapLine, Named, PrefixLine, PrefixList, RouteMap, StaticRoute,
+    Target,
 };
 use rc_base::{Items, Name};
 use std::alloc::{AllocError, Global};
 
 /// A host name, and the number of the line that gives it.
-#[derive(Clone, Copy, Debug, PartialEq, Eq)]
+#[derive(Clone, Copy, PartialEq, Eq)]
 pub struct HostLine {
     pub name: Name,
     pub line: u64,
 }
 
 /// What the lines of a file say of its router.
-#[derive(Drop)]
 pub struct RouterText {
     /// The host name, where a line gives one.
     pub host: Option<HostLine>,
@@ -34,6 +37,19 @@ pub struct RouterText {
     /// The route maps in the order of first mention. A route map is there where a line opens an entry of it, and not where it
     /// is only named elsewhere.
     pub route_maps: Named<RouteMap>,
+}
+
+/// By a function of its own, so that what holds a model drops it by one call.
+impl Drop for RouterText {
+    fn drop(self) {
+        let RouterText {
+            host: _,
+            interfaces: _,
+            static_routes: _,
+            lists: _,
+            route_maps: _,
+        } = self;
+    }
 }
 
 impl RouterText {
@@ -73,202 +89,243 @@ impl RouterText {
     fn put_command(mut self, command: Command) -> Result<RouterText, AllocError>
         ensures { IfOk result (λ r. r ≡ after self command) }
     {
+        self.put_into(command)?;
+        Ok(self)
+    }
+
+    /// One more command.
+    fn put_into(&mut self, command: Command) -> Result<(), AllocError>
+        ensures { OnOk result (self.new ≡ after self.old command) }
+    {
         match command {
-            Command::Passed => Ok(self),
-            Command::Remark => Ok(self),
+            Command::Passed => Ok(()),
+            Command::Remark => Ok(()),
             Command::Hostname { name, line } => {
                 self.host = Some(HostLine { name, line });
-                Ok(self)
+                Ok(())
             }
-            Command::Interface { name, line: _ } => self.with_opened(name),
+            Command::Interface { name, line: _ } => put_opened(&mut self.interfaces, name),
             Command::Address {
                 interface,
                 address,
                 secondary,
-            } => self.with_address(interface, address, secondary),
-            Command::Shutdown { interface, down } => self.with_shutdown(interface, down),
-            Command::Bandwidth { interface, kbits } => self.with_bandwidth(interface, kbits),
-            Command::StaticRoute { route } => self.with_static_route(route),
-            Command::FilterOpened { list, kind } => self.with_filter_opened(list, kind),
-            Command::FilterLine { list, kind, line } => self.with_filter_line(list, kind, line),
+            } => put_address(&mut self.interfaces, interface, address, secondary),
+            Command::Shutdown { interface, down } => {
+                put_shutdown(&mut self.interfaces, interface, down)
+            }
+            Command::Bandwidth { interface, kbits } => {
+                put_bandwidth(&mut self.interfaces, interface, kbits)
+            }
+            Command::StaticRoute { route } => put_route(&mut self.static_routes, route),
+            Command::AccessListOpened { list, kind } => {
+                put_access_list_opened(&mut self.lists.access_lists, list, kind)
+            }
+            Command::AccessListLine { list, kind, line } => {
+                put_access_list_line(&mut self.lists.access_lists, list, kind, line)
+            }
             Command::AccessGroup {
                 interface,
                 list,
                 direction,
-            } => self.with_access_group(interface, list, direction),
-            Command::PrefixLine { list, line } => self.with_prefix_line(list, line),
-            Command::CommunityLine { list, line } => self.with_community_line(list, line),
+            } => put_group(&mut self.interfaces, interface, list, direction),
+            Command::PrefixLine { list, line } => {
+                put_prefix_line(&mut self.lists.prefix_lists, list, line)
+            }
+            Command::CommunityLine { list, line } => {
+                put_community_line(&mut self.lists.community_lists, list, line)
+            }
             Command::MapOpened {
                 map,
                 number,
                 action,
-            } => self.with_map_opened(map, number, action),
-            Command::MapLine { map, number, line } => self.with_map_line(map, number, line),
+            } => put_map_opened(&mut self.route_maps, map, number, action),
+            Command::MapLine { map, number, line } => {
+                put_map_line(&mut self.route_maps, map, number, line)
+            }
         }
     }
+}
 
-    /// `interface IF`
-    #[tactic(auto, using(crate::proofs::NamedLaws::with_value_again))]
-    fn with_opened(mut self, name: Name) -> Result<RouterText, AllocError>
-        ensures { IfOk result (λ r. r ≡ with_block self name (interface_of self name)) }
-    {
-        let block = self.lift(name)?;
-        self.with_interface(name, block)
-    }
+/// `interface IF`
+#[tactic(auto, using(crate::proofs::NamedLaws::with_value_again))]
+fn put_opened(blocks: &mut Named<Interface>, name: Name) -> Result<(), AllocError>
+    ensures { OnOk result (blocks.new ≡ with_value blocks.old name (unwrap_or (named blocks.old name) fresh)) }
+{
+    let block = lift(blocks, name)?;
+    put_block(blocks, name, block)
+}
 
-    /// `ip address`
-    #[tactic(auto, using(crate::proofs::NamedLaws::with_value_again))]
-    fn with_address(
-        mut self,
-        interface: Name,
-        address: IfAddr,
-        secondary: bool,
-    ) -> Result<RouterText, AllocError>
-        ensures { IfOk result (λ r. r ≡ with_block self interface (address_put (interface_of self interface) address secondary)) }
-    {
-        let block = self.lift(interface)?;
-        let block = block.with_address(address, secondary)?;
-        self.with_interface(interface, block)
-    }
+/// `ip address`
+#[tactic(auto, using(crate::proofs::NamedLaws::with_value_again))]
+fn put_address(
+    blocks: &mut Named<Interface>,
+    name: Name,
+    address: IfAddr,
+    secondary: bool,
+) -> Result<(), AllocError>
+    ensures { OnOk result (blocks.new ≡ with_value blocks.old name (address_put (unwrap_or (named blocks.old name) fresh) address secondary)) }
+{
+    let block = lift(blocks, name)?;
+    let block = block.with_address(address, secondary)?;
+    put_block(blocks, name, block)
+}
 
-    /// `shutdown` and `no shutdown`
-    #[tactic(auto, using(crate::proofs::NamedLaws::with_value_again))]
-    fn with_shutdown(mut self, interface: Name, down: bool) -> Result<RouterText, AllocError>
-        ensures { IfOk result (λ r. r ≡ with_block self interface (record (interface_of self interface) { shutdown = down })) }
-    {
-        let mut block = self.lift(interface)?;
-        block.shutdown = down;
-        self.with_interface(interface, block)
-    }
+/// `shutdown` and `no shutdown`
+#[tactic(auto, using(crate::proofs::NamedLaws::with_value_again))]
+fn put_shutdown(blocks: &mut Named<Interface>, name: Name, down: bool) -> Result<(), AllocError>
+    ensures { OnOk result (blocks.new ≡ with_value blocks.old name (record (unwrap_or (named blocks.old name) fresh) { shutdown = down })) }
+{
+    let mut block = lift(blocks, name)?;
+    block.shutdown = down;
+    put_block(blocks, name, block)
+}
 
-    /// `bandwidth`
-    #[tactic(auto, using(crate::proofs::NamedLaws::with_value_again))]
-    fn with_bandwidth(mut self, interface: Name, kbits: u32) -> Result<RouterText, AllocError>
-        ensures { IfOk result (λ r. r ≡ with_block self interface (record (interface_of self interface) { bandwidth = Some kbits })) }
-    {
-        let mut block = self.lift(interface)?;
-        block.bandwidth = Some(kbits);
-        self.with_interface(interface, block)
-    }
+/// `bandwidth`
+#[tactic(auto, using(crate::proofs::NamedLaws::with_value_again))]
+fn put_bandwidth(blocks: &mut Named<Interface>, name: Name, kbits: u32) -> Result<(), AllocError>
+    ensures { OnOk result (blocks.new ≡ with_value blocks.old name (record (unwrap_or (named blocks.old name) fresh) { bandwidth = Some kbits })) }
+{
+    let mut block = lift(blocks, name)?;
+    block.bandwidth = Some(kbits);
+    put_block(blocks, name, block)
+}
 
-    /// `ip access-group`
-    #[tactic(auto, using(crate::proofs::NamedLaws::with_value_again))]
-    fn with_access_group(
-        mut self,
-        interface: Name,
-        list: Name,
-        direction: Direction,
-    ) -> Result<RouterText, AllocError>
-        ensures { IfOk result (λ r. r ≡ with_block self interface (group_put (interface_of self interface) list direction)) }
-    {
-        let block = self.lift(interface)?;
-        let block = block.with_group(list, direction);
-        self.with_interface(interface, block)
-    }
+/// `ip access-group`
+#[tactic(auto, using(crate::proofs::NamedLaws::with_value_again))]
+fn put_group(
+    blocks: &mut Named<Interface>,
+    name: Name,
+    list: Name,
+    direction: Direction,
+) -> Result<(), AllocError>
+    ensures { OnOk result (blocks.new ≡ with_value blocks.old name (group_put (unwrap_or (named blocks.old name) fresh) list direction)) }
+{
+    let block = lift(blocks, name)?;
+    let block = block.with_group(list, direction);
+    put_block(blocks, name, block)
+}
 
-    /// `ip access-list standard` and `ip access-list extended`
-    fn with_filter_opened(mut self, list: Name, kind: FilterKind) -> Result<RouterText, AllocError>
-        ensures { IfOk result (λ r. r ≡ with_lists self (filter_opened self.lists list kind)) }
-    {
-        self.lists = self.lists.with_filter_opened(list, kind)?;
-        Ok(self)
-    }
+/// `ip access-list standard` and `ip access-list extended`
+#[tactic(auto, using(crate::proofs::NamedLaws::with_value_again))]
+fn put_access_list_opened(
+    access_lists: &mut Named<AccessList>,
+    name: Name,
+    kind: AccessListKind,
+) -> Result<(), AllocError>
+    ensures { OnOk result (access_lists.new ≡ with_value access_lists.old name (unwrap_or (named access_lists.old name) (no_access_list_lines kind))) }
+{
+    let alloc = access_lists.allocator();
+    let access_list = access_lists.lift(name, AccessList::new(alloc, kind), AccessList::new(alloc, kind))?;
+    access_lists.insert(name, access_list)?;
+    Ok(())
+}
 
-    /// A line of an access list.
-    fn with_filter_line(
-        mut self,
-        list: Name,
-        kind: FilterKind,
-        line: FilterLine,
-    ) -> Result<RouterText, AllocError>
-        ensures { IfOk result (λ r. r ≡ with_lists self (filter_line_put self.lists list kind line)) }
-    {
-        self.lists = self.lists.with_filter_line(list, kind, line)?;
-        Ok(self)
-    }
+/// A line of an access list. The list is taken out and put back, so that its lines are never copied.
+#[tactic(auto, using(crate::proofs::NamedLaws::with_value_again))]
+fn put_access_list_line(
+    access_lists: &mut Named<AccessList>,
+    name: Name,
+    kind: AccessListKind,
+    line: AccessListLine,
+) -> Result<(), AllocError>
+    ensures { OnOk result (access_lists.new ≡ with_value access_lists.old name (access_list_with (unwrap_or (named access_lists.old name) (no_access_list_lines kind)) line)) }
+{
+    let alloc = access_lists.allocator();
+    let access_list = access_lists.lift(name, AccessList::new(alloc, kind), AccessList::new(alloc, kind))?;
+    let access_list = access_list.with_line(line)?;
+    access_lists.insert(name, access_list)?;
+    Ok(())
+}
 
-    /// `ip prefix-list`
-    fn with_prefix_line(mut self, list: Name, line: PrefixLine) -> Result<RouterText, AllocError>
-        ensures { IfOk result (λ r. r ≡ with_lists self (prefix_line_put self.lists list line)) }
-    {
-        self.lists = self.lists.with_prefix_line(list, line)?;
-        Ok(self)
-    }
+/// `ip prefix-list`
+#[tactic(auto, using(crate::proofs::NamedLaws::with_value_again))]
+fn put_prefix_line(
+    lists: &mut Named<PrefixList>,
+    name: Name,
+    line: PrefixLine,
+) -> Result<(), AllocError>
+    ensures { OnOk result (lists.new ≡ with_value lists.old name (prefix_list_with (unwrap_or (named lists.old name) no_prefix_lines) line)) }
+{
+    let alloc = lists.allocator();
+    let known = lists.lift(name, PrefixList::new(alloc), PrefixList::new(alloc))?;
+    let known = known.with_line(line)?;
+    lists.insert(name, known)?;
+    Ok(())
+}
 
-    /// `ip community-list`
-    fn with_community_line(
-        mut self,
-        list: Name,
-        line: CommunityLine,
-    ) -> Result<RouterText, AllocError>
-        ensures { IfOk result (λ r. r ≡ with_lists self (community_line_put self.lists list line)) }
-    {
-        self.lists = self.lists.with_community_line(list, line)?;
-        Ok(self)
-    }
+/// `ip community-list`
+#[tactic(auto, using(crate::proofs::NamedLaws::with_value_again))]
+fn put_community_line(
+    lists: &mut Named<CommunityList>,
+    name: Name,
+    line: CommunityLine,
+) -> Result<(), AllocError>
+    ensures { OnOk result (lists.new ≡ with_value lists.old name (community_list_with (unwrap_or (named lists.old name) no_community_lines) line)) }
+{
+    let alloc = lists.allocator();
+    let known = lists.lift(name, CommunityList::new(alloc), CommunityList::new(alloc))?;
+    let known = known.with_line(line)?;
+    lists.insert(name, known)?;
+    Ok(())
+}
 
-    /// `route-map`
-    #[tactic(auto, using(crate::proofs::NamedLaws::with_value_again))]
-    fn with_map_opened(
-        mut self,
-        map: Name,
-        number: u32,
-        action: Action,
-    ) -> Result<RouterText, AllocError>
-        ensures { IfOk result (λ r. r ≡ with_map self map (opened (map_of self map) number action)) }
-    {
-        let alloc = self.route_maps.allocator();
-        let known = self
-            .route_maps
-            .lift(map, RouteMap::new(alloc), RouteMap::new(alloc))?;
-        self.route_maps
-            .insert(map, known.opened(alloc, number, action)?)?;
-        Ok(self)
-    }
+/// `route-map`
+#[tactic(auto, using(crate::proofs::NamedLaws::with_value_again))]
+fn put_map_opened(
+    maps: &mut Named<RouteMap>,
+    name: Name,
+    number: u32,
+    action: Action,
+) -> Result<(), AllocError>
+    ensures { OnOk result (maps.new ≡ with_value maps.old name (opened (unwrap_or (named maps.old name) no_entries) number action)) }
+{
+    let alloc = maps.allocator();
+    let known = maps.lift(name, RouteMap::new(alloc), RouteMap::new(alloc))?;
+    let known = known.opened(alloc, number, action)?;
+    maps.insert(name, known)?;
+    Ok(())
+}
 
-    /// A line in the block of an entry of a route map.
-    #[tactic(auto, using(crate::proofs::NamedLaws::with_value_again))]
-    fn with_map_line(
-        mut self,
-        map: Name,
-        number: u32,
-        line: MapLine,
-    ) -> Result<RouterText, AllocError>
-        ensures { IfOk result (λ r. r ≡ with_map self map (with_line (map_of self map) number line)) }
-    {
-        let alloc = self.route_maps.allocator();
-        let known = self
-            .route_maps
-            .lift(map, RouteMap::new(alloc), RouteMap::new(alloc))?;
-        self.route_maps.insert(map, known.with_line(number, line)?)?;
-        Ok(self)
-    }
+/// A line in the block of an entry of a route map.
+#[tactic(auto, using(crate::proofs::NamedLaws::with_value_again))]
+fn put_map_line(
+    maps: &mut Named<RouteMap>,
+    name: Name,
+    number: u32,
+    line: MapLine,
+) -> Result<(), AllocError>
+    ensures { OnOk result (maps.new ≡ with_value maps.old name (with_line (unwrap_or (named maps.old name) no_entries) number line)) }
+{
+    let alloc = maps.allocator();
+    let known = maps.lift(name, RouteMap::new(alloc), RouteMap::new(alloc))?;
+    let known = known.with_line(number, line)?;
+    maps.insert(name, known)?;
+    Ok(())
+}
 
-    /// Takes out the block of a name, a fresh one where there is none. Until it is put back a fresh one stands there.
-    fn lift(&mut self, name: Name) -> Result<Interface, AllocError>
-        ensures place { OnOk result (self.new ≡ with_block self.old name fresh) }
-        ensures block { IfOk result (λ i. i ≡ interface_of self.old name) }
-    {
-        let alloc = self.interfaces.allocator();
-        self.interfaces
-            .lift(name, Interface::new(alloc), Interface::new(alloc))
-    }
+/// Takes out the block of a name, a fresh one where there is none. Until it is put back a fresh one stands there.
+fn lift(blocks: &mut Named<Interface>, name: Name) -> Result<Interface, AllocError>
+    ensures place { OnOk result (blocks.new ≡ with_value blocks.old name fresh) }
+    ensures block { IfOk result (λ i. i ≡ unwrap_or (named blocks.old name) fresh) }
+{
+    let alloc = blocks.allocator();
+    blocks.lift(name, Interface::new(alloc), Interface::new(alloc))
+}
 
-    /// The model with this block under a name.
-    fn with_interface(mut self, name: Name, block: Interface) -> Result<RouterText, AllocError>
-        ensures { IfOk result (λ r. r ≡ with_block self name block) }
-    {
-        self.interfaces.insert(name, block)?;
-        Ok(self)
-    }
+/// The blocks with this one under a name.
+fn put_block(blocks: &mut Named<Interface>, name: Name, block: Interface) -> Result<(), AllocError>
+    ensures { OnOk result (blocks.new ≡ with_value blocks.old name block) }
+{
+    blocks.insert(name, block)?;
+    Ok(())
+}
 
-    /// The model with this static route behind the others.
-    fn with_static_route(mut self, route: StaticRoute) -> Result<RouterText, AllocError>
-        ensures { IfOk result (λ r. r ≡ with_route self route) }
-    {
-        // The generated proof of a push wants each enum within the element named in the function.
-        let _target: Target = Target::Null;
-        self.static_routes.push(route)?;
-        Ok(self)
-    }
+/// The static routes with this one behind the others.
+fn put_route(routes: &mut Items<StaticRoute>, route: StaticRoute) -> Result<(), AllocError>
+    ensures { OnOk result (routes.new ≡ routes.old ++ route ∷ []) }
+{
+    // The generated proof of a push wants each enum within the element named in the function.
+    let _target: Target = Target::Null;
+    routes.push(route)?;
+    Ok(())
 }

@@ -1,13 +1,15 @@
 //! What an entry of a route map sets.
 ghost use Rattle.std.specs.Prelude.{◌≡◌};
-ghost use Rattle.rc_config.specs.Sets.{no_sets, with_set};
+ghost use Rattle.std.specs.Ordering.{nat_cmp};
+ghost use Rattle.rc_config.specs.Sets.{metric_type_number, no_sets, with_set};
 
 use crate::SetLine;
 use rc_base::{Communities, Items, Origin};
 use std::alloc::Global;
+use std::cmp::Ordering;
 
 /// How the metric of an external route counts in OSPF (RFC 2328 s.2.3), the preferred type first.
-#[derive(Clone, Copy, Debug, PartialEq, Eq, PartialOrd, Ord)]
+#[derive(Clone, Copy, PartialEq, Eq, PartialOrd, Ord)]
 pub enum MetricType {
     /// In the units of the costs within OSPF: both are summed.
     Type1,
@@ -15,8 +17,15 @@ pub enum MetricType {
     Type2,
 }
 
+/// Type 1 before type 2, which is the derived order too.
+pub fn compare_metric_types(a: MetricType, b: MetricType) -> Ordering
+    ensures { result ≡ nat_cmp (metric_type_number a) (metric_type_number b) }
+{
+    a.cmp(&b)
+}
+
 /// What becomes of the communities of a route (RFC 1997).
-#[derive(Debug, Drop, PartialEq, Eq)]
+#[derive(Drop, PartialEq, Eq)]
 pub enum CommunityChange {
     /// They stay.
     Keep,
@@ -27,7 +36,7 @@ pub enum CommunityChange {
 }
 
 /// What an entry of a route map sets: of each opening the last line, where there is one.
-#[derive(Debug, Drop, PartialEq, Eq)]
+#[derive(Drop, PartialEq, Eq)]
 pub struct Sets {
     /// LOCAL_PREF (RFC 4271 s.5.1.5).
     pub local_preference: Option<u32>,
@@ -59,9 +68,9 @@ impl Sets {
         }
     }
 
-    /// The sets after one more line, which counts in place of an earlier one of the same opening. It takes no memory.
-    pub(crate) fn with_line(mut self, line: SetLine) -> Sets
-        ensures { result ≡ with_set self line }
+    /// Puts one more line, which counts in place of an earlier one of the same opening. It takes no memory.
+    pub(crate) fn put_line(&mut self, line: SetLine)
+        ensures { self.new ≡ with_set self.old line }
     {
         match line {
             SetLine::LocalPreference(number) => self.local_preference = Some(number),
@@ -81,6 +90,5 @@ impl Sets {
             }
             SetLine::Prepend(numbers) => self.prepended = numbers,
         }
-        self
     }
 }

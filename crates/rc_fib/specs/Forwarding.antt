@@ -3,7 +3,7 @@ use Rattle.std.specs.Prelude.{ℕ, zero, suc, Bool, true, false, List, [], ◌�
 use Rattle.std.specs.List.{flat_map, list_any, reduce}
 use Rattle.std.specs.Option.{option_map, option_map_or}
 use Rattle.rc_base.specs.Lists.{first_seen}
-use Rattle.rc_base.specs.Place.{same_interface}
+use Rattle.rc_base.specs.Positions.{same_interface}
 use Rattle.rc_base.specs.Prefix.{Cidr, contains}
 use Rattle.rc_route.specs.declared.route.Hop.{Hop}
 use Rattle.rc_route.specs.declared.route.Hop.TheVariants.{Null, Dev, Via}

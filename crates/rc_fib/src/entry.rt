@@ -3,7 +3,7 @@ use rc_base::{Items, Prefix};
 use rc_route::Hop;
 
 /// A route's prefix with the hops that it resolves to (RFC 1812 s.5.2.4.3).
-#[derive(Debug, Drop, PartialEq, Eq)]
+#[derive(Drop, PartialEq, Eq)]
 pub struct Entry {
     pub prefix: Prefix,
     /// In their order, each once.

@@ -10,7 +10,7 @@ use std::marker::Model;
 
 /// A route table with its hops resolved (RFC 1812 s.5.2.4.3), seen as the list of its entries: one for each route, in the
 /// table's order.
-#[derive(Debug, Drop)]
+#[derive(Drop)]
 pub struct Fib {
     entries: Items<Entry>,
 }

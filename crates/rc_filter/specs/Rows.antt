@@ -1,15 +1,15 @@
 -- Worked cases of access lists, each by computation.
 use Rattle.std.specs.Prelude.{◌≡◌, ℕ, ◌+◌, ◌*◌, true, false, List, [], ◌∷◌, Some, None, codes, refl}
 use Rattle.rc_base.specs.declared.header.Header.{Header}
-use Rattle.rc_config.specs.declared.filter.Action.{Action}
-use Rattle.rc_config.specs.declared.filter.Action.TheVariants.{Permit, Deny}
-use Rattle.rc_config.specs.declared.filter.AddressTest.{AddressTest}
-use Rattle.rc_config.specs.declared.filter.Filter.{Filter}
-use Rattle.rc_config.specs.declared.filter.FilterKind.TheVariants.{Extended}
-use Rattle.rc_config.specs.declared.filter.FilterLine.{FilterLine}
-use Rattle.rc_config.specs.declared.filter.PortTest.TheVariants.{Any, Equal, NotEqual, Below, Above, Within}
-use Rattle.rc_config.specs.declared.filter.ProtocolTest.TheVariants as protocol
-use Rattle.rc_config.specs.Filter.{any_address, host_address, standard_line}
+use Rattle.rc_config.specs.declared.access_list.Action.{Action}
+use Rattle.rc_config.specs.declared.access_list.Action.TheVariants.{Permit, Deny}
+use Rattle.rc_config.specs.declared.access_list.AddressTest.{AddressTest}
+use Rattle.rc_config.specs.declared.access_list.AccessList.{AccessList}
+use Rattle.rc_config.specs.declared.access_list.AccessListKind.TheVariants.{Extended}
+use Rattle.rc_config.specs.declared.access_list.AccessListLine.{AccessListLine}
+use Rattle.rc_config.specs.declared.access_list.PortTest.TheVariants.{Any, Equal, NotEqual, Below, Above, Within}
+use Rattle.rc_config.specs.declared.access_list.ProtocolTest.TheVariants as protocol
+use Rattle.rc_config.specs.AccessList.{any_address, host_address, standard_line}
 use Rattle.rc_filter.specs.Verdict.{same_bits, matches, matches_address, matches_protocol, matches_port, verdict, passes}
 
 -- a.b.c.d
@@ -151,7 +151,7 @@ abbrev packet : ℕ → ℕ → ℕ → Header
 packet proto sport dport = record { dst = address 192 0 2 1; src = address 10 0 0 1; proto = proto; sport = sport; dport = dport }
 
 -- permit tcp host 10.0.0.1 gt 1023 host 192.0.2.1 eq 22
-abbrev ssh : FilterLine
+abbrev ssh : AccessListLine
 ssh = record {
   sequence = 10;
   action = Permit;
@@ -187,11 +187,11 @@ unfolding matches same_bits
 destination_port_counts = refl
 
 -- ---- lists
-abbrev list : List FilterLine → Filter
+abbrev list : List AccessListLine → AccessList
 list lines = record { kind = Extended; lines = lines }
 
 -- a line for everything
-abbrev all : ℕ → Action → FilterLine
+abbrev all : ℕ → Action → AccessListLine
 all n action = standard_line n action any_address
 
 -- the first line that matches decides, whatever stands behind it
@@ -217,7 +217,7 @@ pub no_line_denies : verdict (list []) (packet 6 40000 22) ≡ false
 no_line_denies = refl
 
 -- ---- access groups
-abbrev lists : List (List ℕ × Filter)
+abbrev lists : List (List ℕ × AccessList)
 lists = (codes "101", list (ssh ∷ [])) ∷ (codes "102", list []) ∷ []
 
 pub group_permits : passes lists (Some (codes "101")) (packet 6 40000 22) ≡ true

@@ -4,15 +4,15 @@ use Rattle.std.specs.Int.{bit_at}
 use Rattle.std.specs.List.{list_any, list_all, find, range_with_len}
 use Rattle.std.specs.Option.{option_map_or}
 use Rattle.rc_base.specs.declared.header.Header.{Header}
-use Rattle.rc_config.specs.declared.filter.Action.{Action}
-use Rattle.rc_config.specs.declared.filter.Action.TheVariants.{Permit, Deny}
-use Rattle.rc_config.specs.declared.filter.AddressTest.{AddressTest}
-use Rattle.rc_config.specs.declared.filter.Filter.{Filter}
-use Rattle.rc_config.specs.declared.filter.FilterLine.{FilterLine}
-use Rattle.rc_config.specs.declared.filter.PortTest.{PortTest}
-use Rattle.rc_config.specs.declared.filter.PortTest.TheVariants.{Any, Equal, NotEqual, Below, Above, Within}
-use Rattle.rc_config.specs.declared.filter.ProtocolTest.{ProtocolTest}
-use Rattle.rc_config.specs.declared.filter.ProtocolTest.TheVariants as protocol
+use Rattle.rc_config.specs.declared.access_list.Action.{Action}
+use Rattle.rc_config.specs.declared.access_list.Action.TheVariants.{Permit, Deny}
+use Rattle.rc_config.specs.declared.access_list.AddressTest.{AddressTest}
+use Rattle.rc_config.specs.declared.access_list.AccessList.{AccessList}
+use Rattle.rc_config.specs.declared.access_list.AccessListLine.{AccessListLine}
+use Rattle.rc_config.specs.declared.access_list.PortTest.{PortTest}
+use Rattle.rc_config.specs.declared.access_list.PortTest.TheVariants.{Any, Equal, NotEqual, Below, Above, Within}
+use Rattle.rc_config.specs.declared.access_list.ProtocolTest.{ProtocolTest}
+use Rattle.rc_config.specs.declared.access_list.ProtocolTest.TheVariants as protocol
 use Rattle.rc_config.specs.Named.{named}
 
 -- the k-th bit of two addresses is the same, or its wildcard bit is 1
@@ -42,7 +42,7 @@ matches_port (Above q) p = nat_lt q p
 matches_port (Within low high) p = nat_le low p && nat_le p high
 
 -- a header passes all tests of a line
-unfoldable pub matches : FilterLine → Header → Bool
+unfoldable pub matches : AccessListLine → Header → Bool
 matches l h =
     matches_protocol l.protocol h.proto && matches_address l.source h.src && matches_port l.source_port h.sport && matches_address l.destination h.dst && matches_port l.destination_port h.dport
 
@@ -51,18 +51,18 @@ permits Permit = true
 permits Deny = false
 
 -- the action of the first line that matches, else deny
-abbrev pub first_action : List FilterLine → Header → Bool
-first_action lines h = option_map_or (λ (l : FilterLine). permits l.action) (find (λ l. matches l h) lines) false
+abbrev pub first_action : List AccessListLine → Header → Bool
+first_action lines h = option_map_or (λ (l : AccessListLine). permits l.action) (find (λ l. matches l h) lines) false
 
-abbrev pub verdict : Filter → Header → Bool
+abbrev pub verdict : AccessList → Header → Bool
 verdict f h = first_action f.lines h
 
 -- what a list passes as an access group: everything where it has no line
-abbrev pub group_verdict : List FilterLine → Header → Bool
+abbrev pub group_verdict : List AccessListLine → Header → Bool
 group_verdict [] h = true
 group_verdict (l ∷ lines) h = first_action (l ∷ lines) h
 
 -- what an access group passes: everything where there is none, or none of its name is there, else what its list passes
-abbrev pub passes : List (List ℕ × Filter) → Option (List ℕ) → Header → Bool
-passes filters None h = true
-passes filters (Some name) h = option_map_or (λ (f : Filter). group_verdict f.lines h) (named filters name) true
+abbrev pub passes : List (List ℕ × AccessList) → Option (List ℕ) → Header → Bool
+passes access_lists None h = true
+passes access_lists (Some name) h = option_map_or (λ (f : AccessList). group_verdict f.lines h) (named access_lists name) true

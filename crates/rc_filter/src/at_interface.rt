@@ -15,7 +15,7 @@ pub fn passes_at(network: &Network, interface: IfId, direction: Direction, heade
         return true;
     };
     match router.interfaces.at(interface.index) {
-        Some((_, block)) => passes(&router.lists.filters, block.group(direction), header),
+        Some((_, block)) => passes(&router.lists.access_lists, block.group(direction), header),
         None => true,
     }
 }

@@ -4,7 +4,7 @@ ghost use Rattle.std.specs.List.{list_any};
 ghost use Rattle.rc_filter.specs.Verdict.{first_action, matches, matches_address, matches_port, matches_protocol, permits, verdict};
 
 use rc_base::{Addr, Header};
-use rc_config::{Action, AddressTest, ByNumber, Filter, FilterLine, PortTest, ProtocolTest};
+use rc_config::{Action, AddressTest, ByNumber, AccessList, AccessListLine, PortTest, ProtocolTest};
 
 /// Whether an address passes a test: each bit whose wildcard bit is 0 is that of the test's address.
 #[tactic(auto, using(crate::proofs::BitLaws::same_by_mask))]
@@ -48,7 +48,7 @@ fn matches_port(test: &PortTest, port: u16) -> bool
 
 /// Whether a header passes all tests of a line.
 #[tactic(auto, unfolding(crate::specs::Verdict::matches))]
-pub fn matches_line(line: &FilterLine, header: &Header) -> bool
+pub fn matches_line(line: &AccessListLine, header: &Header) -> bool
     ensures { result ≡ matches line.now header.now }
 {
     matches_protocol(line.protocol, header.proto)
@@ -59,7 +59,7 @@ pub fn matches_line(line: &FilterLine, header: &Header) -> bool
 }
 
 /// Whether the first of the lines that matches permits.
-fn first_permits(lines: &ByNumber<FilterLine>, header: &Header) -> bool
+fn first_permits(lines: &ByNumber<AccessListLine>, header: &Header) -> bool
     ensures { result ≡ first_action lines.now header.now }
 {
     for line in lines.iter() {
@@ -71,8 +71,8 @@ fn first_permits(lines: &ByNumber<FilterLine>, header: &Header) -> bool
 }
 
 /// Whether a list permits a header: the action of the first line that matches decides, and the end denies.
-pub fn verdict(filter: &Filter, header: &Header) -> bool
-    ensures { result ≡ verdict filter.now header.now }
+pub fn verdict(access_list: &AccessList, header: &Header) -> bool
+    ensures { result ≡ verdict access_list.now header.now }
 {
-    first_permits(&filter.lines, header)
+    first_permits(&access_list.lines, header)
 }

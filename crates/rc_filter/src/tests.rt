@@ -2,7 +2,7 @@
 use crate::{matches_address, matches_line, passes, verdict};
 use rc_base::{Addr, Header, Name};
 use rc_config::{
-    Action, AddressTest, Filter, FilterKind, FilterLine, Named, PortTest, Ports, ProtocolTest,
+    Action, AddressTest, AccessList, AccessListKind, AccessListLine, Named, PortTest, Ports, ProtocolTest,
 };
 use std::test::Fail;
 
@@ -18,8 +18,8 @@ fn tcp_packet(dport: u16) -> Header {
 }
 
 /// A line of this number for tcp from any to any.
-fn tcp_line(sequence: u32, action: Action, test: PortTest) -> FilterLine {
-    FilterLine {
+fn tcp_line(sequence: u32, action: Action, test: PortTest) -> AccessListLine {
+    AccessListLine {
         sequence,
         action,
         protocol: ProtocolTest::Is(6),
@@ -33,20 +33,20 @@ fn tcp_line(sequence: u32, action: Action, test: PortTest) -> FilterLine {
 #[test]
 fn groups_and_verdicts(rt: HostRuntime) -> Result<(), Fail> {
     let ssh = Ports::new(22);
-    let filter = Filter::new(rt.alloc(), FilterKind::Extended);
-    let filter = filter.with_line(tcp_line(20, Action::Permit, PortTest::Any))?;
-    let filter = filter.with_line(tcp_line(10, Action::Deny, PortTest::Equal(ssh)))?;
-    assert!(rt; !verdict(&filter, &tcp_packet(22)));
-    assert!(rt; verdict(&filter, &tcp_packet(23)));
+    let access_list = AccessList::new(rt.alloc(), AccessListKind::Extended);
+    let access_list = access_list.with_line(tcp_line(20, Action::Permit, PortTest::Any))?;
+    let access_list = access_list.with_line(tcp_line(10, Action::Deny, PortTest::Equal(ssh)))?;
+    assert!(rt; !verdict(&access_list, &tcp_packet(22)));
+    assert!(rt; verdict(&access_list, &tcp_packet(23)));
     let list = Name::new(b"101").ok_or("101")?;
     let other = Name::new(b"102").ok_or("102")?;
-    let mut filters = Named::new(rt.alloc());
-    filters.insert(list, filter)?;
-    assert!(rt; !passes(&filters, Some(&list), &tcp_packet(22)));
-    assert!(rt; passes(&filters, Some(&other), &tcp_packet(22)));
-    assert!(rt; passes(&filters, None, &tcp_packet(22)));
-    filters.insert(other, Filter::new(rt.alloc(), FilterKind::Standard))?;
-    assert!(rt; passes(&filters, Some(&other), &tcp_packet(22)));
+    let mut access_lists = Named::new(rt.alloc());
+    access_lists.insert(list, access_list)?;
+    assert!(rt; !passes(&access_lists, Some(&list), &tcp_packet(22)));
+    assert!(rt; passes(&access_lists, Some(&other), &tcp_packet(22)));
+    assert!(rt; passes(&access_lists, None, &tcp_packet(22)));
+    access_lists.insert(other, AccessList::new(rt.alloc(), AccessListKind::Standard))?;
+    assert!(rt; passes(&access_lists, Some(&other), &tcp_packet(22)));
     Ok(())
 }
 

@@ -4,8 +4,8 @@ use Rattle.std.specs.Option.{option_map}
 use Rattle.std.specs.Str.{bytes_eq}
 use Rattle.rc_openings.specs.Values.{address_of}
 use Rattle.rc_openings.specs.Part.{Part, before}
-use Rattle.rc_config.specs.Filter.{any_address, host_address}
-use Rattle.rc_config.specs.declared.filter.AddressTest.{AddressTest}
+use Rattle.rc_config.specs.AccessList.{any_address, host_address}
+use Rattle.rc_config.specs.declared.access_list.AddressTest.{AddressTest}
 
 -- the address behind `host`
 abbrev pub host : List (List ℕ) → Part AddressTest

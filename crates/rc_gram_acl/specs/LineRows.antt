@@ -2,15 +2,15 @@
 use Rattle.std.specs.Prelude.{◌≡◌, refl, ℕ, ◌+◌, List, [], ◌∷◌, Ok, Err, codes}
 use Rattle.rc_openings.specs.Words.{words_of}
 use Rattle.rc_openings.specs.declared.reading.LineRefusal.TheVariants.{BadValue}
-use Rattle.rc_config.specs.Filter.{any_address, host_address, standard_line}
-use Rattle.rc_config.specs.declared.filter.Action.{Action}
-use Rattle.rc_config.specs.declared.filter.Action.TheVariants.{Permit, Deny}
-use Rattle.rc_config.specs.declared.filter.AddressTest.{AddressTest}
-use Rattle.rc_config.specs.declared.filter.FilterKind.TheVariants.{Standard, Extended}
-use Rattle.rc_config.specs.declared.filter.PortTest.{PortTest}
-use Rattle.rc_config.specs.declared.filter.PortTest.TheVariants as port
-use Rattle.rc_config.specs.declared.filter.ProtocolTest.{ProtocolTest}
-use Rattle.rc_config.specs.declared.filter.ProtocolTest.TheVariants as protocol
+use Rattle.rc_config.specs.AccessList.{any_address, host_address, standard_line}
+use Rattle.rc_config.specs.declared.access_list.Action.{Action}
+use Rattle.rc_config.specs.declared.access_list.Action.TheVariants.{Permit, Deny}
+use Rattle.rc_config.specs.declared.access_list.AddressTest.{AddressTest}
+use Rattle.rc_config.specs.declared.access_list.AccessListKind.TheVariants.{Standard, Extended}
+use Rattle.rc_config.specs.declared.access_list.PortTest.{PortTest}
+use Rattle.rc_config.specs.declared.access_list.PortTest.TheVariants as port
+use Rattle.rc_config.specs.declared.access_list.ProtocolTest.{ProtocolTest}
+use Rattle.rc_config.specs.declared.access_list.ProtocolTest.TheVariants as protocol
 use Rattle.rc_gram_acl.specs.NumberName.{protocol_names, port_names}
 use Rattle.rc_gram_acl.specs.Reading.{Answer, line_answer}
 use Rattle.rc_gram_acl.specs.Refused.{refused_words}

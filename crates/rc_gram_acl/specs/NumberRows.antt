@@ -1,9 +1,9 @@
 -- Numbers of lists and of lines, by computation.
 use Rattle.std.specs.Prelude.{◌≡◌, refl, ℕ, List, [], ◌∷◌, map, Some, None, codes}
-use Rattle.rc_config.specs.Filter.{any_address, standard_line}
-use Rattle.rc_config.specs.declared.filter.Action.TheVariants.{Permit}
-use Rattle.rc_config.specs.declared.filter.FilterLine.{FilterLine}
-use Rattle.rc_config.specs.declared.filter.FilterKind.TheVariants.{Standard, Extended}
+use Rattle.rc_config.specs.AccessList.{any_address, standard_line}
+use Rattle.rc_config.specs.declared.access_list.Action.TheVariants.{Permit}
+use Rattle.rc_config.specs.declared.access_list.AccessListLine.{AccessListLine}
+use Rattle.rc_config.specs.declared.access_list.AccessListKind.TheVariants.{Standard, Extended}
 use Rattle.rc_openings.specs.Values.{number_of}
 use Rattle.std.specs.Fmt.{digits}
 use Rattle.std.specs.Option.{option_map}
@@ -23,7 +23,7 @@ unfolding digits
 names = (refl, refl, refl)
 
 -- lines of these numbers
-abbrev lines : List ℕ → List FilterLine
+abbrev lines : List ℕ → List AccessListLine
 lines numbers = map (λ n. standard_line n Permit any_address) numbers
 
 -- 10 at first, and then 10 above the greatest

@@ -4,11 +4,11 @@ use Rattle.std.specs.Option.{option_and_then}
 use Rattle.std.specs.Str.{bytes_eq}
 use Rattle.rc_openings.specs.Values.{address_of}
 use Rattle.rc_openings.specs.Part.{Part, and_then, part_map, before}
-use Rattle.rc_config.specs.Filter.{has_ports}
-use Rattle.rc_config.specs.declared.filter.AddressTest.{AddressTest}
-use Rattle.rc_config.specs.declared.filter.PortTest.{PortTest}
-use Rattle.rc_config.specs.declared.filter.PortTest.TheVariants as test
-use Rattle.rc_config.specs.declared.filter.ProtocolTest.{ProtocolTest}
+use Rattle.rc_config.specs.AccessList.{has_ports}
+use Rattle.rc_config.specs.declared.access_list.AddressTest.{AddressTest}
+use Rattle.rc_config.specs.declared.access_list.PortTest.{PortTest}
+use Rattle.rc_config.specs.declared.access_list.PortTest.TheVariants as test
+use Rattle.rc_config.specs.declared.access_list.ProtocolTest.{ProtocolTest}
 use Rattle.rc_gram_acl.specs.declared.ports.Operator.{Operator}
 use Rattle.rc_gram_acl.specs.declared.ports.Operator.TheVariants.{Equal, NotEqual, Below, Above, Within}
 use Rattle.rc_gram_acl.specs.declared.ports.Side.{Side}

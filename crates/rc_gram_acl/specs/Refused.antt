@@ -3,10 +3,10 @@ use Rattle.std.specs.Prelude.{ℕ, Bool, true, false, ◌||◌, ◌&&◌, ◌==�
 use Rattle.std.specs.List.{list_any}
 use Rattle.rc_openings.specs.Words.{words_of, is_none_left}
 use Rattle.rc_openings.specs.Part.{Part}
-use Rattle.rc_config.specs.Filter.{has_ports}
-use Rattle.rc_config.specs.declared.filter.AddressTest.{AddressTest}
-use Rattle.rc_config.specs.declared.filter.ProtocolTest.{ProtocolTest}
-use Rattle.rc_config.specs.declared.filter.ProtocolTest.TheVariants as proto
+use Rattle.rc_config.specs.AccessList.{has_ports}
+use Rattle.rc_config.specs.declared.access_list.AddressTest.{AddressTest}
+use Rattle.rc_config.specs.declared.access_list.ProtocolTest.{ProtocolTest}
+use Rattle.rc_config.specs.declared.access_list.ProtocolTest.TheVariants as proto
 use Rattle.rc_gram_acl.specs.declared.ports.EndPoint.{EndPoint}
 use Rattle.rc_gram_acl.specs.declared.ports.Operator.{Operator}
 use Rattle.rc_gram_acl.specs.declared.ports.Operator.TheVariants.{Equal, NotEqual, Below, Above, Within}

@@ -2,7 +2,7 @@
 use Rattle.std.specs.Prelude.{◌≡◌, refl, [], ◌∷◌, map, replicate, Err, codes}
 use Rattle.rc_openings.specs.Words.{words_of}
 use Rattle.rc_openings.specs.declared.reading.LineRefusal.TheVariants.{Unsupported, BadValue}
-use Rattle.rc_config.specs.declared.filter.FilterKind.TheVariants.{Standard}
+use Rattle.rc_config.specs.declared.access_list.AccessListKind.TheVariants.{Standard}
 use Rattle.rc_gram_acl.specs.LineRows.{SaysExtended}
 use Rattle.rc_gram_acl.specs.NumberName.{protocol_names, port_names}
 use Rattle.rc_gram_acl.specs.Reading.{line_answer}

@@ -1,7 +1,7 @@
 -- Protocols and ports with what they are, by computation.
 use Rattle.std.specs.Prelude.{◌≡◌, refl, false, true, [], ◌∷◌, map, Some, None, codes}
 use Rattle.rc_openings.specs.Words.{words_of}
-use Rattle.rc_config.specs.declared.filter.ProtocolTest.TheVariants.{Any, Is}
+use Rattle.rc_config.specs.declared.access_list.ProtocolTest.TheVariants.{Any, Is}
 use Rattle.rc_gram_acl.specs.NumberName.{protocol_names, port_names}
 use Rattle.rc_gram_acl.specs.Values.{protocol_of, port_of, is_unknown_port}
 

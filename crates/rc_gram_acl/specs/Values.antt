@@ -4,8 +4,8 @@ use Rattle.std.specs.Option.{option_map}
 use Rattle.std.specs.Char.{is_ascii_alphabetic}
 use Rattle.std.specs.Str.{bytes_eq}
 use Rattle.rc_openings.specs.Values.{at_most, number_of}
-use Rattle.rc_config.specs.declared.filter.ProtocolTest.{ProtocolTest}
-use Rattle.rc_config.specs.declared.filter.ProtocolTest.TheVariants as protocol
+use Rattle.rc_config.specs.declared.access_list.ProtocolTest.{ProtocolTest}
+use Rattle.rc_config.specs.declared.access_list.ProtocolTest.TheVariants as protocol
 use Rattle.rc_gram_acl.specs.NumberName.{Row, number_named, protocol_names, port_names}
 
 abbrev pub number_or_name : List Row → List ℕ → Option ℕ → Option ℕ

@@ -15,7 +15,7 @@ mod sequence;
 mod values;
 
 pub use list_number::kind_of_number;
-pub use reading::read_filter_line;
+pub use reading::read_access_list_line;
 pub use refused::refused_words;
 pub use sequence::sequence_for;
 

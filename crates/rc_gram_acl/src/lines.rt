@@ -2,13 +2,13 @@
 ghost use Rattle.std.specs.Prelude.{◌≡◌, ◌≤◌, false, IfSome};
 ghost use Rattle.rc_openings.specs.Words.{words_left};
 ghost use Rattle.rc_openings.specs.Part.{IsPart};
-ghost use Rattle.rc_config.specs.Filter.{IsLawfulLine, IsPortTest, IsSequence, has_ports};
+ghost use Rattle.rc_config.specs.AccessList.{IsLawfulLine, IsPortTest, IsSequence, has_ports};
 ghost use Rattle.rc_gram_acl.specs.Lines as lines;
 
 use crate::addresses::read_source;
 use crate::ports::{EndPoint, Side, is_log, read_end_point};
 use crate::values::word_protocol;
-use rc_config::{Action, FilterKind, FilterLine, PortTest, ProtocolTest};
+use rc_config::{Action, AccessListKind, AccessListLine, PortTest, ProtocolTest};
 use rc_openings::Words;
 
 /// Whether a standard line ends here, or with `log`.
@@ -34,15 +34,15 @@ fn ends_extended(mut words: Words) -> bool
 }
 
 /// `SRC [log]`
-pub(crate) fn standard(sequence: u32, action: Action, words: Words) -> Option<FilterLine>
+pub(crate) fn standard(sequence: u32, action: Action, words: Words) -> Option<AccessListLine>
     ensures row { result ≡ lines.standard sequence action (words_left words.entry) }
     ensures numbered { IfSome result (λ l. l.sequence ≡ sequence) }
-    ensures lawful { IfSome result (λ l. IsSequence sequence → IsLawfulLine FilterKind.Standard l) }
+    ensures lawful { IfSome result (λ l. IsSequence sequence → IsLawfulLine AccessListKind.Standard l) }
 {
     match read_source(words) {
         Some((source, rest)) => {
             if ends_standard(rest) {
-                Some(FilterLine::standard(sequence, action, source))
+                Some(AccessListLine::standard(sequence, action, source))
             } else {
                 None
             }
@@ -72,17 +72,17 @@ fn from_destination(
     protocol: ProtocolTest,
     source: EndPoint,
     words: Words,
-) -> Option<FilterLine>
+) -> Option<AccessListLine>
     requires lawful_port { IsPortTest source.port }
     requires no_port { has_ports protocol ≡ false → source.port ≡ PortTest.Any }
     ensures row { result ≡ lines.from_destination sequence action protocol source (words_left words.entry) }
     ensures numbered { IfSome result (λ l. l.sequence ≡ sequence) }
-    ensures lawful { IfSome result (λ l. IsSequence sequence → IsLawfulLine FilterKind.Extended l) }
+    ensures lawful { IfSome result (λ l. IsSequence sequence → IsLawfulLine AccessListKind.Extended l) }
 {
     match read_end_point(protocol, Side::Destination, words) {
         Some((destination, rest)) => {
             if ends_extended(rest) {
-                Some(FilterLine {
+                Some(AccessListLine {
                     sequence,
                     action,
                     protocol,
@@ -100,10 +100,10 @@ fn from_destination(
 }
 
 /// `PROTO ADDR [PORT] ADDR [PORT] [log|log-input]`
-pub(crate) fn extended(sequence: u32, action: Action, words: Words) -> Option<FilterLine>
+pub(crate) fn extended(sequence: u32, action: Action, words: Words) -> Option<AccessListLine>
     ensures row { result ≡ lines.extended sequence action (words_left words.entry) }
     ensures numbered { IfSome result (λ l. l.sequence ≡ sequence) }
-    ensures lawful { IfSome result (λ l. IsSequence sequence → IsLawfulLine FilterKind.Extended l) }
+    ensures lawful { IfSome result (λ l. IsSequence sequence → IsLawfulLine AccessListKind.Extended l) }
 {
     let Some((protocol, behind)) = read_protocol(words) else {
         return None;

@@ -3,7 +3,7 @@ ghost use Rattle.std.specs.Prelude.{◌≡◌, ◌≤◌, false, IfSome};
 ghost use Rattle.std.specs.Option.{option_and_then};
 ghost use Rattle.rc_openings.specs.Words.{words_left};
 ghost use Rattle.rc_openings.specs.Part.{IsPart};
-ghost use Rattle.rc_config.specs.Filter.{IsPortTest, has_ports as protocol_has_ports};
+ghost use Rattle.rc_config.specs.AccessList.{IsPortTest, has_ports as protocol_has_ports};
 ghost use Rattle.rc_gram_acl.specs.Port as tests;
 ghost use Rattle.rc_gram_acl.specs.Values.{port_of};
 
@@ -13,7 +13,7 @@ use rc_config::{AddressTest, PortTest, Ports, ProtocolTest};
 use rc_openings::{Words, word_addr};
 
 /// The word with which a test of ports begins.
-#[derive(Clone, Copy, Debug, PartialEq, Eq)]
+#[derive(Clone, Copy, PartialEq, Eq)]
 pub(crate) enum Operator {
     /// `eq`
     Equal,
@@ -28,7 +28,7 @@ pub(crate) enum Operator {
 }
 
 /// The end of a packet's way that a test asks.
-#[derive(Clone, Copy, Debug, PartialEq, Eq)]
+#[derive(Clone, Copy, PartialEq, Eq)]
 pub(crate) enum Side {
     Source,
     Destination,

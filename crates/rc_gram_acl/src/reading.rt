@@ -1,12 +1,12 @@
 //! One line of an access list.
 ghost use Rattle.std.specs.Prelude.{◌≡◌, ◌≤◌, IfOk};
 ghost use Rattle.rc_openings.specs.Words.{words_left};
-ghost use Rattle.rc_config.specs.Filter.{IsLawfulLine, IsSequence};
+ghost use Rattle.rc_config.specs.AccessList.{IsLawfulLine, IsSequence};
 ghost use Rattle.rc_gram_acl.specs.Reading as reading;
 
 use crate::lines::{extended, standard};
 use crate::refused::{has_refused_place, refused_words};
-use rc_config::{Action, FilterKind, FilterLine, PortTest, action_of};
+use rc_config::{Action, AccessListKind, AccessListLine, PortTest, action_of};
 use rc_openings::{LineRefusal, Words, judged};
 
 /// Why an extended line that fits no row is refused.
@@ -22,21 +22,21 @@ fn refusal_of(words: Words) -> LineRefusal
 
 /// The line of these tests, where the words behind `permit` or `deny` fit a row of the list's kind.
 fn read_tests(
-    kind: FilterKind,
+    kind: AccessListKind,
     sequence: u32,
     action: Action,
     words: Words,
-) -> Result<FilterLine, LineRefusal>
+) -> Result<AccessListLine, LineRefusal>
     ensures row { result ≡ reading.test_row kind sequence action (words_left words.entry) }
     ensures numbered { IfOk result (λ l. l.sequence ≡ sequence) }
     ensures lawful { IfOk result (λ l. IsSequence sequence → IsLawfulLine kind l) }
 {
     match kind {
-        FilterKind::Standard => match standard(sequence, action, words) {
+        AccessListKind::Standard => match standard(sequence, action, words) {
             Some(line) => Ok(line),
             None => Err(LineRefusal::BadValue),
         },
-        FilterKind::Extended => match extended(sequence, action, words) {
+        AccessListKind::Extended => match extended(sequence, action, words) {
             Some(line) => Ok(line),
             None => Err(refusal_of(words)),
         },
@@ -45,7 +45,7 @@ fn read_tests(
 
 /// The line that the words from `permit` or `deny` on are, where they fit a row. Words that are refused wherever they
 /// stand are not looked for here.
-fn read_row(kind: FilterKind, sequence: u32, words: Words) -> Result<FilterLine, LineRefusal>
+fn read_row(kind: AccessListKind, sequence: u32, words: Words) -> Result<AccessListLine, LineRefusal>
     ensures row { result ≡ reading.line_row kind sequence (words_left words.entry) }
     ensures numbered { IfOk result (λ l. l.sequence ≡ sequence) }
     ensures lawful { IfOk result (λ l. IsSequence sequence → IsLawfulLine kind l) }
@@ -66,11 +66,11 @@ fn read_row(kind: FilterKind, sequence: u32, words: Words) -> Result<FilterLine,
 ///
 /// It errs exactly where the words fit no row: as unsupported where a word is one whose meaning isn't modelled, and as a
 /// bad value else. It takes no memory.
-pub fn read_filter_line(
-    kind: FilterKind,
+pub fn read_access_list_line(
+    kind: AccessListKind,
     sequence: u32,
     words: Words,
-) -> Result<FilterLine, LineRefusal>
+) -> Result<AccessListLine, LineRefusal>
     ensures row { result ≡ reading.line_answer kind sequence (words_left words.entry) }
     ensures numbered { IfOk result (λ l. l.sequence ≡ sequence) }
     // A line of a standard list tests its source alone, and ports are tested only where the protocol has them.

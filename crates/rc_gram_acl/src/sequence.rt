@@ -1,12 +1,12 @@
 //! The sequence number of one more line of an access list.
 ghost use Rattle.std.specs.Prelude.{◌≡◌, ◌≤◌, false, IfSome};
-ghost use Rattle.rc_config.specs.Filter.{AreLinesInOrder, IsSequence, has_sequence, last_sequence};
+ghost use Rattle.rc_config.specs.AccessList.{AreLinesInOrder, IsSequence, has_sequence, last_sequence};
 ghost use Rattle.rc_gram_acl.specs.Sequence as sequence;
 
-use rc_config::Filter;
+use rc_config::AccessList;
 
 /// The number, where it is one from 1 to 2147483647 that no line of the list has.
-fn if_free(list: &Filter, number: u64) -> Option<u32>
+fn if_free(list: &AccessList, number: u64) -> Option<u32>
     ensures value { AreLinesInOrder list.now.lines → result ≡ sequence.if_free list.now.lines number }
     ensures within { IfSome result IsSequence }
     ensures free { IfSome result (λ n. AreLinesInOrder list.now.lines → has_sequence list.now.lines n ≡ false) }
@@ -23,7 +23,7 @@ fn if_free(list: &Filter, number: u64) -> Option<u32>
 }
 
 /// The number of a line behind the last one, which has the greatest.
-fn number_behind(list: &Filter) -> u64
+fn number_behind(list: &AccessList) -> u64
     ensures { result ≡ sequence.number_behind (last_sequence list.now.lines) }
 {
     match list.greatest() {
@@ -35,7 +35,7 @@ fn number_behind(list: &Filter) -> u64
 /// The sequence number of one more line of a list whose lines are in order: the one that is written in front of it, else
 /// 10 above the greatest, and 10 in a list without lines. `None` exactly where the number would be over 2147483647 (or 0),
 /// or where a line has it already.
-pub fn sequence_for(list: &Filter, written: Option<u32>) -> Option<u32>
+pub fn sequence_for(list: &AccessList, written: Option<u32>) -> Option<u32>
     ensures value { AreLinesInOrder list.now.lines → result ≡ sequence.sequence_for list.now.lines written }
     ensures within { IfSome result IsSequence }
     // So the list stays lawful with a lawful line of this number.

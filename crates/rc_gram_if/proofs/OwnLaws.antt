@@ -2,7 +2,7 @@
 use Rattle.std.specs.Prelude.{Result, Ok, Err, IfOk}
 use Rattle.rc_openings.specs.declared.reading.LineRefusal.{LineRefusal}
 use Rattle.rc_config.specs.declared.command.Command.{Command}
-use Rattle.rc_config.specs.declared.command.Command.TheVariants.{Passed, Remark, Hostname, Interface, Address, Shutdown, Bandwidth, StaticRoute, FilterOpened, FilterLine, AccessGroup, PrefixLine, CommunityLine, MapOpened, MapLine}
+use Rattle.rc_config.specs.declared.command.Command.TheVariants.{Passed, Remark, Hostname, Interface, Address, Shutdown, Bandwidth, StaticRoute, AccessListOpened, AccessListLine, AccessGroup, PrefixLine, CommunityLine, MapOpened, MapLine}
 use Rattle.rc_config.specs.declared.router_text.RouterText.{RouterText}
 use Rattle.rc_config.specs.Lawful.{FitsFile, IsInRange}
 use Rattle.rc_gram_if.specs.Own.{IsOwn}
@@ -17,8 +17,8 @@ range-of (Shutdown name down) h = h
 range-of (Bandwidth name kbits) h = h
 range-of (StaticRoute route) h = h
 range-of (AccessGroup name list direction) h = h
-range-of (FilterOpened list kind) h = absurd h
-range-of (FilterLine list kind line) h = absurd h
+range-of (AccessListOpened list kind) h = absurd h
+range-of (AccessListLine list kind line) h = absurd h
 range-of (PrefixLine list line) h = absurd h
 range-of (CommunityLine list line) h = absurd h
 range-of (MapOpened map n action) h = absurd h
@@ -34,8 +34,8 @@ fits-of file (Shutdown name down) h = tt
 fits-of file (Bandwidth name kbits) h = tt
 fits-of file (StaticRoute route) h = tt
 fits-of file (AccessGroup name list direction) h = tt
-fits-of file (FilterOpened list kind) h = absurd h
-fits-of file (FilterLine list kind line) h = absurd h
+fits-of file (AccessListOpened list kind) h = absurd h
+fits-of file (AccessListLine list kind line) h = absurd h
 fits-of file (PrefixLine list line) h = absurd h
 fits-of file (CommunityLine list line) h = absurd h
 fits-of file (MapOpened map n action) h = absurd h

@@ -1,12 +1,12 @@
 -- The commands of this grammar.
 use Rattle.rc_config.specs.declared.command.Command.{Command}
-use Rattle.rc_config.specs.declared.command.Command.TheVariants.{Passed, Remark, Hostname, Interface, Address, Shutdown, Bandwidth, StaticRoute, FilterOpened, FilterLine, AccessGroup, PrefixLine, CommunityLine, MapOpened, MapLine}
+use Rattle.rc_config.specs.declared.command.Command.TheVariants.{Passed, Remark, Hostname, Interface, Address, Shutdown, Bandwidth, StaticRoute, AccessListOpened, AccessListLine, AccessGroup, PrefixLine, CommunityLine, MapOpened, MapLine}
 use Rattle.rc_config.specs.Lawful.{IsInRange}
 
 -- values are in range, and no list or route map is opened or gets a line
 abbrev pub IsOwn : Command → Type 0
-IsOwn (FilterOpened list kind) = ⊥
-IsOwn (FilterLine list kind line) = ⊥
+IsOwn (AccessListOpened list kind) = ⊥
+IsOwn (AccessListLine list kind line) = ⊥
 IsOwn Passed = IsInRange Passed
 IsOwn Remark = IsInRange Remark
 IsOwn (Hostname name line) = IsInRange (Hostname name line)

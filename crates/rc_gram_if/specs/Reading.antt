@@ -4,16 +4,16 @@ use Rattle.rc_openings.specs.Reading.{FormRows, SaysBy, said_by}
 use Rattle.rc_openings.specs.declared.form.Form.{Form}
 use Rattle.rc_openings.specs.declared.form.Form.TheVariants as form
 use Rattle.rc_openings.specs.declared.reading.LineRefusal.TheVariants.{BadValue}
-use Rattle.rc_config.specs.Place.{block_at}
+use Rattle.rc_config.specs.OpenBlock.{block_at}
 use Rattle.rc_config.specs.declared.command.Command.{Command}
 use Rattle.rc_config.specs.declared.command.Command.TheVariants.{Passed}
-use Rattle.rc_config.specs.declared.context.Place.{Place}
-use Rattle.rc_config.specs.declared.context.Place.TheVariants as place
+use Rattle.rc_config.specs.declared.context.OpenBlock.{OpenBlock}
+use Rattle.rc_config.specs.declared.context.OpenBlock.TheVariants as place
 use Rattle.rc_config.specs.declared.router_text.RouterText.{RouterText}
 use Rattle.rc_gram_if.specs.Rows as rows
 
 -- the answer of the rows of a form; forms of other grammars have none here
-abbrev pub row_answer : Form → Place → RouterText → ℕ → List (List ℕ) → rows.Answer
+abbrev pub row_answer : Form → OpenBlock → RouterText → ℕ → List (List ℕ) → rows.Answer
 row_answer form.Hostname at file number line = rows.hostname file number (drop 1 line)
 row_answer form.Interface at file number line = rows.interface number (drop 1 line)
 row_answer form.IpAddress (place.Interface owner) file number line = rows.ip_address owner (drop 2 line)
@@ -30,13 +30,13 @@ refused_words form.StaticRoute = rows.refused_in_route
 refused_words _ = []
 
 -- the rows at a place
-abbrev pub rows_at : Place → RouterText → ℕ → FormRows Command
+abbrev pub rows_at : OpenBlock → RouterText → ℕ → FormRows Command
 rows_at at file number = record { answer = λ f line. row_answer f at file number line; refused = refused_words; passed = Passed }
 
 -- the line says this where it stands: the opening with most words decides
-abbrev pub Says : Place → RouterText → ℕ → List (List ℕ) → rows.Answer → Type 0
+abbrev pub Says : OpenBlock → RouterText → ℕ → List (List ℕ) → rows.Answer → Type 0
 Says at file number line answer = SaysBy (rows_at at file number) (block_at at) line answer
 
 -- the same, computed
-abbrev pub says : Place → RouterText → ℕ → List (List ℕ) → rows.Answer
+abbrev pub says : OpenBlock → RouterText → ℕ → List (List ℕ) → rows.Answer
 says at file number line = said_by (rows_at at file number) (block_at at) line

@@ -8,7 +8,7 @@ use Rattle.rc_openings.specs.Words.{words_of}
 use Rattle.rc_openings.specs.declared.reading.LineRefusal.TheVariants.{Unsupported, BadValue}
 use Rattle.rc_config.specs.Update.{empty}
 use Rattle.rc_config.specs.declared.command.Command.TheVariants as command
-use Rattle.rc_config.specs.declared.context.Place.TheVariants as place
+use Rattle.rc_config.specs.declared.context.OpenBlock.TheVariants as place
 use Rattle.rc_config.specs.declared.static_route.Target.{Target}
 use Rattle.rc_config.specs.declared.static_route.Target.TheVariants as target
 use Rattle.rc_gram_if.specs.Reading.{says}

@@ -9,7 +9,7 @@ use crate::rows::{
     access_group, bandwidth, hostname, interface, ip_address, refused_in_route, shutdown,
     static_route,
 };
-use rc_config::{Command, Context, Place, RouterText};
+use rc_config::{Command, Context, OpenBlock, RouterText};
 use rc_lines::Line;
 use rc_openings::{Form, LineRefusal, Verdict, Words, judged, unopened};
 
@@ -34,13 +34,13 @@ pub fn read_line(line: &Line, context: Context) -> Result<Command, LineRefusal>
 fn read_words(
     number: u64,
     words: Words,
-    place: &Place,
+    place: &OpenBlock,
     file: &RouterText,
 ) -> Result<Command, LineRefusal>
     ensures decided { Says place.now file.now number (words_left words.entry) result }
     ensures own { IfOk result IsOwn }
 {
-    match place.block().decide(words) {
+    match block.kind().decide(words) {
         None => Err(unopened(words)),
         Some(opening) => match opening.verdict {
             Verdict::Ignored => Ok(Command::Passed),
@@ -71,7 +71,7 @@ fn read_form(
     form: Form,
     number: u64,
     words: Words,
-    place: &Place,
+    place: &OpenBlock,
     file: &RouterText,
 ) -> Result<Command, LineRefusal>
     ensures row { result ≡ row_answer form place.now file.now number (words_left words.entry) }
@@ -80,11 +80,11 @@ fn read_form(
     match (form, *place) {
         (Form::Hostname, _) => hostname(file, number, words.skip(1)),
         (Form::Interface, _) => interface(number, words.skip(1)),
-        (Form::IpAddress, Place::Interface(owner)) => ip_address(owner, words.skip(2)),
-        (Form::Shutdown, Place::Interface(owner)) => shutdown(owner, true, words.skip(1)),
-        (Form::NoShutdown, Place::Interface(owner)) => shutdown(owner, false, words.skip(2)),
-        (Form::Bandwidth, Place::Interface(owner)) => bandwidth(owner, words.skip(1)),
-        (Form::AccessGroup, Place::Interface(owner)) => access_group(owner, words.skip(2)),
+        (Form::IpAddress, OpenBlock::Interface(owner)) => ip_address(owner, words.skip(2)),
+        (Form::Shutdown, OpenBlock::Interface(owner)) => shutdown(owner, true, words.skip(1)),
+        (Form::NoShutdown, OpenBlock::Interface(owner)) => shutdown(owner, false, words.skip(2)),
+        (Form::Bandwidth, OpenBlock::Interface(owner)) => bandwidth(owner, words.skip(1)),
+        (Form::AccessGroup, OpenBlock::Interface(owner)) => access_group(owner, words.skip(2)),
         (Form::StaticRoute, _) => static_route(words.skip(2)),
         _ => Err(LineRefusal::BadValue),
     }

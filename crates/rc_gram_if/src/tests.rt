@@ -1,7 +1,7 @@
 //! Every opening of the tables as a line of its own, and the values of each form.
 use crate::read_line;
 use rc_base::{Addr, Name, Prefix};
-use rc_config::{Command, Context, Place, RouterText, StaticRoute, Target};
+use rc_config::{Command, Context, OpenBlock, RouterText, StaticRoute, Target};
 use rc_lines::Lines;
 use rc_openings::LineRefusal;
 use std::alloc::Global;
@@ -251,7 +251,7 @@ ip ospf NAME area
 ";
 
 /// Whether each line of the text has this refusal at the place, or is passed over where there is none.
-fn all_say(alloc: Global, place: &Place, text: &[u8], refusal: Option<LineRefusal>) -> bool {
+fn all_say(alloc: Global, place: &OpenBlock, text: &[u8], refusal: Option<LineRefusal>) -> bool {
     let file = RouterText::new(alloc);
     let mut lines = Lines::new(text);
     for _ in 0..1000 {
@@ -279,17 +279,17 @@ fn all_say(alloc: Global, place: &Place, text: &[u8], refusal: Option<LineRefusa
 fn every_opening_says_what_its_table_says(rt: HostRuntime) -> Result<(), Fail> {
     let alloc = rt.alloc();
     let unsupported = Some(LineRefusal::Unsupported);
-    let inside = Place::Interface(Name::new(b"Serial0").ok_or("Serial0")?);
-    assert!(rt; all_say(alloc, &Place::Global, GLOBAL_IGNORED, None));
-    assert!(rt; all_say(alloc, &Place::Global, GLOBAL_REFUSED, unsupported));
+    let inside = OpenBlock::Interface(Name::new(b"Serial0").ok_or("Serial0")?);
+    assert!(rt; all_say(alloc, &OpenBlock::Global, GLOBAL_IGNORED, None));
+    assert!(rt; all_say(alloc, &OpenBlock::Global, GLOBAL_REFUSED, unsupported));
     assert!(rt; all_say(alloc, &inside, INTERFACE_IGNORED, None));
     assert!(rt; all_say(alloc, &inside, INTERFACE_REFUSED, unsupported));
-    assert!(rt; all_say(alloc, &Place::Ignored, GLOBAL_REFUSED, None));
+    assert!(rt; all_say(alloc, &OpenBlock::Ignored, GLOBAL_REFUSED, None));
     Ok(())
 }
 
 /// Whether the one line has this refusal at the place, or is a command where there is none.
-fn check(rt: &impl Abort, alloc: Global, place: &Place, text: &[u8], refusal: Option<LineRefusal>) {
+fn check(rt: &impl Abort, alloc: Global, place: &OpenBlock, text: &[u8], refusal: Option<LineRefusal>) {
     let file = RouterText::new(alloc);
     if let Some(line) = Lines::new(text).next() {
         let context = Context {
@@ -304,37 +304,37 @@ fn check(rt: &impl Abort, alloc: Global, place: &Place, text: &[u8], refusal: Op
 fn forms_take_their_values_alone(rt: HostRuntime) {
     let alloc = rt.alloc();
     let bad = Some(LineRefusal::BadValue);
-    check(&rt, alloc, &Place::Global, b"hostname R-1.a_b", None);
-    check(&rt, alloc, &Place::Global, b"hostname R1 R2", bad);
-    check(&rt, alloc, &Place::Global, b"hostname R/1", bad);
-    check(&rt, alloc, &Place::Global, b"hostname", bad);
-    check(&rt, alloc, &Place::Global, b"interface Foo1", None);
-    check(&rt, alloc, &Place::Global, b"interface 1", bad);
+    check(&rt, alloc, &OpenBlock::Global, b"hostname R-1.a_b", None);
+    check(&rt, alloc, &OpenBlock::Global, b"hostname R1 R2", bad);
+    check(&rt, alloc, &OpenBlock::Global, b"hostname R/1", bad);
+    check(&rt, alloc, &OpenBlock::Global, b"hostname", bad);
+    check(&rt, alloc, &OpenBlock::Global, b"interface Foo1", None);
+    check(&rt, alloc, &OpenBlock::Global, b"interface 1", bad);
     check(
         &rt,
         alloc,
-        &Place::Global,
+        &OpenBlock::Global,
         b"frobnicate",
         Some(LineRefusal::Unknown),
     );
     check(
         &rt,
         alloc,
-        &Place::Global,
+        &OpenBlock::Global,
         b"shutdown",
         Some(LineRefusal::OutOfPlace),
     );
     check(
         &rt,
         alloc,
-        &Place::Closed,
+        &OpenBlock::Closed,
         b"ip nat",
         Some(LineRefusal::Unknown),
     );
     check(
         &rt,
         alloc,
-        &Place::Closed,
+        &OpenBlock::Closed,
         b"hostname R1",
         Some(LineRefusal::OutOfPlace),
     );
@@ -344,8 +344,8 @@ fn forms_take_their_values_alone(rt: HostRuntime) {
 fn an_interface_takes_addresses_in_range(rt: HostRuntime) -> Result<(), Fail> {
     let alloc = rt.alloc();
     let bad = Some(LineRefusal::BadValue);
-    let inside = Place::Interface(Name::new(b"Vlan10").ok_or("Vlan10")?);
-    let tunnel = Place::Interface(Name::new(b"Tunnel0").ok_or("Tunnel0")?);
+    let inside = OpenBlock::Interface(Name::new(b"Vlan10").ok_or("Vlan10")?);
+    let tunnel = OpenBlock::Interface(Name::new(b"Tunnel0").ok_or("Tunnel0")?);
     check(&rt, alloc, &inside, b"ip address 10.0.0.1 255.0.0.0", None);
     check(
         &rt,
@@ -381,7 +381,7 @@ fn an_interface_takes_addresses_in_range(rt: HostRuntime) -> Result<(), Fail> {
 
 #[test]
 fn access_groups_have_a_name_and_a_direction(rt: HostRuntime) -> Result<(), Fail> {
-    let inside = Place::Interface(Name::new(b"Serial0").ok_or("Serial0")?);
+    let inside = OpenBlock::Interface(Name::new(b"Serial0").ok_or("Serial0")?);
     let bad = Some(LineRefusal::BadValue);
     for (text, refusal) in [
         (b"ip access-group WEB in".as_slice(), None),
@@ -461,7 +461,7 @@ fn route_in(alloc: Global, text: &[u8]) -> Option<StaticRoute> {
     let file = RouterText::new(alloc);
     let line = Lines::new(text).next()?;
     let context = Context {
-        place: Place::Global,
+        place: OpenBlock::Global,
         file: &file,
     };
     let said = read_line(&line, context);
@@ -480,7 +480,7 @@ fn all_say_route(alloc: Global, text: &[u8], wanted: &StaticRoute) -> bool {
             return true;
         };
         let context = Context {
-            place: Place::Global,
+            place: OpenBlock::Global,
             file: &file,
         };
         let said = read_line(&line, context);
@@ -506,12 +506,12 @@ fn static_routes_take_their_options_in_any_order(rt: HostRuntime) -> Result<(), 
         distance: 250,
     };
     assert!(rt; all_say_route(alloc, SAME_ROUTE, &wanted));
-    assert!(rt; all_say(alloc, &Place::Global, BAD_ROUTES, bad));
-    assert!(rt; all_say(alloc, &Place::Global, REFUSED_ROUTES, unsupported));
+    assert!(rt; all_say(alloc, &OpenBlock::Global, BAD_ROUTES, bad));
+    assert!(rt; all_say(alloc, &OpenBlock::Global, REFUSED_ROUTES, unsupported));
     check(
         &rt,
         alloc,
-        &Place::Closed,
+        &OpenBlock::Closed,
         b" ip route 10.1.2.3 255.255.0.0 Null0",
         Some(LineRefusal::OutOfPlace),
     );

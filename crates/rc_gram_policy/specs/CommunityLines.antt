@@ -6,7 +6,7 @@ use Rattle.rc_base.specs.Name.{name_of, name_of_number}
 use Rattle.rc_openings.specs.Values.{number_within}
 use Rattle.rc_config.specs.ActionWord.{action_of}
 use Rattle.rc_config.specs.declared.community_list.CommunityLine.{CommunityLine}
-use Rattle.rc_config.specs.declared.filter.Action.{Action}
+use Rattle.rc_config.specs.declared.access_list.Action.{Action}
 use Rattle.rc_gram_policy.specs.Parts.{values_of}
 use Rattle.rc_gram_policy.specs.Values.{community_of}
 

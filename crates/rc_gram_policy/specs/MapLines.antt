@@ -10,7 +10,7 @@ use Rattle.rc_openings.specs.Values.{number_within}
 use Rattle.rc_openings.specs.declared.form.Form.{Form}
 use Rattle.rc_openings.specs.declared.form.Form.TheVariants as form
 use Rattle.rc_config.specs.ActionWord.{action_of}
-use Rattle.rc_config.specs.declared.filter.Action.{Action}
+use Rattle.rc_config.specs.declared.access_list.Action.{Action}
 use Rattle.rc_config.specs.declared.map_line.MapLine.{MapLine}
 use Rattle.rc_config.specs.declared.map_line.MapLine.TheVariants.{Match, Set}
 use Rattle.rc_config.specs.declared.map_line.MatchKind.{MatchKind}

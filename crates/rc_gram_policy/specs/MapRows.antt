@@ -5,8 +5,8 @@ use Rattle.rc_openings.specs.Words.{words_of}
 use Rattle.rc_openings.specs.declared.form.Form.{Form}
 use Rattle.rc_openings.specs.declared.form.Form.TheVariants as form
 use Rattle.rc_openings.specs.declared.reading.LineRefusal.TheVariants.{Unsupported, BadValue}
-use Rattle.rc_config.specs.declared.filter.Action.{Action}
-use Rattle.rc_config.specs.declared.filter.Action.TheVariants.{Permit, Deny}
+use Rattle.rc_config.specs.declared.access_list.Action.{Action}
+use Rattle.rc_config.specs.declared.access_list.Action.TheVariants.{Permit, Deny}
 use Rattle.rc_config.specs.declared.map_line.MapLine.{MapLine}
 use Rattle.rc_config.specs.declared.map_line.MapLine.TheVariants.{Match, Set}
 use Rattle.rc_config.specs.declared.map_line.MatchKind.TheVariants.{AccessList, PrefixList, CommunityList}

@@ -9,7 +9,7 @@ use Rattle.rc_openings.specs.Words.{is_none_left}
 use Rattle.rc_config.specs.ActionWord.{action_of}
 use Rattle.rc_config.specs.Named.{named}
 use Rattle.rc_config.specs.PrefixList.{greatest_sequence, has_sequence, no_lines}
-use Rattle.rc_config.specs.declared.filter.Action.{Action}
+use Rattle.rc_config.specs.declared.access_list.Action.{Action}
 use Rattle.rc_config.specs.declared.prefix_list.PrefixLine.{PrefixLine}
 use Rattle.rc_config.specs.declared.prefix_list.PrefixList.{PrefixList}
 use Rattle.rc_gram_policy.specs.Parts.{optional}

@@ -2,7 +2,7 @@
 use rc_openings::LineRefusal;
 
 /// Why a line gives nothing.
-#[derive(Clone, Copy, Debug, PartialEq, Eq)]
+#[derive(Clone, Copy, PartialEq, Eq)]
 pub enum LineError {
     /// It is refused.
     Refused(LineRefusal),

@@ -15,27 +15,27 @@ use Rattle.rc_openings.specs.Opening.{Row, begins_with, IsAnswer, IsDecisive}
 use Rattle.rc_openings.specs.Reading.{FormRows, SaysBy, answer_by}
 use Rattle.rc_openings.specs.GlobalOpenings.{global, global_forms, global_refused, global_ignored}
 use Rattle.rc_openings.specs.InterfaceOpenings.{interface, interface_forms, interface_refused, interface_ignored}
-use Rattle.rc_openings.specs.AclOpenings.{acl, acl_forms, acl_refused, acl_ignored}
+use Rattle.rc_openings.specs.AccessListOpenings.{access_list, access_list_forms, access_list_refused, access_list_ignored}
 use Rattle.rc_openings.specs.RouteMapOpenings.{route_map, route_map_forms, route_map_refused, route_map_ignored}
 use Rattle.rc_openings.specs.OspfOpenings.{ospf, ospf_forms, ospf_refused, ospf_ignored}
 use Rattle.rc_openings.specs.BgpOpenings.{bgp, bgp_forms, bgp_refused, bgp_ignored}
 use Rattle.rc_openings.specs.Words.{words_of}
 use Rattle.rc_openings.proofs.FrontLemmas.{front_decides, form_has_front}
 use Rattle.rc_openings.proofs.ReadingLaws.{says_is}
-use Rattle.rc_config.specs.Place.{block_at}
+use Rattle.rc_config.specs.OpenBlock.{block_at}
 use Rattle.rc_config.specs.declared.command.Command.{Command}
-use Rattle.rc_config.specs.declared.context.Place.{Place}
-use Rattle.rc_config.specs.declared.context.Place.TheVariants as place
+use Rattle.rc_config.specs.declared.context.OpenBlock.{OpenBlock}
+use Rattle.rc_config.specs.declared.context.OpenBlock.TheVariants as place
 use Rattle.rc_config.specs.declared.router_text.RouterText.{RouterText}
 use Rattle.rc_gram_if.specs.Reading.{rows_at as other_rows, Says as SaysOther}
 use Rattle.rc_gram_policy.specs.declared.error.LineError.{LineError}
 use Rattle.rc_gram_policy.specs.declared.error.LineError.TheVariants as error
 use Rattle.rc_grammar.specs.Answers.{IfAnswered}
-use Rattle.rc_grammar.specs.Filters.{is_filter_form, filter_fronts, filter_rows, written_at}
+use Rattle.rc_grammar.specs.AccessLists.{is_access_list_form, access_list_fronts, access_list_rows, written_at}
 use Rattle.rc_grammar.specs.Grammars.{grammar_at, own_words, joined, rows_at, Answer, Says, says}
 use Rattle.rc_grammar.specs.Policies.{is_policy_form, policy_fronts, policy_rows}
 use Rattle.rc_grammar.specs.declared.grammars.Grammar.{Grammar}
-use Rattle.rc_grammar.specs.declared.grammars.Grammar.TheVariants.{Filters, Policies, Others}
+use Rattle.rc_grammar.specs.declared.grammars.Grammar.TheVariants.{AccessLists, Policies, Others}
 
 module _ {C : Type 0} (own : FormKind → Bool) (these others : FormRows C) (line : List (List ℕ)) where
   by-these : (words : List (List ℕ)) (v : Verdict) → is_own own v ≡ true
@@ -96,100 +96,100 @@ module _ (own : FormKind → Bool) (kind : Block) (line : List (List ℕ)) where
       by (inr none) = none
 
 -- ---- the fronts of each grammar, by computation over all blocks
-filters-only : (kind : Block) → AreOnly is_filter_form kind (filter_fronts kind)
-unfolding global global_forms global_refused global_ignored interface interface_forms interface_refused interface_ignored acl acl_forms acl_refused acl_ignored route_map route_map_forms route_map_refused route_map_ignored ospf ospf_forms ospf_refused ospf_ignored bgp bgp_forms bgp_refused bgp_ignored words_of
-filters-only block.Closed = refl
-filters-only block.Global = refl
-filters-only block.Interface = refl
-filters-only block.Acl = refl
-filters-only block.RouteMap = refl
-filters-only block.Ospf = refl
-filters-only block.Bgp = refl
-filters-only block.Ignored = refl
+access_lists-only : (kind : Block) → AreOnly is_access_list_form kind (access_list_fronts kind)
+unfolding global global_forms global_refused global_ignored interface interface_forms interface_refused interface_ignored access_list access_list_forms access_list_refused access_list_ignored route_map route_map_forms route_map_refused route_map_ignored ospf ospf_forms ospf_refused ospf_ignored bgp bgp_forms bgp_refused bgp_ignored words_of
+access_lists-only block.Closed = refl
+access_lists-only block.Global = refl
+access_lists-only block.Interface = refl
+access_lists-only block.AccessList = refl
+access_lists-only block.RouteMap = refl
+access_lists-only block.Ospf = refl
+access_lists-only block.Bgp = refl
+access_lists-only block.Ignored = refl
 
-filters-each : (kind : Block) → HaveFronts is_filter_form kind (filter_fronts kind)
-unfolding global global_forms global_refused global_ignored interface interface_forms interface_refused interface_ignored acl acl_forms acl_refused acl_ignored route_map route_map_forms route_map_refused route_map_ignored ospf ospf_forms ospf_refused ospf_ignored bgp bgp_forms bgp_refused bgp_ignored words_of
-filters-each block.Closed = refl
-filters-each block.Global = refl
-filters-each block.Interface = refl
-filters-each block.Acl = refl
-filters-each block.RouteMap = refl
-filters-each block.Ospf = refl
-filters-each block.Bgp = refl
-filters-each block.Ignored = refl
+access_lists-each : (kind : Block) → HaveFronts is_access_list_form kind (access_list_fronts kind)
+unfolding global global_forms global_refused global_ignored interface interface_forms interface_refused interface_ignored access_list access_list_forms access_list_refused access_list_ignored route_map route_map_forms route_map_refused route_map_ignored ospf ospf_forms ospf_refused ospf_ignored bgp bgp_forms bgp_refused bgp_ignored words_of
+access_lists-each block.Closed = refl
+access_lists-each block.Global = refl
+access_lists-each block.Interface = refl
+access_lists-each block.AccessList = refl
+access_lists-each block.RouteMap = refl
+access_lists-each block.Ospf = refl
+access_lists-each block.Bgp = refl
+access_lists-each block.Ignored = refl
 
 policies-only : (kind : Block) → AreOnly is_policy_form kind (policy_fronts kind)
-unfolding global global_forms global_refused global_ignored interface interface_forms interface_refused interface_ignored acl acl_forms acl_refused acl_ignored route_map route_map_forms route_map_refused route_map_ignored ospf ospf_forms ospf_refused ospf_ignored bgp bgp_forms bgp_refused bgp_ignored words_of
+unfolding global global_forms global_refused global_ignored interface interface_forms interface_refused interface_ignored access_list access_list_forms access_list_refused access_list_ignored route_map route_map_forms route_map_refused route_map_ignored ospf ospf_forms ospf_refused ospf_ignored bgp bgp_forms bgp_refused bgp_ignored words_of
 policies-only block.Closed = refl
 policies-only block.Global = refl
 policies-only block.Interface = refl
-policies-only block.Acl = refl
+policies-only block.AccessList = refl
 policies-only block.RouteMap = refl
 policies-only block.Ospf = refl
 policies-only block.Bgp = refl
 policies-only block.Ignored = refl
 
 policies-each : (kind : Block) → HaveFronts is_policy_form kind (policy_fronts kind)
-unfolding global global_forms global_refused global_ignored interface interface_forms interface_refused interface_ignored acl acl_forms acl_refused acl_ignored route_map route_map_forms route_map_refused route_map_ignored ospf ospf_forms ospf_refused ospf_ignored bgp bgp_forms bgp_refused bgp_ignored words_of
+unfolding global global_forms global_refused global_ignored interface interface_forms interface_refused interface_ignored access_list access_list_forms access_list_refused access_list_ignored route_map route_map_forms route_map_refused route_map_ignored ospf ospf_forms ospf_refused ospf_ignored bgp bgp_forms bgp_refused bgp_ignored words_of
 policies-each block.Closed = refl
 policies-each block.Global = refl
 policies-each block.Interface = refl
-policies-each block.Acl = refl
+policies-each block.AccessList = refl
 policies-each block.RouteMap = refl
 policies-each block.Ospf = refl
 policies-each block.Bgp = refl
 policies-each block.Ignored = refl
 
 -- ---- which grammar a line is read by
-abbrev begins_filter : Place → List (List ℕ) → Bool
-begins_filter at line = list_any (begins_with line) (filter_fronts (block_at at))
+abbrev begins_access_list : OpenBlock → List (List ℕ) → Bool
+begins_access_list at line = list_any (begins_with line) (access_list_fronts (block_at at))
 
-abbrev begins_policy : Place → List (List ℕ) → Bool
+abbrev begins_policy : OpenBlock → List (List ℕ) → Bool
 begins_policy at line = list_any (begins_with line) (policy_fronts (block_at at))
 
-abbrev IsChosen : Place → List (List ℕ) → Grammar → Type 0
-IsChosen at line Filters = begins_filter at line ≡ true
-IsChosen at line Policies = (begins_filter at line ≡ false) × (begins_policy at line ≡ true)
-IsChosen at line Others = (begins_filter at line ≡ false) × (begins_policy at line ≡ false)
+abbrev IsChosen : OpenBlock → List (List ℕ) → Grammar → Type 0
+IsChosen at line AccessLists = begins_access_list at line ≡ true
+IsChosen at line Policies = (begins_access_list at line ≡ false) × (begins_policy at line ≡ true)
+IsChosen at line Others = (begins_access_list at line ≡ false) × (begins_policy at line ≡ false)
 
-chosen : (at : Place) (line : List (List ℕ)) → IsChosen at line (grammar_at at line)
-chosen at line = by (begins_filter at line) (begins_policy at line) refl refl
+chosen : (at : OpenBlock) (line : List (List ℕ)) → IsChosen at line (grammar_at at line)
+chosen at line = by (begins_access_list at line) (begins_policy at line) refl refl
   where
-    by : (f p : Bool) → begins_filter at line ≡ f → begins_policy at line ≡ p → IsChosen at line (cond f Filters (cond p Policies Others))
+    by : (f p : Bool) → begins_access_list at line ≡ f → begins_policy at line ≡ p → IsChosen at line (cond f AccessLists (cond p Policies Others))
     by true p is_filter is_policy = is_filter
     by false true is_filter is_policy = (is_filter, is_policy)
     by false false is_filter is_policy = (is_filter, is_policy)
 
 -- ---- lines of access lists, by the words that are their own
-own-front : (at : Place) (line : List (List ℕ)) → begins_filter at line ≡ true → begins_filter at (own_words at line) ≡ true
+own-front : (at : OpenBlock) (line : List (List ℕ)) → begins_access_list at line ≡ true → begins_access_list at (own_words at line) ≡ true
 own-front place.Closed line h = h
 own-front place.Global line h = h
 own-front (place.Interface name) line h = h
-own-front (place.Acl list kind) line h = refl
+own-front (place.AccessList list kind) line h = refl
 own-front (place.Map map n) line h = h
 own-front place.Ignored line h = h
 
 -- any other line is its own words
-same-words : (at : Place) (line : List (List ℕ)) → begins_filter at line ≡ false → own_words at line ≡ line
+same-words : (at : OpenBlock) (line : List (List ℕ)) → begins_access_list at line ≡ false → own_words at line ≡ line
 same-words place.Closed line h = refl
 same-words place.Global line h = refl
 same-words (place.Interface name) line h = refl
-same-words (place.Acl list kind) line h = absurd (true≢false h)
+same-words (place.AccessList list kind) line h = absurd (true≢false h)
 same-words (place.Map map n) line h = refl
 same-words place.Ignored line h = refl
 
-module _ (at : Place) (file : RouterText) (number : ℕ) (line : List (List ℕ)) (answer : Answer) where
+module _ (at : OpenBlock) (file : RouterText) (number : ℕ) (line : List (List ℕ)) (answer : Answer) where
   -- the grammars behind that of access lists
   abbrev behind : FormRows Command
   behind = joined is_policy_form (policy_rows at file number) (other_rows at file number)
 
-  behind-says : begins_filter at line ≡ false → SaysBy behind (block_at at) line answer → Says at file number line answer
-  behind-says none said = rw (same-words at line none) (others-by is_filter_form (filter_rows at file (written_at at line)) behind line (block_at at) answer refl
-      (none-decides is_filter_form (block_at at) line (filter_fronts (block_at at)) (filters-each (block_at at)) none) said)
+  behind-says : begins_access_list at line ≡ false → SaysBy behind (block_at at) line answer → Says at file number line answer
+  behind-says none said = rw (same-words at line none) (others-by is_access_list_form (access_list_rows at file (written_at at line)) behind line (block_at at) answer refl
+      (none-decides is_access_list_form (block_at at) line (access_list_fronts (block_at at)) (access_lists-each (block_at at)) none) said)
 
-  filters-say : IsChosen at line Filters → SaysBy (filter_rows at file (written_at at line)) (block_at at) (own_words at line) answer → Says at file number line answer
-  filters-say is said = these-by is_filter_form (filter_rows at file (written_at at line)) behind (own_words at line) (block_at at) answer
-      (own-decides is_filter_form (block_at at) (own_words at line) (filter_fronts (block_at at)) (filters-only (block_at at)) (own-front at line is)) said
+  access_lists-say : IsChosen at line AccessLists → SaysBy (access_list_rows at file (written_at at line)) (block_at at) (own_words at line) answer → Says at file number line answer
+  access_lists-say is said = these-by is_access_list_form (access_list_rows at file (written_at at line)) behind (own_words at line) (block_at at) answer
+      (own-decides is_access_list_form (block_at at) (own_words at line) (access_list_fronts (block_at at)) (access_lists-only (block_at at)) (own-front at line is)) said
 
   policies-say : IsChosen at line Policies → SaysBy (policy_rows at file number) (block_at at) line answer → Says at file number line answer
   policies-say is said = behind-says is.0 (these-by is_policy_form (policy_rows at file number) (other_rows at file number) line (block_at at) answer
@@ -205,10 +205,10 @@ answered-as (Ok c) P Q step h = step (Ok c) h
 answered-as (Err (error.Refused refusal)) P Q step h = step (Err refusal) h
 answered-as (Err error.Memory) P Q step h = tt
 
-module _ (at : Place) (file : RouterText) (number : ℕ) (line : List (List ℕ)) (r : Result Command LineError) where
-  pub filters-answer : grammar_at at line ≡ Filters → IfAnswered r (SaysBy (filter_rows at file (written_at at line)) (block_at at) (own_words at line)) → IfAnswered r (Says at file number line)
-  filters-answer is h = answered-as r (SaysBy (filter_rows at file (written_at at line)) (block_at at) (own_words at line)) (Says at file number line)
-      (λ a said. filters-say at file number line a (subst (IsChosen at line) is (chosen at line)) said) h
+module _ (at : OpenBlock) (file : RouterText) (number : ℕ) (line : List (List ℕ)) (r : Result Command LineError) where
+  pub access_lists-answer : grammar_at at line ≡ AccessLists → IfAnswered r (SaysBy (access_list_rows at file (written_at at line)) (block_at at) (own_words at line)) → IfAnswered r (Says at file number line)
+  access_lists-answer is h = answered-as r (SaysBy (access_list_rows at file (written_at at line)) (block_at at) (own_words at line)) (Says at file number line)
+      (λ a said. access_lists-say at file number line a (subst (IsChosen at line) is (chosen at line)) said) h
 
   pub policies-answer : grammar_at at line ≡ Policies → IfAnswered r (SaysBy (policy_rows at file number) (block_at at) line) → IfAnswered r (Says at file number line)
   policies-answer is h = answered-as r (SaysBy (policy_rows at file number) (block_at at) line) (Says at file number line)

@@ -1,6 +1,6 @@
 mod FewLaws
 mod Refused
 mod GrammarLaws
-mod FilterRoom
+mod AccessListRoom
 mod PolicyLaws
 mod TextLaws

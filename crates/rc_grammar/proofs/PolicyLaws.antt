@@ -11,8 +11,8 @@ use Rattle.rc_openings.specs.Opening.{Row, IsAnswer}
 use Rattle.rc_openings.specs.Reading.{FormRows, SaysBy, judged, share_a_word}
 use Rattle.rc_config.specs.declared.command.Command.{Command}
 use Rattle.rc_config.specs.declared.command.Command.TheVariants.{MapLine}
-use Rattle.rc_config.specs.declared.context.Place.{Place}
-use Rattle.rc_config.specs.declared.context.Place.TheVariants as place
+use Rattle.rc_config.specs.declared.context.OpenBlock.{OpenBlock}
+use Rattle.rc_config.specs.declared.context.OpenBlock.TheVariants as place
 use Rattle.rc_config.specs.declared.router_text.RouterText.{RouterText}
 use Rattle.rc_gram_policy.specs.Error.{Gives}
 use Rattle.rc_gram_policy.specs.Reading.{map_answer}
@@ -50,7 +50,7 @@ module _ {C : Type 0} (rows : FormRows C) (kind : Block) (line words : List (Lis
   form-says decides (Err error.Memory) is = tt
 
 -- a line in the block of an entry, by the words behind its opening
-pub map-row : (f : FormKind) (map : List ℕ) (entry : ℕ) (at : Place) (file : RouterText) (number : ℕ) (line rest : List (List ℕ)) (n : ℕ) (r : Result Command LineError)
+pub map-row : (f : FormKind) (map : List ℕ) (entry : ℕ) (at : OpenBlock) (file : RouterText) (number : ℕ) (line rest : List (List ℕ)) (n : ℕ) (r : Result Command LineError)
     → at ≡ place.Map map entry → n ≡ opening_length f → rest ≡ drop n line → Gives r (said (MapLine map entry) (map_answer number f rest)) → Gives r (row_answer f at file number line)
 map-row f map entry at file number line rest n r is count words g =
     let behind : rest ≡ drop (opening_length f) line = words ∙ ap (λ k. drop k line) count in

@@ -11,8 +11,8 @@ use Rattle.rc_config.specs.Named.{named}
 use Rattle.rc_config.specs.Update.{after, empty}
 use Rattle.rc_config.specs.declared.command.Command.{Command}
 use Rattle.rc_config.specs.declared.command.Command.TheVariants as command
-use Rattle.rc_config.specs.declared.context.Place.{Place}
-use Rattle.rc_config.specs.declared.context.Place.TheVariants as place
+use Rattle.rc_config.specs.declared.context.OpenBlock.{OpenBlock}
+use Rattle.rc_config.specs.declared.context.OpenBlock.TheVariants as place
 use Rattle.rc_config.specs.declared.router_text.RouterText.{RouterText}
 use Rattle.rc_grammar.specs.Grammars.{says}
 use Rattle.rc_grammar.specs.declared.reading.Reading.{Reading}
@@ -29,14 +29,14 @@ is_passed ([] ∷ ws) = false
 is_passed ((b ∷ bs) ∷ ws) = b == 33
 
 -- a line without indent stands in the global block, and any other in the open one
-abbrev pub place_at : Place → List ℕ → Place
+abbrev pub place_at : OpenBlock → List ℕ → OpenBlock
 place_at open' text = if indent_of text == 0 then place.Global else open'
 
 -- The block that is open after a command: a line without indent closes the open block, `interface`, `ip access-list` and `route-map`
 -- open one, and a line without indent that is passed over opens one whose lines are all passed over.
-abbrev pub open_after : Place → Command → Place
+abbrev pub open_after : OpenBlock → Command → OpenBlock
 open_after place.Global (command.Interface name line) = place.Interface name
-open_after place.Global (command.FilterOpened list kind) = place.Acl list kind
+open_after place.Global (command.AccessListOpened list kind) = place.AccessList list kind
 open_after place.Global (command.MapOpened map n action) = place.Map map n
 open_after place.Global command.Passed = place.Ignored
 open_after place.Global _ = place.Closed
@@ -52,8 +52,8 @@ interface_of (command.Address name address secondary) = Some name
 interface_of (command.Shutdown name down) = Some name
 interface_of (command.Bandwidth name kbits) = Some name
 interface_of (command.StaticRoute route) = None
-interface_of (command.FilterOpened list kind) = None
-interface_of (command.FilterLine list kind line) = None
+interface_of (command.AccessListOpened list kind) = None
+interface_of (command.AccessListLine list kind line) = None
 interface_of (command.AccessGroup name list direction) = Some name
 interface_of (command.PrefixLine list line) = None
 interface_of (command.CommunityLine list line) = None
@@ -68,10 +68,10 @@ is_one_too_many file (Some name) = is_none (named file.interfaces name) && nat_l
 abbrev pub refused : {A : Type 0} → ℕ → FileCause → Result A FileRefusal
 refused line cause = Err (record { line = line; cause = cause })
 
-abbrev pub with_command : ℕ → Reading → Place → Command → Result Reading FileRefusal
+abbrev pub with_command : ℕ → Reading → OpenBlock → Command → Result Reading FileRefusal
 with_command number r at m = if is_one_too_many r.file (interface_of m) then refused number TooManyInterfaces else Ok (record { file = after r.file m; place = open_after at m })
 
-abbrev pub with_answer : ℕ → Reading → Place → Result Command LineRefusal → Result Reading FileRefusal
+abbrev pub with_answer : ℕ → Reading → OpenBlock → Result Command LineRefusal → Result Reading FileRefusal
 with_answer number r at (Err refusal) = refused number (Line refusal)
 with_answer number r at (Ok m) = with_command number r at m
 

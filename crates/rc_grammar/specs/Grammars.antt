@@ -6,21 +6,21 @@ use Rattle.rc_openings.specs.Reading.{FormRows, SaysBy, said_by}
 use Rattle.rc_openings.specs.Values.{number_within}
 use Rattle.rc_openings.specs.declared.form.Form.{Form}
 use Rattle.rc_openings.specs.declared.reading.LineRefusal.{LineRefusal}
-use Rattle.rc_config.specs.Place.{block_at}
+use Rattle.rc_config.specs.OpenBlock.{block_at}
 use Rattle.rc_config.specs.declared.command.Command.{Command}
-use Rattle.rc_config.specs.declared.context.Place.{Place}
-use Rattle.rc_config.specs.declared.context.Place.TheVariants as place
+use Rattle.rc_config.specs.declared.context.OpenBlock.{OpenBlock}
+use Rattle.rc_config.specs.declared.context.OpenBlock.TheVariants as place
 use Rattle.rc_config.specs.declared.router_text.RouterText.{RouterText}
 use Rattle.rc_gram_if.specs.Reading.{rows_at as other_rows}
-use Rattle.rc_grammar.specs.Filters.{is_filter_form, filter_fronts, filter_rows, written_at}
+use Rattle.rc_grammar.specs.AccessLists.{is_access_list_form, access_list_fronts, access_list_rows, written_at}
 use Rattle.rc_grammar.specs.Policies.{is_policy_form, policy_fronts, policy_rows}
 use Rattle.rc_grammar.specs.declared.grammars.Grammar.{Grammar}
-use Rattle.rc_grammar.specs.declared.grammars.Grammar.TheVariants.{Filters, Policies, Others}
+use Rattle.rc_grammar.specs.declared.grammars.Grammar.TheVariants.{AccessLists, Policies, Others}
 
 -- Which grammar reads a line: each reads those that begin with one of its fronts, and one grammar all others.
-abbrev pub grammar_at : Place → List (List ℕ) → Grammar
+abbrev pub grammar_at : OpenBlock → List (List ℕ) → Grammar
 grammar_at at line =
-    if list_any (begins_with line) (filter_fronts (block_at at)) then Filters
+    if list_any (begins_with line) (access_list_fronts (block_at at)) then AccessLists
     else (if list_any (begins_with line) (policy_fronts (block_at at)) then Policies
     else Others)
 
@@ -30,8 +30,8 @@ behind_number [] = []
 behind_number (w ∷ ws) = if is_some (number_within 1 2147483647 w) then ws else w ∷ ws
 
 -- the words that are a line's own: in the block of an access list those behind the sequence number
-abbrev pub own_words : Place → List (List ℕ) → List (List ℕ)
-own_words (place.Acl list kind) line = behind_number line
+abbrev pub own_words : OpenBlock → List (List ℕ) → List (List ℕ)
+own_words (place.AccessList list kind) line = behind_number line
 own_words place.Closed line = line
 own_words place.Global line = line
 own_words (place.Interface name) line = line
@@ -47,9 +47,9 @@ joined own these others = record {
 }
 
 -- the rows for a line at a place
-abbrev pub rows_at : Place → RouterText → ℕ → List (List ℕ) → FormRows Command
+abbrev pub rows_at : OpenBlock → RouterText → ℕ → List (List ℕ) → FormRows Command
 rows_at at file number line =
-    joined is_filter_form (filter_rows at file (written_at at line))
+    joined is_access_list_form (access_list_rows at file (written_at at line))
     (joined is_policy_form (policy_rows at file number)
     (other_rows at file number))
 
@@ -57,9 +57,9 @@ abbrev pub Answer : Type 0
 Answer = Result Command LineRefusal
 
 -- the line says this where it stands: the opening with most words decides
-abbrev pub Says : Place → RouterText → ℕ → List (List ℕ) → Answer → Type 0
+abbrev pub Says : OpenBlock → RouterText → ℕ → List (List ℕ) → Answer → Type 0
 Says at file number line answer = SaysBy (rows_at at file number line) (block_at at) (own_words at line) answer
 
 -- the same, computed
-abbrev pub says : Place → RouterText → ℕ → List (List ℕ) → Answer
+abbrev pub says : OpenBlock → RouterText → ℕ → List (List ℕ) → Answer
 says at file number line = said_by (rows_at at file number line) (block_at at) (own_words at line)

@@ -11,8 +11,8 @@ use Rattle.rc_openings.specs.declared.reading.LineRefusal.TheVariants.{BadValue}
 use Rattle.rc_config.specs.declared.command.Command.{Command}
 use Rattle.rc_config.specs.declared.command.Command.TheVariants as command
 use Rattle.rc_config.specs.declared.community_list.CommunityLine.{CommunityLine}
-use Rattle.rc_config.specs.declared.context.Place.{Place}
-use Rattle.rc_config.specs.declared.context.Place.TheVariants as place
+use Rattle.rc_config.specs.declared.context.OpenBlock.{OpenBlock}
+use Rattle.rc_config.specs.declared.context.OpenBlock.TheVariants as place
 use Rattle.rc_config.specs.declared.prefix_list.PrefixLine.{PrefixLine}
 use Rattle.rc_config.specs.declared.router_text.RouterText.{RouterText}
 use Rattle.rc_gram_policy.specs.Reading.{prefix_answer, numbered_answer, standard_answer, opening_answer, map_answer}
@@ -78,10 +78,10 @@ opening_length form.PrependAsPath = 3
 opening_length _ = 2
 
 -- the answer of the rows of a form, to the line of this number
-abbrev pub row_answer : Form → Place → RouterText → ℕ → List (List ℕ) → Result Command LineRefusal
+abbrev pub row_answer : Form → OpenBlock → RouterText → ℕ → List (List ℕ) → Result Command LineRefusal
 row_answer f (place.Map map entry) file number line = said (command.MapLine map entry) (map_answer number f (drop (opening_length f) line))
 row_answer f _ file number line = list_answer f file line
 
 -- the rows at a place. A row says itself which words make its line one that isn't modelled.
-abbrev pub policy_rows : Place → RouterText → ℕ → FormRows Command
+abbrev pub policy_rows : OpenBlock → RouterText → ℕ → FormRows Command
 policy_rows at file number = record { answer = λ f line. row_answer f at file number line; refused = λ f. []; passed = command.Passed }

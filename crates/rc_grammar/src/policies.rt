@@ -4,14 +4,14 @@ ghost use Rattle.std.specs.Prelude.{◌≡◌, IfOk};
 ghost use Rattle.rc_openings.specs.Reading.{SaysBy};
 ghost use Rattle.rc_openings.specs.Words.{words_left, words_of};
 ghost use Rattle.rc_config.specs.Lawful.{FitsFile, IsInRange};
-ghost use Rattle.rc_config.specs.Place.{block_at};
+ghost use Rattle.rc_config.specs.OpenBlock.{block_at};
 ghost use Rattle.rc_gram_policy.specs.Error.{Gives};
 ghost use Rattle.rc_gram_policy.specs.Reading.{map_answer, numbered_answer, opening_answer, prefix_answer, standard_answer};
 ghost use Rattle.rc_grammar.specs.Answers.{IfAnswered};
 ghost use Rattle.rc_grammar.specs.Policies as policies;
 
 use rc_base::Name;
-use rc_config::{Command, Context, Place, RouterText};
+use rc_config::{Command, Context, OpenBlock, RouterText};
 use rc_gram_policy::{
     LineError, read_map_line, read_map_opening, read_numbered_community_line, read_prefix_line,
     read_standard_community_line,
@@ -144,7 +144,7 @@ fn map_line(
 fn read_form(
     alloc: Global,
     form: Form,
-    place: &Place,
+    place: &OpenBlock,
     file: &RouterText,
     number: u64,
     words: Words,
@@ -154,7 +154,7 @@ fn read_form(
     ensures fits { IfOk result (FitsFile file.now) }
 {
     match place {
-        Place::Map(map, entry) => map_line(
+        OpenBlock::Map(map, entry) => map_line(
             alloc,
             *map,
             *entry,
@@ -170,7 +170,7 @@ fn read_form(
 #[tactic(auto, unfolding(rc_openings::specs::Words::words_of))]
 fn read_words(
     alloc: Global,
-    place: &Place,
+    place: &OpenBlock,
     file: &RouterText,
     number: u64,
     words: Words,
@@ -179,7 +179,7 @@ fn read_words(
     ensures in_range { IfOk result IsInRange }
     ensures fits { IfOk result (FitsFile file.now) }
 {
-    match place.block().decide(words) {
+    match block.kind().decide(words) {
         None => Err(LineError::Refused(unopened(words))),
         Some(opening) => match opening.verdict {
             Verdict::Ignored => Ok(Command::Passed),

@@ -10,7 +10,7 @@ ghost use Rattle.rc_grammar.specs.File.{is_passed, place_at, open_after, interfa
 use crate::grammars::read_line;
 use crate::{FileCause, FileRefusal, ReadError};
 use rc_base::Name;
-use rc_config::{Command, Place, RouterText};
+use rc_config::{Command, OpenBlock, RouterText};
 use rc_gram_policy::LineError;
 use rc_lines::{Line, Lines, Part};
 use rc_openings::LineRefusal;
@@ -23,7 +23,7 @@ const MOST_INTERFACES: usize = 256;
 #[derive(Drop)]
 pub(crate) struct Reading {
     pub file: RouterText,
-    pub place: Place,
+    pub block: OpenBlock,
 }
 
 fn is_passed_over(line: &Line) -> bool
@@ -36,26 +36,26 @@ fn is_passed_over(line: &Line) -> bool
     }
 }
 
-fn place_of(open_block: &Place, line: &Line) -> Place
+fn place_of(open_block: &OpenBlock, line: &Line) -> OpenBlock
     ensures { result ≡ place_at open_block.now line.now.text }
 {
     if line.is_flush() {
-        Place::Global
+        OpenBlock::Global
     } else {
         *open_block
     }
 }
 
-fn place_after(at: &Place, command: &Command) -> Place
+fn place_after(at: &OpenBlock, command: &Command) -> OpenBlock
     ensures { result ≡ open_after at.now command.now }
 {
     match at {
-        Place::Global => match command {
-            Command::Interface { name, line: _ } => Place::Interface(*name),
-            Command::FilterOpened { list, kind } => Place::Acl(*list, *kind),
-            Command::MapOpened { map, number, .. } => Place::Map(*map, *number),
-            Command::Passed => Place::Ignored,
-            _ => Place::Closed,
+        OpenBlock::Global => match command {
+            Command::Interface { name, line: _ } => OpenBlock::Interface(*name),
+            Command::AccessListOpened { list, kind } => OpenBlock::AccessList(*list, *kind),
+            Command::MapOpened { map, number, .. } => OpenBlock::Map(*map, *number),
+            Command::Passed => OpenBlock::Ignored,
+            _ => OpenBlock::Closed,
         },
         _ => *at,
     }
@@ -73,8 +73,8 @@ fn interface_named(command: &Command) -> Option<Name>
         Command::Shutdown { interface, .. } => Some(*interface),
         Command::Bandwidth { interface, .. } => Some(*interface),
         Command::StaticRoute { .. } => None,
-        Command::FilterOpened { .. } => None,
-        Command::FilterLine { .. } => None,
+        Command::AccessListOpened { .. } => None,
+        Command::AccessListLine { .. } => None,
         Command::AccessGroup { interface, .. } => Some(*interface),
         Command::PrefixLine { .. } => None,
         Command::CommunityLine { .. } => None,
@@ -114,7 +114,7 @@ fn unread(line: &Line, error: LineError) -> ReadError
 }
 
 impl Reading {
-    fn with_command(self, line: &Line, at: &Place, command: Command) -> Result<Reading, ReadError>
+    fn with_command(self, line: &Line, at: &OpenBlock, command: Command) -> Result<Reading, ReadError>
         requires in_range { IsInRange command }
         requires fits { FitsFile self.file command }
         requires lists { HasLawfulLists self.file }
@@ -137,7 +137,7 @@ impl Reading {
 
     /// After a line whose opening is passed over: no more than the open block changes. Most lines are such, and the model
     /// is not touched for them.
-    fn passed(self, at: &Place) -> Reading
+    fn passed(self, at: &OpenBlock) -> Reading
         ensures { result ≡ record self { place = open_after at.now Command.Passed } }
     {
         let Reading { file, place: _ } = self;
@@ -168,12 +168,12 @@ impl Reading {
     }
 
     fn closed(self) -> Reading
-        ensures { result ≡ record self { place = Place.Closed } }
+        ensures { result ≡ record self { place = OpenBlock.Closed } }
     {
         let Reading { file, place: _ } = self;
         Reading {
             file,
-            place: Place::Closed,
+            place: OpenBlock::Closed,
         }
     }
 
@@ -210,7 +210,7 @@ fn read_lines(alloc: Global, bytes: &[u8]) -> Result<Reading, ReadError>
     let mut lines = Lines::new(bytes);
     let mut reading = Reading {
         file: RouterText::new(alloc),
-        place: Place::Closed,
+        place: OpenBlock::Closed,
     };
     while let Some(line) = lines.next() {
         match reading.with_line(alloc, &line) {

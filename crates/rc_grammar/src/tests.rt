@@ -230,9 +230,9 @@ interface Serial0
     let file = read_file(alloc, text).ok().ok_or("refused")?;
     let serial = Name::new(b"Serial0").ok_or("Serial0")?;
     let block = file.interfaces.get(&serial).ok_or("interface")?;
-    assert_eq!(rt; block.filter_in, Name::new(b"6"));
-    assert_eq!(rt; block.filter_out, Name::new(b"WEB"));
-    assert!(rt; file.lists.filters.is_empty());
+    assert_eq!(rt; block.access_group_in, Name::new(b"6"));
+    assert_eq!(rt; block.access_group_out, Name::new(b"WEB"));
+    assert!(rt; file.lists.access_lists.is_empty());
     check(
         &rt,
         alloc,
@@ -261,14 +261,14 @@ ip access-list extended WEB
 #[test]
 fn access_lists(rt: HostRuntime) -> Result<(), Fail> {
     let file = read_file(rt.alloc(), LISTS).ok().ok_or("refused")?;
-    assert_eq!(rt; file.lists.filters.len(), 3);
+    assert_eq!(rt; file.lists.access_lists.len(), 3);
     for (name, numbers) in [
         (b"WEB".as_slice(), [5, 10, 20].as_slice()),
         (b"5", &[10, 20]),
         (b"EMPTY", &[]),
     ] {
         let name = Name::new(name).ok_or("a name")?;
-        let list = file.lists.filters.get(&name).ok_or("a list")?;
+        let list = file.lists.access_lists.get(&name).ok_or("a list")?;
         assert_eq!(rt; list.lines.len(), numbers.len());
         assert_eq!(rt; list.greatest(), numbers.last().copied());
     }

@@ -11,7 +11,7 @@ use crate::lines::first_line;
 use rc_openings::Words;
 
 /// What a line is to the reader of a file.
-#[derive(Clone, Copy, Debug, PartialEq, Eq)]
+#[derive(Clone, Copy, PartialEq, Eq)]
 pub enum Part {
     /// A line to be read by its own text.
     Plain,
@@ -26,7 +26,7 @@ pub enum Part {
 }
 
 /// What ends a banner.
-#[derive(Clone, Copy, Debug, PartialEq, Eq)]
+#[derive(Clone, Copy, PartialEq, Eq)]
 pub enum Delimiter {
     Byte(u8),
     /// The two bytes `^C`.

@@ -1,11 +1,11 @@
 -- Worked cases of undefined lists, each by computation.
 use Rattle.std.specs.Prelude.{◌≡◌, ℕ, List, [], ◌∷◌, ◌++◌, fold, Some, None, codes, refl}
-use Rattle.rc_config.specs.Filter.{host_address, standard_line}
+use Rattle.rc_config.specs.AccessList.{host_address, standard_line}
 use Rattle.rc_config.specs.Update.{after, empty}
 use Rattle.rc_config.specs.declared.command.Command.{Command}
 use Rattle.rc_config.specs.declared.command.Command.TheVariants as command
-use Rattle.rc_config.specs.declared.filter.Action.TheVariants.{Permit}
-use Rattle.rc_config.specs.declared.filter.FilterKind.TheVariants.{Standard, Extended}
+use Rattle.rc_config.specs.declared.access_list.Action.TheVariants.{Permit}
+use Rattle.rc_config.specs.declared.access_list.AccessListKind.TheVariants.{Standard, Extended}
 use Rattle.rc_config.specs.declared.map_line.MapLine.TheVariants.{Match, Set}
 use Rattle.rc_config.specs.declared.map_line.MatchKind.{MatchKind}
 use Rattle.rc_config.specs.declared.map_line.MatchKind.TheVariants.{AccessList, PrefixList, CommunityList}
@@ -33,7 +33,7 @@ matching entry kind names line = command.MapOpened (codes "M") entry Permit ∷ 
 
 -- a line of a list of each kind
 abbrev access_line : List ℕ → Command
-access_line name = command.FilterLine name Standard (standard_line 10 Permit (host_address 7))
+access_line name = command.AccessListLine name Standard (standard_line 10 Permit (host_address 7))
 
 abbrev prefix_line : List ℕ → Command
 prefix_line name = command.PrefixLine name (record { sequence = 5; action = Permit; prefix = prefix_at 0 0; ge = None; le = None })
@@ -62,11 +62,11 @@ pub community_list_defined : undefined_line (file (matching 10 CommunityList (on
 community_list_defined = refl
 
 -- so does a line that opens it, if no line of it comes
-pub opened_alone : undefined_line (file (command.FilterOpened one Standard ∷ matching 10 AccessList (one ∷ []) 5)) ≡ None
+pub opened_alone : undefined_line (file (command.AccessListOpened one Standard ∷ matching 10 AccessList (one ∷ []) 5)) ≡ None
 opened_alone = refl
 
 -- an extended access list is none that a route map matches by
-pub extended : undefined_line (file (command.FilterOpened one Extended ∷ matching 10 AccessList (one ∷ []) 5)) ≡ Some 5
+pub extended : undefined_line (file (command.AccessListOpened one Extended ∷ matching 10 AccessList (one ∷ []) 5)) ≡ Some 5
 extended = refl
 
 -- a remark defines nothing, nor does a list of another kind under the name

@@ -3,8 +3,8 @@ use Rattle.std.specs.Prelude.{ℕ, min, Bool, true, false, not, List, ◌++◌, 
 use Rattle.std.specs.List.{flat_map, reduce}
 use Rattle.std.specs.Option.{option_map_or}
 use Rattle.rc_config.specs.Named.{named}
-use Rattle.rc_config.specs.declared.filter.FilterKind.{FilterKind}
-use Rattle.rc_config.specs.declared.filter.FilterKind.TheVariants.{Standard, Extended}
+use Rattle.rc_config.specs.declared.access_list.AccessListKind.{AccessListKind}
+use Rattle.rc_config.specs.declared.access_list.AccessListKind.TheVariants.{Standard, Extended}
 use Rattle.rc_config.specs.declared.lists.Lists.{Lists}
 use Rattle.rc_config.specs.declared.map_line.MatchKind.{MatchKind}
 use Rattle.rc_config.specs.declared.map_line.MatchKind.TheVariants.{AccessList, PrefixList, CommunityList}
@@ -32,14 +32,14 @@ named_by_map m = flat_map named_by_entry m.entries
 abbrev pub named_by : RouterText → List NamedList
 named_by r = flat_map (λ e. named_by_map e.1) r.route_maps
 
-abbrev pub is_standard : FilterKind → Bool
+abbrev pub is_standard : AccessListKind → Bool
 is_standard Standard = true
 is_standard Extended = false
 
 -- The file defines a list: one of its lines opens it or is one of its lines. A route map matches by standard access lists alone, so
 -- an extended one under the name is not the list that is meant.
 abbrev pub defines : Lists → MatchKind → List ℕ → Bool
-defines l AccessList name = option_map_or (λ f. is_standard f.kind) (named l.filters name) false
+defines l AccessList name = option_map_or (λ f. is_standard f.kind) (named l.access_lists name) false
 defines l PrefixList name = is_some (named l.prefix_lists name)
 defines l CommunityList name = is_some (named l.community_lists name)
 

@@ -5,7 +5,7 @@ use rc_base::FileName;
 use rc_grammar::FileCause;
 
 /// Why a file of a network is refused.
-#[derive(Clone, Copy, Debug, PartialEq, Eq)]
+#[derive(Clone, Copy, PartialEq, Eq)]
 pub enum NetCause {
     /// The file is refused by itself.
     File(FileCause),
@@ -35,7 +35,7 @@ impl NetCause {
 }
 
 /// The first refusal of the files of a folder.
-#[derive(Debug, Drop)]
+#[derive(Drop)]
 pub enum NetRefusal {
     /// The folder has more than 512 configurations.
     TooManyFiles,
@@ -44,7 +44,7 @@ pub enum NetRefusal {
 }
 
 /// Why there is no network.
-#[derive(Debug, Drop)]
+#[derive(Drop)]
 pub enum BuildError {
     /// A file is refused.
     Refused(NetRefusal),

@@ -6,14 +6,14 @@ ghost use Rattle.rc_network.specs.Least.{lower, least_from};
 ghost use Rattle.rc_network.specs.Undefined.{defines, is_standard, named_by_entry, named_by_map, of_kind, undefined_line};
 
 use rc_base::Name;
-use rc_config::{FilterKind, Lists, MapEntry, MatchKind, Mention, RouteMap, RouterText};
+use rc_config::{AccessListKind, Lists, MapEntry, MatchKind, Mention, RouteMap, RouterText};
 
-fn is_standard(kind: FilterKind) -> bool
+fn is_standard(kind: AccessListKind) -> bool
     ensures { result ≡ is_standard kind }
 {
     match kind {
-        FilterKind::Standard => true,
-        FilterKind::Extended => false,
+        AccessListKind::Standard => true,
+        AccessListKind::Extended => false,
     }
 }
 
@@ -22,8 +22,8 @@ fn defines(lists: &Lists, kind: MatchKind, name: &Name) -> bool
     ensures { result ≡ defines lists.now kind name.now }
 {
     match kind {
-        MatchKind::AccessList => match lists.filters.get(name) {
-            Some(filter) => is_standard(filter.kind),
+        MatchKind::AccessList => match lists.access_lists.get(name) {
+            Some(access_list) => is_standard(access_list.kind),
             None => false,
         },
         MatchKind::PrefixList => lists.prefix_lists.get(name).is_some(),

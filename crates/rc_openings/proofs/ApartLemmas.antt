@@ -15,7 +15,7 @@ use Rattle.rc_openings.specs.Apart.{conflict, are_apart}
 use Rattle.rc_openings.specs.Opening.{Row, begins_with, stands_for, IsDecisive, NoneFits, IsAnswer, longer, decisive_row}
 use Rattle.rc_openings.specs.GlobalOpenings.{global, global_forms, global_refused, global_ignored}
 use Rattle.rc_openings.specs.InterfaceOpenings.{interface, interface_forms, interface_refused, interface_ignored}
-use Rattle.rc_openings.specs.AclOpenings.{acl, acl_forms, acl_refused, acl_ignored}
+use Rattle.rc_openings.specs.AccessListOpenings.{access_list, access_list_forms, access_list_refused, access_list_ignored}
 use Rattle.rc_openings.specs.RouteMapOpenings.{route_map, route_map_forms, route_map_refused, route_map_ignored}
 use Rattle.rc_openings.specs.OspfOpenings.{ospf, ospf_forms, ospf_refused, ospf_ignored}
 use Rattle.rc_openings.specs.BgpOpenings.{bgp, bgp_forms, bgp_refused, bgp_ignored}
@@ -101,9 +101,9 @@ interface_apart : are_apart interface ≡ true
 unfolding interface interface_forms interface_refused interface_ignored words_of
 interface_apart = refl
 
-acl_apart : are_apart acl ≡ true
-unfolding acl acl_forms acl_refused acl_ignored words_of
-acl_apart = refl
+access_lists_apart : are_apart access_list ≡ true
+unfolding access_list access_list_forms access_list_refused access_list_ignored words_of
+access_lists_apart = refl
 
 route_map_apart : are_apart route_map ≡ true
 unfolding route_map route_map_forms route_map_refused route_map_ignored words_of
@@ -121,7 +121,7 @@ apart_rows : (kind : Block) → are_apart (rows_of kind) ≡ true
 apart_rows block.Closed = refl
 apart_rows block.Global = global_apart
 apart_rows block.Interface = interface_apart
-apart_rows block.Acl = acl_apart
+apart_rows block.AccessList = access_lists_apart
 apart_rows block.RouteMap = route_map_apart
 apart_rows block.Ospf = ospf_apart
 apart_rows block.Bgp = bgp_apart

@@ -6,7 +6,7 @@ use Rattle.rc_openings.specs.declared.opening.Verdict.TheVariants.{Ignored}
 use Rattle.rc_openings.specs.Opening.{Row, begins_form}
 use Rattle.rc_openings.specs.GlobalOpenings.{global}
 use Rattle.rc_openings.specs.InterfaceOpenings.{interface}
-use Rattle.rc_openings.specs.AclOpenings.{acl}
+use Rattle.rc_openings.specs.AccessListOpenings.{access_list}
 use Rattle.rc_openings.specs.RouteMapOpenings.{route_map}
 use Rattle.rc_openings.specs.OspfOpenings.{ospf}
 use Rattle.rc_openings.specs.BgpOpenings.{bgp}
@@ -20,7 +20,7 @@ abbrev pub rows_of : Block → List Row
 rows_of block.Closed = []
 rows_of block.Global = global
 rows_of block.Interface = interface
-rows_of block.Acl = acl
+rows_of block.AccessList = access_list
 rows_of block.RouteMap = route_map
 rows_of block.Ospf = ospf
 rows_of block.Bgp = bgp
@@ -29,4 +29,4 @@ rows_of block.Ignored = any_line
 -- the line begins with a form opening of some block
 abbrev pub begins_form_anywhere : List (List ℕ) → Bool
 begins_form_anywhere line =
-    begins_form global line || begins_form interface line || begins_form acl line || begins_form route_map line || begins_form ospf line || begins_form bgp line
+    begins_form global line || begins_form interface line || begins_form access_list line || begins_form route_map line || begins_form ospf line || begins_form bgp line

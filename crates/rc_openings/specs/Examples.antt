@@ -13,7 +13,7 @@ use Rattle.rc_openings.specs.Values.{number_of, number_within, address_of, mask_
 use Rattle.rc_openings.specs.Words.{words_of}
 use Rattle.rc_openings.specs.GlobalOpenings.{global, global_forms, global_refused, global_ignored}
 use Rattle.rc_openings.specs.InterfaceOpenings.{interface, interface_forms, interface_refused, interface_ignored}
-use Rattle.rc_openings.specs.AclOpenings.{acl, acl_forms, acl_refused, acl_ignored}
+use Rattle.rc_openings.specs.AccessListOpenings.{access_list, access_list_forms, access_list_refused, access_list_ignored}
 use Rattle.rc_openings.specs.RouteMapOpenings.{route_map, route_map_forms, route_map_refused, route_map_ignored}
 use Rattle.rc_openings.specs.OspfOpenings.{ospf, ospf_forms, ospf_refused, ospf_ignored}
 use Rattle.rc_openings.specs.BgpOpenings.{bgp, bgp_forms, bgp_refused, bgp_ignored}
@@ -56,8 +56,8 @@ unfolding decisive_row interface interface_forms interface_refused interface_ign
 interface_lines = (refl, refl, refl, refl, refl, refl, refl, refl, refl, refl, refl, refl)
 
 pub other_lines :
-    IsDecided block.Acl (codes " remark") (Some (Form form.Remark))
-    × IsDecided block.Acl (codes " dynamic X permit ip any any") (Some Refused)
+    IsDecided block.AccessList (codes " remark") (Some (Form form.Remark))
+    × IsDecided block.AccessList (codes " dynamic X permit ip any any") (Some Refused)
     × IsDecided block.RouteMap (codes " match ip address prefix-list X") (Some (Form form.MatchPrefixList))
     × IsDecided block.RouteMap (codes " set metric-type internal") (Some Refused)
     × IsDecided block.RouteMap (codes " set tag 3") (Some Ignored)
@@ -70,7 +70,7 @@ pub other_lines :
     × IsDecided block.Bgp (codes " no synchronization") (Some Ignored)
     × IsDecided block.Ignored (codes " anything at all") (Some Ignored)
     × IsDecided block.Closed (codes " ip address 10.0.0.1 255.0.0.0") None
-unfolding decisive_row acl acl_forms acl_refused acl_ignored route_map route_map_forms route_map_refused route_map_ignored ospf ospf_forms ospf_refused ospf_ignored bgp bgp_forms bgp_refused bgp_ignored words_of
+unfolding decisive_row access_list access_list_forms access_list_refused access_list_ignored route_map route_map_forms route_map_refused route_map_ignored ospf ospf_forms ospf_refused ospf_ignored bgp bgp_forms bgp_refused bgp_ignored words_of
 other_lines = (refl, refl, refl, refl, refl, refl, refl, refl, refl, refl, refl, refl, refl, refl)
 
 -- forms of every block count, also those that are not read yet; openings that only ever refuse do not
@@ -83,7 +83,7 @@ pub unopened_lines :
     × (unopened (words_of (codes "maximum-paths 2")) ≡ Unknown)
     × (unopened (words_of (codes "address-family ipv4")) ≡ Unknown)
     × (unopened (words_of (codes "version 15.7")) ≡ Unknown)
-unfolding global global_forms global_refused global_ignored interface interface_forms interface_refused interface_ignored acl acl_forms acl_refused acl_ignored route_map route_map_forms route_map_refused route_map_ignored ospf ospf_forms ospf_refused ospf_ignored bgp bgp_forms bgp_refused bgp_ignored words_of
+unfolding global global_forms global_refused global_ignored interface interface_forms interface_refused interface_ignored access_list access_list_forms access_list_refused access_list_ignored route_map route_map_forms route_map_refused route_map_ignored ospf ospf_forms ospf_refused ospf_ignored bgp bgp_forms bgp_refused bgp_ignored words_of
 unopened_lines = (refl, refl, refl, refl, refl, refl, refl, refl)
 
 pub numbers :

@@ -1,9 +1,10 @@
 pub mod Words
+pub mod Forms
 pub mod Opening
 pub mod Apart
 pub mod GlobalOpenings
 pub mod InterfaceOpenings
-pub mod AclOpenings
+pub mod AccessListOpenings
 pub mod RouteMapOpenings
 pub mod OspfOpenings
 pub mod BgpOpenings

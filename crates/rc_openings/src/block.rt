@@ -9,7 +9,7 @@ ghost use Rattle.rc_openings.specs.Block.{rows_of, begins_form_anywhere};
 ghost use Rattle.rc_openings.specs.declared.block.Block.{Block as BlockKind};
 ghost use Rattle.rc_openings.specs.declared.form.Form.{Form as FormKind};
 
-use crate::acl::acl_table;
+use crate::access_list::access_list_table;
 use crate::bgp::bgp_table;
 use crate::decide::decisive;
 use crate::global::global_table;
@@ -19,7 +19,7 @@ use crate::route_map::route_map_table;
 use crate::{Opening, Verdict, Words};
 
 /// The kind of block that a line stands in.
-#[derive(Clone, Copy, Debug, PartialEq, Eq)]
+#[derive(Clone, Copy, PartialEq, Eq)]
 pub enum Block {
     /// No block is open, and the line is indented.
     Closed,
@@ -27,7 +27,7 @@ pub enum Block {
     Global,
     Interface,
     /// A named access list.
-    Acl,
+    AccessList,
     RouteMap,
     Ospf,
     Bgp,
@@ -58,7 +58,7 @@ impl Block {
             Block::Closed => None,
             Block::Global => global_table().decide(line),
             Block::Interface => interface_table().decide(line),
-            Block::Acl => acl_table().decide(line),
+            Block::AccessList => access_list_table().decide(line),
             Block::RouteMap => route_map_table().decide(line),
             Block::Ospf => ospf_table().decide(line),
             Block::Bgp => bgp_table().decide(line),
@@ -74,7 +74,7 @@ pub fn is_form(line: Words, from: usize) -> bool
     let words = line.skip(from);
     global_table().begins_form(words)
         || interface_table().begins_form(words)
-        || acl_table().begins_form(words)
+        || access_list_table().begins_form(words)
         || route_map_table().begins_form(words)
         || ospf_table().begins_form(words)
         || bgp_table().begins_form(words)

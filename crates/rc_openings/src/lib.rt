@@ -6,10 +6,11 @@
 //! forms. No call here takes memory.
 #![tactic(auto)]
 
-mod acl;
+mod access_list;
 mod bgp;
 mod block;
 mod decide;
+mod decision;
 mod form;
 mod global;
 mod interface;
@@ -25,8 +26,9 @@ mod words;
 
 pub use block::{Block, form_has_front, front_decides, is_form, one_opening_decides};
 pub use decide::decisive;
-pub use form::Form;
+pub use decision::{Decision, number_in_front, one_decision};
+pub use form::{Form, Grammar};
 pub use opening::{Opening, Verdict};
-pub use reading::{LineRefusal, judged, unopened};
+pub use reading::{LineError, LineRefusal, judged, unopened};
 pub use values::{before_mark, number_in, word_addr, word_mask, word_prefix, word_u32};
 pub use words::Words;

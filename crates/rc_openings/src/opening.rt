@@ -6,7 +6,7 @@ ghost use Rattle.rc_openings.specs.Opening.{begins_with, parts_within_word as pa
 use crate::{Form, Words};
 
 /// What an opening says of a line that it decides.
-#[derive(Clone, Copy, Debug, PartialEq, Eq)]
+#[derive(Clone, Copy, PartialEq, Eq)]
 pub enum Verdict {
     /// The line is of this form.
     Form(Form),

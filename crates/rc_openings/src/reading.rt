@@ -6,7 +6,7 @@ ghost use Rattle.rc_openings.specs.Reading.{code_of, share_a_word as have_one_wo
 use crate::{Words, is_form};
 
 /// Why a line is refused.
-#[derive(Clone, Copy, Debug, PartialEq, Eq)]
+#[derive(Clone, Copy, PartialEq, Eq)]
 pub enum LineRefusal {
     /// No opening of any block begins the line.
     Unknown,
@@ -30,6 +30,15 @@ impl LineRefusal {
             LineRefusal::OutOfPlace => 4,
         }
     }
+}
+
+/// Why a line gives no command, in every grammar.
+#[derive(Clone, Copy, PartialEq, Eq)]
+pub enum LineError {
+    /// It is refused.
+    Refused(LineRefusal),
+    /// Memory ran out.
+    Memory,
 }
 
 /// Whether the word is one of these.

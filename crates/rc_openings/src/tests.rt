@@ -20,7 +20,7 @@ fn longest_opening_decides(rt: HostRuntime) {
     assert_eq!(rt; dhcp, Some(Verdict::Refused));
     let text = verdict_in(Block::Global, b"ip prefix-list X description y");
     assert_eq!(rt; text, Some(Verdict::Ignored));
-    assert_eq!(rt; verdict_in(Block::Acl, b"shutdown"), None);
+    assert_eq!(rt; verdict_in(Block::AccessList, b"shutdown"), None);
     assert_eq!(rt;
         verdict_in(Block::Ignored, b" 30820240"),
         Some(Verdict::Ignored)

@@ -7,10 +7,10 @@ use Rattle.rc_base.specs.Prefix.{Cidr, contains}
 use Rattle.rc_config.specs.Named.{named}
 use Rattle.rc_config.specs.declared.community_list.CommunityLine.{CommunityLine}
 use Rattle.rc_config.specs.declared.community_list.CommunityList.{CommunityList}
-use Rattle.rc_config.specs.declared.filter.Action.{Action}
-use Rattle.rc_config.specs.declared.filter.Action.TheVariants.{Permit, Deny}
-use Rattle.rc_config.specs.declared.filter.Filter.{Filter}
-use Rattle.rc_config.specs.declared.filter.FilterLine.{FilterLine}
+use Rattle.rc_config.specs.declared.access_list.Action.{Action}
+use Rattle.rc_config.specs.declared.access_list.Action.TheVariants.{Permit, Deny}
+use Rattle.rc_config.specs.declared.access_list.AccessList.{AccessList}
+use Rattle.rc_config.specs.declared.access_list.AccessListLine.{AccessListLine}
 use Rattle.rc_config.specs.declared.lists.Lists.{Lists}
 use Rattle.rc_config.specs.declared.prefix_list.PrefixLine.{PrefixLine}
 use Rattle.rc_config.specs.declared.prefix_list.PrefixList.{PrefixList}
@@ -54,8 +54,8 @@ abbrev pub community_list_permits : CommunityList → List ℕ → Bool
 community_list_permits list communities = community_lines_permit list.lines communities
 
 -- ---- access lists, asked for an address alone: a line matches where it is one of the line's sources
-abbrev pub access_list_permits : Filter → ℕ → Bool
-access_list_permits f addr = first_permits (λ (l : FilterLine). l.action) (λ (l : FilterLine). matches_address l.source addr) f.lines
+abbrev pub access_list_permits : AccessList → ℕ → Bool
+access_list_permits f addr = first_permits (λ (l : AccessListLine). l.action) (λ (l : AccessListLine). matches_address l.source addr) f.lines
 
 -- ---- route maps
 
@@ -74,7 +74,7 @@ condition_holds lists permits_route names = length names == 0 || some_permits li
 -- an entry matches where each of its conditions holds
 abbrev pub matches_entry : Lists → Attrs → MapEntry → Bool
 matches_entry lists a e =
-    condition_holds lists.filters (λ f. access_list_permits f a.prefix.network) e.access_lists
+    condition_holds lists.access_lists (λ f. access_list_permits f a.prefix.network) e.access_lists
     && condition_holds lists.prefix_lists (λ l. prefix_list_permits l a.prefix) e.prefix_lists
     && condition_holds lists.community_lists (λ l. community_list_permits l a.communities) e.community_lists
 

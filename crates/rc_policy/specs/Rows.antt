@@ -2,16 +2,16 @@
 use Rattle.std.specs.Prelude.{◌≡◌, ℕ, ◌+◌, ◌*◌, true, false, List, [], ◌∷◌, Option, Some, None, codes, refl}
 use Rattle.rc_base.specs.Prefix.{Cidr, prefix_at}
 use Rattle.rc_base.specs.declared.origin.Origin.TheVariants.{Igp, Incomplete}
-use Rattle.rc_config.specs.Filter.{host_address, standard_line}
+use Rattle.rc_config.specs.AccessList.{host_address, standard_line}
 use Rattle.rc_config.specs.PrefixList.{no_lines, with_line}
 use Rattle.rc_config.specs.RouteMap.{fresh_entry, opened, no_entries}
 use Rattle.rc_config.specs.Sets.{no_sets}
 use Rattle.rc_config.specs.declared.community_list.CommunityLine.{CommunityLine}
 use Rattle.rc_config.specs.declared.community_list.CommunityList.{CommunityList}
-use Rattle.rc_config.specs.declared.filter.Action.{Action}
-use Rattle.rc_config.specs.declared.filter.Action.TheVariants.{Permit, Deny}
-use Rattle.rc_config.specs.declared.filter.Filter.{Filter}
-use Rattle.rc_config.specs.declared.filter.FilterKind.TheVariants.{Standard}
+use Rattle.rc_config.specs.declared.access_list.Action.{Action}
+use Rattle.rc_config.specs.declared.access_list.Action.TheVariants.{Permit, Deny}
+use Rattle.rc_config.specs.declared.access_list.AccessList.{AccessList}
+use Rattle.rc_config.specs.declared.access_list.AccessListKind.TheVariants.{Standard}
 use Rattle.rc_config.specs.declared.lists.Lists.{Lists}
 use Rattle.rc_config.specs.declared.prefix_list.PrefixLine.{PrefixLine}
 use Rattle.rc_config.specs.declared.prefix_list.PrefixList.{PrefixList}
@@ -167,7 +167,7 @@ no_communities = refl
 -- ---- access lists, asked for the network address alone
 
 -- access-list 5 deny 10.9.1.0, access-list 5 permit 10.9.0.0 0.0.255.255
-abbrev fifth : Filter
+abbrev fifth : AccessList
 fifth = record {
   kind = Standard;
   lines = standard_line 10 Deny (host_address (10 * 16777216 + 9 * 65536 + 256))
@@ -192,7 +192,7 @@ end_of_sources_denies = refl
 -- the lists of a router: access list 5; prefix lists ninth and none; community lists 7, both and none
 abbrev lists : Lists
 lists = record {
-  filters = (codes "5", fifth) ∷ [];
+  access_lists = (codes "5", fifth) ∷ [];
   prefix_lists = (codes "NINTH", one (Some 24) (Some 24)) ∷ (codes "NONE", list []) ∷ [];
   community_lists = (codes "7", communities (permit (c1 ∷ []) ∷ [])) ∷ (codes "NONE", communities []) ∷ [];
 }

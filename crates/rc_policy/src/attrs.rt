@@ -3,7 +3,7 @@ use rc_base::{Communities, Items, Origin, Prefix};
 use rc_config::MetricType;
 
 /// The attributes of a route (RFC 4271 s.5, RFC 1997) that a route map may read or set.
-#[derive(Debug, Drop, PartialEq, Eq)]
+#[derive(Drop, PartialEq, Eq)]
 pub struct Attrs {
     pub prefix: Prefix,
     /// The metric, of a BGP path its MULTI_EXIT_DISC (RFC 4271 s.5.1.4).

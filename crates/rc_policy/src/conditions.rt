@@ -4,15 +4,15 @@ ghost use Rattle.rc_policy.specs.Policy.{access_list_permits, community_list_per
 
 use crate::{Attrs, community_list_permits, permits};
 use rc_base::{Addr, Communities, Name, Prefix};
-use rc_config::{Action, CommunityList, Filter, Lists, MapEntry, Mention, Named, PrefixList};
+use rc_config::{Action, CommunityList, AccessList, Lists, MapEntry, Mention, Named, PrefixList};
 use rc_filter::matches_address;
 
 /// Whether a standard access list permits an address: the action of the first line whose source is the address decides, and
 /// the end denies. Of other tests that a line has nothing is asked.
-pub fn permits_address(filter: &Filter, addr: Addr) -> bool
-    ensures { result ≡ access_list_permits filter.now addr }
+pub fn permits_address(access_list: &AccessList, addr: Addr) -> bool
+    ensures { result ≡ access_list_permits access_list.now addr }
 {
-    for line in filter.lines.iter() {
+    for line in access_list.lines.iter() {
         if matches_address(&line.source, addr) {
             return matches!(line.action, Action::Permit);
         }
@@ -21,12 +21,12 @@ pub fn permits_address(filter: &Filter, addr: Addr) -> bool
 }
 
 /// Whether the access list of a name is there and permits an address.
-fn named_filter_permits(filters: &Named<Filter>, name: &Name, addr: Addr) -> bool
-    ensures { result ≡ is_permitted filters.now (λ f. access_list_permits f addr) name.now }
+fn named_access_list_permits(access_lists: &Named<AccessList>, name: &Name, addr: Addr) -> bool
+    ensures { result ≡ is_permitted access_lists.now (λ f. access_list_permits f addr) name.now }
 {
-    let found = filters.get(name);
+    let found = access_lists.get(name);
     match found {
-        Some(filter) => permits_address(filter, addr),
+        Some(access_list) => permits_address(access_list, addr),
         None => false,
     }
 }
@@ -58,10 +58,10 @@ fn named_community_list_permits(
 }
 
 /// Whether one of the access lists so named permits an address.
-fn some_filter_permits(filters: &Named<Filter>, names: &[Mention], addr: Addr) -> bool
-    ensures { result ≡ some_permits filters.now (λ f. access_list_permits f addr) names.now }
+fn some_access_list_permits(access_lists: &Named<AccessList>, names: &[Mention], addr: Addr) -> bool
+    ensures { result ≡ some_permits access_lists.now (λ f. access_list_permits f addr) names.now }
 {
-    names.iter().any(|mention| named_filter_permits(filters, &mention.name, addr))
+    names.iter().any(|mention| named_access_list_permits(access_lists, &mention.name, addr))
 }
 
 /// Whether one of the prefix lists so named permits a prefix.
@@ -83,10 +83,10 @@ fn some_community_list_permits(
 }
 
 /// Whether the condition of the lines `match ip address` holds.
-fn holds_by_filters(filters: &Named<Filter>, names: &[Mention], addr: Addr) -> bool
-    ensures { result ≡ condition_holds filters.now (λ f. access_list_permits f addr) names.now }
+fn holds_by_access_lists(access_lists: &Named<AccessList>, names: &[Mention], addr: Addr) -> bool
+    ensures { result ≡ condition_holds access_lists.now (λ f. access_list_permits f addr) names.now }
 {
-    names.is_empty() || some_filter_permits(filters, names, addr)
+    names.is_empty() || some_access_list_permits(access_lists, names, addr)
 }
 
 /// Whether the condition of the lines `match ip address prefix-list` holds.
@@ -112,7 +112,7 @@ pub(crate) fn matches_entry(entry: &MapEntry, lists: &Lists, attrs: &Attrs) -> b
     ensures { result ≡ matches_entry lists.now attrs.now entry.now }
 {
     let network = attrs.prefix.network();
-    holds_by_filters(&lists.filters, entry.access_lists.as_slice(), network)
+    holds_by_access_lists(&lists.access_lists, entry.access_lists.as_slice(), network)
         && holds_by_prefix_lists(
             &lists.prefix_lists,
             entry.prefix_lists.as_slice(),

@@ -2,7 +2,7 @@
 use crate::{Attrs, apply, community_list_permits, permits, permits_address};
 use rc_base::{Addr, Communities, Items, Name, Origin, Prefix};
 use rc_config::{
-    Action, AddressTest, CommunityLine, CommunityList, Filter, FilterKind, FilterLine, Lists,
+    Action, AddressTest, CommunityLine, CommunityList, AccessList, AccessListKind, AccessListLine, Lists,
     MapLine, MatchKind, MetricType, PrefixLine, PrefixList, RouteMap, SetLine,
 };
 use std::alloc::{AllocError, Global};
@@ -87,10 +87,10 @@ fn sources_alone(rt: HostRuntime) -> Result<(), Fail> {
         addr: Addr::new(0x0a09_0000),
         wildcard: Addr::new(0xffff),
     };
-    let filter = Filter::new(rt.alloc(), FilterKind::Standard);
-    let filter = filter.with_line(FilterLine::standard(10, Action::Permit, source))?;
-    assert!(rt; permits_address(&filter, Addr::new(0x0a09_0100)));
-    assert!(rt; !permits_address(&filter, Addr::new(0x0a0a_0100)));
+    let access_list = AccessList::new(rt.alloc(), AccessListKind::Standard);
+    let access_list = access_list.with_line(AccessListLine::standard(10, Action::Permit, source))?;
+    assert!(rt; permits_address(&access_list, Addr::new(0x0a09_0100)));
+    assert!(rt; !permits_address(&access_list, Addr::new(0x0a0a_0100)));
     Ok(())
 }
 

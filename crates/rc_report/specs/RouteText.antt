@@ -3,7 +3,7 @@ use Rattle.std.specs.Prelude.{ℕ, List, [], ◌++◌, codes, decimal, flat_map,
 use Rattle.std.specs.Option.{option_map_or}
 use Rattle.rc_base.specs.Addr.{dotted}
 use Rattle.rc_base.specs.Prefix.{prefix_text}
-use Rattle.rc_base.specs.declared.place.IfId.{IfId}
+use Rattle.rc_base.specs.declared.position.IfId.{IfId}
 use Rattle.rc_config.specs.Members.{interface_at}
 use Rattle.rc_config.specs.declared.network.Network.{Network}
 use Rattle.rc_route.specs.declared.route.Hop.{Hop}

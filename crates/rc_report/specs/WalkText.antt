@@ -2,8 +2,8 @@
 use Rattle.std.specs.Prelude.{List, ℕ, ◌++◌, codes, flat_map}
 use Rattle.rc_base.specs.declared.ending.Kind.{Kind}
 use Rattle.rc_base.specs.declared.ending.Kind.TheVariants.{DeniedIn, Accepted, NoRoute, NullRouted, DeniedOut, Unreachable, Exits, Delivered}
-use Rattle.rc_base.specs.declared.place.Pos.{Pos}
-use Rattle.rc_base.specs.declared.place.Pos.TheVariants.{Own, Entering}
+use Rattle.rc_base.specs.declared.position.Pos.{Pos}
+use Rattle.rc_base.specs.declared.position.Pos.TheVariants.{Own, Entering}
 use Rattle.rc_config.specs.declared.network.Network.{Network}
 use Rattle.rc_report.specs.RouteText.{interface_name, router_name}
 use Rattle.rc_walk.specs.declared.walk.Stop.{Stop}

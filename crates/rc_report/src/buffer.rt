@@ -8,7 +8,7 @@ use std::marker::Model;
 const PIECE: usize = 512;
 
 /// The bytes of a line that are not handed over yet, at most 512. The room for them is taken when it is made.
-#[derive(Debug, Drop)]
+#[derive(Drop)]
 pub struct Buffer {
     bytes: Vec<u8>,
 }

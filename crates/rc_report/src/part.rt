@@ -6,7 +6,7 @@ ghost use Rattle.rc_report.specs.Parts.{piece_text};
 use rc_base::{Addr, Prefix};
 
 /// A part of a line.
-#[derive(Clone, Copy, Debug)]
+#[derive(Clone, Copy)]
 pub enum Part<'a> {
     /// Bytes as they are.
     Text(&'a [u8]),
@@ -19,7 +19,7 @@ pub enum Part<'a> {
 }
 
 /// A part of which the others are made.
-#[derive(Clone, Copy, Debug)]
+#[derive(Clone, Copy)]
 pub(crate) enum Piece<'a> {
     Text(&'a [u8]),
     Number(u64),

@@ -7,7 +7,7 @@ use Rattle.std.proofs.lemmas.List.Sums.{fold-append}
 use Rattle.rc_base.specs.Index.{index_of, with_interface}
 use Rattle.rc_base.specs.Lists.{in_order}
 use Rattle.rc_base.specs.Prefix.{Cidr, prefix_cmp, same_prefix}
-use Rattle.rc_base.specs.declared.place.IfId.{IfId}
+use Rattle.rc_base.specs.declared.position.IfId.{IfId}
 use Rattle.rc_base.proofs.IndexLaws.{rows_of_index, distinct_ids_of}
 use Rattle.rc_base.proofs.OrderedLaws.{prefix_cmp_total, in_order-sorted}
 use Rattle.rc_config.specs.Down.{Entries}

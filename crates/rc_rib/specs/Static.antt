@@ -4,9 +4,9 @@ use Rattle.std.specs.List.{filter_map, fold}
 use Rattle.std.specs.Option.{option_map, option_map_or}
 use Rattle.rc_base.specs.Lists.{in_order}
 use Rattle.rc_base.specs.Prefix.{Cidr, prefix_cmp, same_prefix}
-use Rattle.rc_base.specs.declared.place.IfId.{IfId}
+use Rattle.rc_base.specs.declared.position.IfId.{IfId}
 use Rattle.rc_config.specs.Down.{Entries, is_down}
-use Rattle.rc_config.specs.Named.{place_of}
+use Rattle.rc_config.specs.Named.{index_of}
 use Rattle.rc_config.specs.declared.static_route.StaticRoute.{StaticRoute}
 use Rattle.rc_config.specs.declared.static_route.Target.{Target}
 use Rattle.rc_config.specs.declared.static_route.Target.TheVariants as target
@@ -21,7 +21,7 @@ use Rattle.rc_rib.specs.declared.active.ActiveLine.{ActiveLine}
 
 -- the interface of a name, where router r declares it and it is up
 abbrev pub up_interface : ℕ → Entries → List ℕ → Option IfId
-up_interface r entries name = if is_down entries name then None else option_map (λ place. record { router = r; index = place }) (place_of entries name)
+up_interface r entries name = if is_down entries name then None else option_map (λ place. record { router = r; index = place }) (index_of entries name)
 
 -- A next hop resolves in the previous table, by another route than one of this prefix: the longest prefix there that holds it is another one.
 abbrev pub is_reachable : List Entry → Cidr → ℕ → Bool

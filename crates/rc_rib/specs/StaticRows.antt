@@ -1,7 +1,7 @@
 -- Worked cases of static routes and of the best routes, each by computation.
 use Rattle.std.specs.Prelude.{◌≡◌, ℕ, ◌+◌, ◌*◌, true, List, [], ◌∷◌, Some, None, codes, refl}
 use Rattle.rc_base.specs.Prefix.{Cidr, prefix_at}
-use Rattle.rc_base.specs.declared.place.IfId.{IfId}
+use Rattle.rc_base.specs.declared.position.IfId.{IfId}
 use Rattle.rc_config.specs.Down.{Entries}
 use Rattle.rc_config.specs.Lists.{no_lists}
 use Rattle.rc_config.specs.Interface.{fresh}

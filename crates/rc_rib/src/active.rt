@@ -12,7 +12,7 @@ use rc_route::Hop;
 use std::alloc::{AllocError, Global};
 
 /// A line that is active, with its hop.
-#[derive(Clone, Copy, Debug, PartialEq, Eq)]
+#[derive(Clone, Copy, PartialEq, Eq)]
 pub struct ActiveLine {
     pub prefix: Prefix,
     /// The administrative distance, from 1 to 254.
@@ -27,7 +27,7 @@ fn up_interface(router: RouterId, file: &RouterText, name: &Name) -> Option<IfId
     if file.is_down(name) {
         return None;
     }
-    let index = file.interfaces.place_of(name)?;
+    let index = file.interfaces.index_of(name)?;
     Some(IfId { router, index })
 }
 

@@ -15,7 +15,7 @@ use std::alloc::{AllocError, Global};
 use std::collections::BTreeSet;
 
 /// The hops of the least distance of some lines, in the order of the lines.
-#[derive(Debug, Drop)]
+#[derive(Drop)]
 pub struct StaticHops {
     pub distance: u8,
     pub hops: Items<Hop>,

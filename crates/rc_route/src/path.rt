@@ -6,7 +6,7 @@ use rc_base::{Addr, Items, Origin, Prefix, RouterId};
 use std::alloc::{AllocError, Global};
 
 /// How a router came to a path. Of equal paths that it originates itself the one that stands first is preferred.
-#[derive(Clone, Copy, Debug, PartialEq, Eq, PartialOrd, Ord)]
+#[derive(Clone, Copy, PartialEq, Eq, PartialOrd, Ord)]
 pub enum PathSource {
     /// A line `network`.
     Network,
@@ -23,7 +23,7 @@ pub enum PathSource {
 }
 
 /// A BGP path with its attributes (RFC 4271 s.5, RFC 1997).
-#[derive(Debug, Drop, PartialEq, Eq)]
+#[derive(Drop, PartialEq, Eq)]
 pub struct BgpPath {
     pub prefix: Prefix,
     /// NEXT_HOP (RFC 4271 s.5.1.3), 0 where the router originates the path.

@@ -12,7 +12,7 @@ use std::cmp::Ordering;
 ///
 /// The order is that in which the hops of a route stand: null, then hops without a gateway, then by the gateway's address;
 /// at one gateway the hop without an interface first, then interfaces as declared.
-#[derive(Clone, Copy, Debug, PartialEq, Eq, PartialOrd, Ord, Hash)]
+#[derive(Clone, Copy, PartialEq, Eq, PartialOrd, Ord, Hash)]
 pub enum Hop {
     /// The packet is dropped.
     Null,
@@ -23,7 +23,7 @@ pub enum Hop {
 }
 
 /// Where a route comes from. At one administrative distance the source that stands first is preferred.
-#[derive(Clone, Copy, Debug, PartialEq, Eq, PartialOrd, Ord)]
+#[derive(Clone, Copy, PartialEq, Eq, PartialOrd, Ord)]
 pub enum Source {
     /// A prefix of an interface of the router.
     Connected,
@@ -44,7 +44,7 @@ pub enum Source {
 }
 
 /// A route of a table.
-#[derive(Debug, Drop, PartialEq, Eq)]
+#[derive(Drop, PartialEq, Eq)]
 pub struct Route {
     pub prefix: Prefix,
     pub source: Source,

@@ -6,7 +6,7 @@ use rc_base::Items;
 use std::alloc::{AllocError, Global};
 
 /// What one router knows: its table, and its best BGP paths, one for each prefix, by address, then length.
-#[derive(Debug, Drop, PartialEq, Eq)]
+#[derive(Drop, PartialEq, Eq)]
 pub struct RouterState {
     pub table: Table,
     pub paths: Items<BgpPath>,

@@ -2,7 +2,7 @@
 use Rattle.std.proofs.Common.{refl, ◌≡◌, ap, sym, ◌∙◌, ℕ, ◌==◌, Bool, true, false, not, cond, ◌&&◌, ◌||◌, List, [], ◌∷◌, Option, Some, None}
 use Rattle.std.specs.List.{list_any, find, fold}
 use Rattle.std.specs.Option.{option_map_or}
-use Rattle.rc_base.specs.declared.place.IfId.{IfId}
+use Rattle.rc_base.specs.declared.position.IfId.{IfId}
 use Rattle.rc_base.specs.Prefix.{Cidr, same_prefix}
 use Rattle.rc_topology.specs.Left.{is_next, is_left, left_of, with_prefix}
 use Rattle.rc_topology.specs.Links.{all_ids, are_linked, link_prefixes_at, linked, on_prefix, port_at, port_is}

@@ -2,7 +2,7 @@
 use Rattle.std.proofs.Common.{refl, ◌≡◌, ap, sym, ◌∙◌, ℕ, ◌==◌, Bool, true, false, not, cond, ◌&&◌, List, [], ◌∷◌, filter, inl, inr, Option, Some, None, arith}
 use Rattle.std.specs.Option.{option_map_or}
 use Rattle.std.proofs.lemmas.Bool.Decides.{nat_tests}
-use Rattle.rc_base.specs.declared.place.IfId.{IfId}
+use Rattle.rc_base.specs.declared.position.IfId.{IfId}
 use Rattle.rc_base.proofs.KeepLaws.{filter_twice, In}
 use Rattle.rc_topology.specs.Links.{all_ids, are_linked, linked, owners, port_at, port_is, takers}
 use Rattle.rc_topology.specs.Ports.{is_loopback, owns, share_prefix, some_is_in}

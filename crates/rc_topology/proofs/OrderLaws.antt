@@ -4,7 +4,7 @@ use Rattle.std.specs.Prelude.{nat_lt, nat_le, slice_get}
 use Rattle.std.specs.List.{list_any, find, AllByRecursion}
 use Rattle.std.specs.List.Sorted.{IsPartitionedBy}
 use Rattle.std.proofs.lemmas.Bool.Decides.{nat_tests}
-use Rattle.rc_base.specs.declared.place.IfId.{IfId}
+use Rattle.rc_base.specs.declared.position.IfId.{IfId}
 use Rattle.rc_base.proofs.OrderedLaws.{all-weaker}
 use Rattle.rc_topology.specs.Order.{is_before, is_behind, earlier, IsInOrder}
 use Rattle.rc_topology.proofs.ListLaws.{all_at, all_filter, all_append, filter_agree, find_agree, found_has, none_passes}

@@ -4,7 +4,7 @@ use Rattle.std.specs.Prelude.{nat_lt, slice_get}
 use Rattle.std.specs.List.{list_any, flat_map, range_with_len, AllByRecursion}
 use Rattle.std.specs.Option.{option_map_or}
 use Rattle.std.proofs.lemmas.Bool.Decides.{nat_tests}
-use Rattle.rc_base.specs.declared.place.IfId.{IfId}
+use Rattle.rc_base.specs.declared.position.IfId.{IfId}
 use Rattle.rc_base.proofs.KeepLaws.{any_filter}
 use Rattle.rc_topology.specs.Links.{all_ids, ids_of, is_own, owners, port_is, ports_at}
 use Rattle.rc_topology.specs.Order.{is_before, IsInOrder}

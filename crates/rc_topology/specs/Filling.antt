@@ -1,7 +1,7 @@
 -- The interfaces of a network under their prefixes and under their addresses, filled one by one as the code does it.
 use Rattle.std.specs.Prelude.{◌≡◌, ℕ, ◌+◌, List, [], ◌∷◌, map}
 use Rattle.std.specs.List.{fold}
-use Rattle.rc_base.specs.declared.place.IfId.{IfId}
+use Rattle.rc_base.specs.declared.position.IfId.{IfId}
 use Rattle.rc_base.specs.Index.{Rows, members, with_member}
 use Rattle.rc_base.specs.Prefix.{Cidr, prefix_at}
 use Rattle.rc_topology.specs.declared.filling.Indexes.{Indexes}

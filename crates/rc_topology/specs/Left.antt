@@ -1,7 +1,7 @@
 -- What is left of the interfaces that share a link, behind the last one given.
 use Rattle.std.specs.Prelude.{ℕ, ◌==◌, Bool, not, ◌&&◌, List, filter, Option}
 use Rattle.std.specs.List.{list_any, find}
-use Rattle.rc_base.specs.declared.place.IfId.{IfId}
+use Rattle.rc_base.specs.declared.position.IfId.{IfId}
 use Rattle.rc_base.specs.Prefix.{Cidr}
 use Rattle.rc_topology.specs.declared.port.Port.{Port}
 use Rattle.rc_topology.specs.Links.{all_ids, on_prefix, port_is}

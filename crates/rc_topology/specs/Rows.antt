@@ -1,7 +1,7 @@
 -- Worked cases of links, takers and own addresses, each by computation.
 use Rattle.std.specs.Prelude.{◌≡◌, ℕ, ◌+◌, ◌*◌, true, false, List, [], ◌∷◌, Some, None, codes, refl}
 use Rattle.std.specs.List.{fold}
-use Rattle.rc_base.specs.declared.place.IfId.{IfId}
+use Rattle.rc_base.specs.declared.position.IfId.{IfId}
 use Rattle.rc_config.specs.declared.command.Command.{Command}
 use Rattle.rc_config.specs.declared.command.Command.TheVariants.{Interface, Address, Shutdown}
 use Rattle.rc_config.specs.declared.if_type.IfType.TheVariants as types

@@ -23,7 +23,7 @@ pub struct Linked<'a> {
 
 impl<'a> Model for Linked<'a> {
     ghost use Rattle.std.specs.Prelude.{List};
-    ghost use Rattle.rc_base.specs.declared.place.IfId.{IfId};
+    ghost use Rattle.rc_base.specs.declared.position.IfId.{IfId};
     ghost use Rattle.rc_topology.specs.Left.{left_of};
 
     ghost Value = { List IfId };

@@ -10,7 +10,7 @@ use rc_config::{IfAddr, IfType, Interface, RouterText, type_of_name};
 use std::alloc::{AllocError, Global};
 
 /// An interface as links see it.
-#[derive(Debug, Drop)]
+#[derive(Drop)]
 pub struct Port {
     /// Its own addresses while it is up, the primary one first, then the others as written.
     pub addresses: Items<Addr>,

@@ -15,7 +15,7 @@ use std::collections::BTreeSet;
 use std::marker::Model;
 
 /// Prefixes, seen as their list: by address, then length, each once.
-#[derive(Debug, Drop)]
+#[derive(Drop)]
 pub struct PrefixSet {
     prefixes: Items<Prefix>,
 }

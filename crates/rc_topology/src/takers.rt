@@ -18,7 +18,7 @@ pub struct Takers<'a> {
 
 impl<'a> Model for Takers<'a> {
     ghost use Rattle.std.specs.Prelude.{List, filter};
-    ghost use Rattle.rc_base.specs.declared.place.IfId.{IfId};
+    ghost use Rattle.rc_base.specs.declared.position.IfId.{IfId};
     ghost use Rattle.rc_topology.specs.Links.{are_linked};
 
     ghost Value = { List IfId };

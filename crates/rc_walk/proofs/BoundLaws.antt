@@ -8,10 +8,10 @@ use Rattle.std.proofs.lemmas.Map.Keys.{IsDistinct-tail}
 use Rattle.std.proofs.lemmas.Map.Made.{length-le_from_is_member, is_member-Decides}
 use Rattle.rc_base.specs.declared.header.Header.{Header}
 use Rattle.rc_base.specs.declared.ending.Kind.TheVariants.{DeniedIn, Accepted, NoRoute, NullRouted, DeniedOut, Unreachable, Exits, Delivered}
-use Rattle.rc_base.specs.declared.place.IfId.{IfId}
-use Rattle.rc_base.specs.declared.place.Pos.{Pos}
-use Rattle.rc_base.specs.declared.place.Pos.TheVariants.{Entering}
-use Rattle.rc_base.specs.Place.{same_position}
+use Rattle.rc_base.specs.declared.position.IfId.{IfId}
+use Rattle.rc_base.specs.declared.position.Pos.{Pos}
+use Rattle.rc_base.specs.declared.position.Pos.TheVariants.{Entering}
+use Rattle.rc_base.specs.Positions.{same_position}
 use Rattle.rc_topology.specs.declared.port.Port.{Port}
 use Rattle.rc_topology.specs.Ports.{owns, is_loopback, is_serial}
 use Rattle.rc_topology.specs.Links.{all_ids, are_linked, linked, takers, is_own, holds, port_is}

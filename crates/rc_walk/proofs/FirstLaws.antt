@@ -9,9 +9,9 @@ use Rattle.std.proofs.lemmas.Map.Keys.{IsDistinct-push}
 use Rattle.rc_base.specs.declared.header.Header.{Header}
 use Rattle.rc_base.specs.declared.ending.Kind.{Kind}
 use Rattle.rc_base.specs.declared.ending.Kind.TheVariants.{DeniedIn, Accepted, DeniedOut, Unreachable, Exits, Delivered}
-use Rattle.rc_base.specs.declared.place.IfId.{IfId}
-use Rattle.rc_base.specs.declared.place.Pos.{Pos}
-use Rattle.rc_base.specs.Place.{same_position}
+use Rattle.rc_base.specs.declared.position.IfId.{IfId}
+use Rattle.rc_base.specs.declared.position.Pos.{Pos}
+use Rattle.rc_base.specs.Positions.{same_position}
 use Rattle.rc_base.specs.Prefix.{contains}
 use Rattle.rc_topology.specs.declared.port.Port.{Port}
 use Rattle.rc_topology.specs.Ports.{is_loopback, is_serial}

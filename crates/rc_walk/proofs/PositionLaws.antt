@@ -4,9 +4,9 @@ use Rattle.std.specs.Bool.{Decides, one_answer}
 use Rattle.std.specs.Cmp.{IsEquivalence}
 use Rattle.std.specs.List.{AllByRecursion, IsDistinct, list_any}
 use Rattle.std.proofs.lemmas.Bool.Decides.{nat_tests, same_from_decides}
-use Rattle.rc_base.specs.declared.place.Pos.{Pos}
-use Rattle.rc_base.specs.declared.place.Pos.TheVariants.{Own, Entering}
-use Rattle.rc_base.specs.Place.{same_position}
+use Rattle.rc_base.specs.declared.position.Pos.{Pos}
+use Rattle.rc_base.specs.declared.position.Pos.TheVariants.{Own, Entering}
+use Rattle.rc_base.specs.Positions.{same_position}
 use Rattle.rc_base.specs.contracts.place.PosPartialEq.TheImpl as pos_impl
 use Rattle.rc_walk.specs.Walks.{stands_in}
 

@@ -2,8 +2,8 @@
 use Rattle.std.proofs.Common.{refl, ◌≡◌, ap, sym, ◌∙◌, subst, true, false, List, [], ◌∷◌, ◌++◌, append_assoc, Some, Contains, arith}
 use Rattle.std.specs.List.{IsDistinct, slice_get}
 use Rattle.rc_base.specs.declared.header.Header.{Header}
-use Rattle.rc_base.specs.declared.place.Pos.{Pos}
-use Rattle.rc_base.specs.Place.{same_position}
+use Rattle.rc_base.specs.declared.position.Pos.{Pos}
+use Rattle.rc_base.specs.Positions.{same_position}
 use Rattle.rc_walk.specs.declared.walk.Move.TheVariants.{Next, End}
 use Rattle.rc_walk.specs.declared.walk.Stop.{Stop}
 use Rattle.rc_walk.specs.declared.walk.Stop.TheVariants.{At, Loop}

@@ -3,13 +3,13 @@ use Rattle.std.specs.Prelude.{ℕ, ◌+◌, ◌*◌, true, List, [], ◌∷◌, 
 use Rattle.std.specs.List.{enumerate_from}
 use Rattle.rc_base.specs.Prefix.{prefix_at}
 use Rattle.rc_base.specs.declared.header.Header.{Header}
-use Rattle.rc_base.specs.declared.place.IfId.{IfId}
-use Rattle.rc_config.specs.Filter.{any_address, host_address, no_lines, standard_line, with_line}
+use Rattle.rc_base.specs.declared.position.IfId.{IfId}
+use Rattle.rc_config.specs.AccessList.{any_address, host_address, no_lines, standard_line, with_line}
 use Rattle.rc_config.specs.Interface.{fresh}
 use Rattle.rc_config.specs.Lists.{no_lists}
-use Rattle.rc_config.specs.declared.filter.Action.TheVariants.{Deny, Permit}
-use Rattle.rc_config.specs.declared.filter.Filter.{Filter}
-use Rattle.rc_config.specs.declared.filter.FilterKind.TheVariants.{Standard}
+use Rattle.rc_config.specs.declared.access_list.Action.TheVariants.{Deny, Permit}
+use Rattle.rc_config.specs.declared.access_list.AccessList.{AccessList}
+use Rattle.rc_config.specs.declared.access_list.AccessListKind.TheVariants.{Standard}
 use Rattle.rc_config.specs.declared.interface.Interface.{Interface}
 use Rattle.rc_config.specs.declared.network.Network.{Network}
 use Rattle.rc_config.specs.declared.router_text.RouterText.{RouterText}
@@ -65,13 +65,13 @@ abbrev pub empty : List ℕ
 empty = codes "EMPTY"
 
 -- a list that denies all, one that permits what comes from 10.0.7.1, and one without lines
-abbrev pub lists : List (List ℕ × Filter)
+abbrev pub lists : List (List ℕ × AccessList)
 lists =
     (deny, with_line (no_lines Standard) (standard_line 10 Deny any_address)) ∷ (host, with_line (no_lines Standard) (standard_line 10 Permit (host_address (ip 10 0 7 1)))) ∷ (empty, no_lines Standard) ∷ []
 
 -- the network where each router has these lists
 abbrev pub with_lists : Network → Network
-with_lists net = record { routers = map (λ (e : List ℕ × RouterText). (e.0, record e.1 { lists = record no_lists { filters = lists } })) net.routers }
+with_lists net = record { routers = map (λ (e : List ℕ × RouterText). (e.0, record e.1 { lists = record no_lists { access_lists = lists } })) net.routers }
 
 -- ---- tables
 

@@ -1,7 +1,7 @@
 -- The moves that are left of a position's.
 use Rattle.std.specs.Prelude.{◌≡◌, List, [], ◌++◌, Option}
 use Rattle.std.specs.Option.{option_map_or, option_to_list}
-use Rattle.rc_base.specs.declared.place.IfId.{IfId}
+use Rattle.rc_base.specs.declared.position.IfId.{IfId}
 use Rattle.rc_walk.specs.declared.begun.Begun.{Begun}
 use Rattle.rc_walk.specs.declared.begun.Onto.{Onto}
 use Rattle.rc_walk.specs.declared.begun.Onto.TheVariants.{Nobody, Takers, Linked}

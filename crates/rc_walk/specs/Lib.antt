@@ -4,4 +4,4 @@ pub mod Left
 pub mod Examples
 pub mod MoveRows
 pub mod WalkRows
-pub mod FilterRows
+pub mod AccessListRows

@@ -1,7 +1,7 @@
 -- Worked cases of moves, each by computation.
 use Rattle.std.specs.Prelude.{◌≡◌, ℕ, List, [], ◌∷◌, refl}
 use Rattle.rc_base.specs.declared.ending.Kind.TheVariants.{Accepted, NoRoute, NullRouted, Unreachable, Exits, Delivered}
-use Rattle.rc_base.specs.declared.place.Pos.TheVariants.{Own, Entering}
+use Rattle.rc_base.specs.declared.position.Pos.TheVariants.{Own, Entering}
 use Rattle.rc_config.specs.IfType.{type_of}
 use Rattle.rc_config.specs.declared.interface.Interface.{Interface}
 use Rattle.rc_route.specs.declared.route.Hop.{Hop}

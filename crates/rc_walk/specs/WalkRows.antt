@@ -2,7 +2,7 @@
 use Rattle.std.specs.Prelude.{◌≡◌, ℕ, ◌+◌, ◌-◌, ◌%◌, [], ◌∷◌, map, refl}
 use Rattle.std.specs.List.{range_with_len}
 use Rattle.rc_base.specs.declared.ending.Kind.TheVariants.{Accepted, NoRoute, Delivered}
-use Rattle.rc_base.specs.declared.place.Pos.TheVariants.{Own, Entering}
+use Rattle.rc_base.specs.declared.position.Pos.TheVariants.{Own, Entering}
 use Rattle.rc_config.specs.IfType.{type_of}
 use Rattle.rc_fib.specs.Forwarding.{hops_within}
 use Rattle.rc_topology.specs.Ports.{links_of}

@@ -1,7 +1,7 @@
 //! What holds of every walk.
 ghost use Rattle.std.specs.Prelude.{◌≡◌, ◌≤◌, List, length};
 ghost use Rattle.rc_base.specs.declared.header.Header.{Header};
-ghost use Rattle.rc_base.specs.declared.place.Pos.{Pos};
+ghost use Rattle.rc_base.specs.declared.position.Pos.{Pos};
 ghost use Rattle.rc_config.specs.declared.network.Network.{Network};
 ghost use Rattle.rc_config.specs.Lawful.{IsPosition};
 ghost use Rattle.rc_config.specs.Members.{positions};

@@ -5,7 +5,7 @@ ghost use Rattle.rc_route.specs.Tables.{IsRouterState};
 use crate::{Move, Plane, Stop, Walk, step, trace};
 use rc_base::{Addr, Header, IfId, Items, Kind, Name, Pos, Prefix, RouterId};
 use rc_config::{
-    Action, AddressTest, Command, Direction, FilterKind, FilterLine, IfAddr, Named, Network,
+    Action, AddressTest, Command, Direction, AccessListKind, AccessListLine, IfAddr, Named, Network,
     RouterText,
 };
 use rc_route::{Hop, Route, RouterState, Source, State, push_hop};
@@ -69,10 +69,10 @@ fn filtered(alloc: Global, direction: Direction) -> Result<Network, Fail> {
     let list = Name::new(b"5").ok_or("5")?;
     let source = AddressTest::host(Addr::new(0x0a00_0007));
     let second = router(alloc, 0x0a00_0002, 0x0202_0202)?;
-    let second = second.put(Command::FilterLine {
+    let second = second.put(Command::AccessListLine {
         list,
-        kind: FilterKind::Standard,
-        line: FilterLine::standard(10, Action::Permit, source),
+        kind: AccessListKind::Standard,
+        line: AccessListLine::standard(10, Action::Permit, source),
     })?;
     let second = second.put(Command::AccessGroup {
         interface: Name::new(b"Ethernet0").ok_or("Ethernet0")?,

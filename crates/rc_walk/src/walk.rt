@@ -2,7 +2,7 @@
 use rc_base::{Items, Kind, Pos};
 
 /// A move of a packet at a position: on to a next position, or an ending.
-#[derive(Clone, Copy, Debug, PartialEq, Eq)]
+#[derive(Clone, Copy, PartialEq, Eq)]
 pub enum Move {
     /// The packet enters a next router.
     Next(Pos),
@@ -11,7 +11,7 @@ pub enum Move {
 }
 
 /// How a walk stops.
-#[derive(Clone, Copy, Debug, PartialEq, Eq)]
+#[derive(Clone, Copy, PartialEq, Eq)]
 pub enum Stop {
     /// In an ending.
     At(Kind),
@@ -20,7 +20,7 @@ pub enum Stop {
 }
 
 /// A walk: the positions of a packet, each once, and how it stops.
-#[derive(Debug, Drop)]
+#[derive(Drop)]
 pub struct Walk {
     pub positions: Items<Pos>,
     pub stop: Stop,

@@ -6,7 +6,7 @@ use std::alloc::{AllocError, Global};
 use std::marker::Model;
 
 /// A word of the command line, kept; seen as the list of its bytes.
-#[derive(Debug, Drop)]
+#[derive(Drop)]
 pub struct WordText {
     text: String,
 }
@@ -38,7 +38,7 @@ impl WordText {
 }
 
 /// Where a packet starts, by names: at a router that sends it by itself, or entering a router by an interface.
-#[derive(Clone, Copy, Debug, PartialEq, Eq)]
+#[derive(Clone, Copy, PartialEq, Eq)]
 pub struct PlaceName {
     /// The router's host name.
     pub router: Name,
@@ -47,7 +47,7 @@ pub struct PlaceName {
 }
 
 /// The numbers that bound a run.
-#[derive(Clone, Copy, Debug, PartialEq, Eq)]
+#[derive(Clone, Copy, PartialEq, Eq)]
 pub struct Limits {
     /// How many rounds the tables may take, from 1 to 100000; 1000 where nothing is said.
     pub rounds: u32,
@@ -58,7 +58,7 @@ pub struct Limits {
 }
 
 /// What is to be answered.
-#[derive(Debug, Drop)]
+#[derive(Drop)]
 pub enum Ask {
     /// The routes of every router of a folder, or of one.
     Routes {
@@ -79,7 +79,7 @@ pub enum Ask {
 }
 
 /// What the words of a command line ask for.
-#[derive(Debug, Drop)]
+#[derive(Drop)]
 pub struct Request {
     /// What is to be answered.
     pub ask: Ask,
@@ -88,7 +88,7 @@ pub struct Request {
 }
 
 /// Why words give no request.
-#[derive(Clone, Copy, Debug, PartialEq, Eq)]
+#[derive(Clone, Copy, PartialEq, Eq)]
 pub enum WordsFault {
     /// They are no command line of this program.
     Usage,

@@ -1,18 +1,18 @@
 use Rattle.std.proofs.Common.{◌≡◌, sym, ◌∙◌}
 use Rattle.rc_openings.specs.Words.{words_of}
 use Rattle.rc_grammar.specs.Grammars.{grammar_at}
-use Rattle.rc_grammar.specs.declared.grammars.Grammar.TheVariants.{Filters, Policies, Others}
-use Rattle.rc_grammar.proofs.GrammarLaws.{filters-answer, policies-answer, others-answer, exact-answer}
+use Rattle.rc_grammar.specs.declared.grammars.Grammar.TheVariants.{AccessLists, Policies, Others}
+use Rattle.rc_grammar.proofs.GrammarLaws.{access_lists-answer, policies-answer, others-answer, exact-answer}
 use Rattle.rc_grammar.proofs.grammars.read_line.Goals as goal
 
-pub returns-in-Filters-clause-decided : goal.returns-in-Filters-clause-decided
-returns-in-Filters-clause-decided c =
-    let chosen : grammar_at c.args.at.now (words_of c.args.line.now.text) ≡ Filters = sym (rw c.words.ensures at c.grammar_at.ensures) ∙ c.in-Filters.is in
-    filters-answer c.args.at.now c.args.file.now c.args.line.now.number (words_of c.args.line.now.text) c.read_filter.result chosen c.read_filter.ensures.decided
+pub returns-in-AccessLists-clause-decided : goal.returns-in-AccessLists-clause-decided
+returns-in-AccessLists-clause-decided c =
+    let chosen : grammar_at c.args.at.now (words_of c.args.line.now.text) ≡ AccessLists = sym (rw c.words.ensures at c.grammar_at.ensures) ∙ c.in-AccessLists.is in
+    access_lists-answer c.args.at.now c.args.file.now c.args.line.now.number (words_of c.args.line.now.text) c.read_access_list.result chosen c.read_access_list.ensures.decided
 
-pub returns-in-Filters-clause-exact : goal.returns-in-Filters-clause-exact
-returns-in-Filters-clause-exact c =
-    exact-answer c.args.at.now c.args.file.now c.args.line.now.number (words_of c.args.line.now.text) c.read_filter.result (returns-in-Filters-clause-decided c)
+pub returns-in-AccessLists-clause-exact : goal.returns-in-AccessLists-clause-exact
+returns-in-AccessLists-clause-exact c =
+    exact-answer c.args.at.now c.args.file.now c.args.line.now.number (words_of c.args.line.now.text) c.read_access_list.result (returns-in-AccessLists-clause-decided c)
 
 pub returns-in-Policies-clause-decided : goal.returns-in-Policies-clause-decided
 returns-in-Policies-clause-decided c =

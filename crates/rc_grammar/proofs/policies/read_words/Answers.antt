@@ -3,7 +3,7 @@ use Rattle.rc_openings.specs.Block.{rows_of}
 use Rattle.rc_openings.specs.Opening.{IsAnswer}
 use Rattle.rc_openings.specs.Words.{words_left, words_of}
 use Rattle.rc_openings.specs.declared.opening.Verdict.TheVariants.{Form}
-use Rattle.rc_config.specs.Place.{block_at}
+use Rattle.rc_config.specs.OpenBlock.{block_at}
 use Rattle.rc_grammar.specs.Policies.{policy_rows}
 use Rattle.rc_grammar.proofs.PolicyLaws.{form-says}
 use Rattle.rc_grammar.proofs.policies.read_words.Goals as goal

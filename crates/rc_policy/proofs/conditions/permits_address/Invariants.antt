@@ -4,4 +4,4 @@ use Rattle.rc_policy.proofs.conditions.permits_address.Given as goal
 
 -- the lines that are left decide
 abbrev pub invariant-loop-line : goal.invariant-loop-line
-invariant-loop-line l = access_list_permits (record { kind = l.filter.kind; lines = l.line-iterator }) l.addr ≡ access_list_permits l.filter l.addr
+invariant-loop-line l = access_list_permits (record { kind = l.access_list.kind; lines = l.line-iterator }) l.addr ≡ access_list_permits l.access_list l.addr

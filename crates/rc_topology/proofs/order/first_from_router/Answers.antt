@@ -1,7 +1,7 @@
 use Rattle.std.proofs.Common.{◌∙◌, Bool, not, refl, rules}
 use Rattle.std.specs.Prelude.{nat_lt}
 use Rattle.std.proofs.lemmas.List.Sorted.{IsPartitionPoint-from_clause}
-use Rattle.rc_base.specs.declared.place.IfId.{IfId}
+use Rattle.rc_base.specs.declared.position.IfId.{IfId}
 use Rattle.rc_topology.proofs.ListLaws.{first_at}
 use Rattle.rc_topology.proofs.OrderLaws.{turns_once, below_down}
 use Rattle.rc_topology.proofs.order.first_from_router.Goals as goal

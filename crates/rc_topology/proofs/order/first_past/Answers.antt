@@ -1,6 +1,6 @@
 use Rattle.std.proofs.Common.{◌∙◌, Bool, not, rules}
 use Rattle.std.proofs.lemmas.List.Sorted.{IsPartitionPoint-from_clause}
-use Rattle.rc_base.specs.declared.place.IfId.{IfId}
+use Rattle.rc_base.specs.declared.position.IfId.{IfId}
 use Rattle.rc_topology.specs.Order.{is_before}
 use Rattle.rc_topology.proofs.ListLaws.{first_at}
 use Rattle.rc_topology.proofs.OrderLaws.{turns_once, past_down, not_not}

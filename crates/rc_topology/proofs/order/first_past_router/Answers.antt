@@ -1,7 +1,7 @@
 use Rattle.std.proofs.Common.{◌∙◌, Bool, rules}
 use Rattle.std.specs.Prelude.{nat_lt, nat_le}
 use Rattle.std.proofs.lemmas.List.Sorted.{IsPartitionPoint-from_clause}
-use Rattle.rc_base.specs.declared.place.IfId.{IfId}
+use Rattle.rc_base.specs.declared.position.IfId.{IfId}
 use Rattle.rc_topology.proofs.ListLaws.{first_at}
 use Rattle.rc_topology.proofs.OrderLaws.{turns_once, upto_down, lt_le}
 use Rattle.rc_topology.proofs.order.first_past_router.Goals as goal

@@ -1,7 +1,7 @@
 use Rattle.std.proofs.Common.{◌≡◌, ap, sym, ◌∙◌, subst, ℕ, false, cond, List, [], ◌∷◌, Option, None}
 use Rattle.rc_base.specs.declared.ending.Kind.TheVariants.{Unreachable}
 use Rattle.rc_base.specs.declared.header.Header.{Header}
-use Rattle.rc_base.specs.declared.place.IfId.{IfId}
+use Rattle.rc_base.specs.declared.position.IfId.{IfId}
 use Rattle.rc_topology.specs.declared.port.Port.{Port}
 use Rattle.rc_topology.specs.Ports.{is_loopback}
 use Rattle.rc_topology.specs.Links.{port_is, takers}

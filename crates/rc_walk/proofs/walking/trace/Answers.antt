@@ -1,6 +1,6 @@
 use Rattle.std.proofs.Common.{◌≡◌, ap, sym, subst, List, [], ◌∷◌, ◌++◌, length, arith}
 use Rattle.std.proofs.lemmas.List.{length-append}
-use Rattle.rc_base.specs.declared.place.Pos.{Pos}
+use Rattle.rc_base.specs.declared.position.Pos.{Pos}
 use Rattle.rc_walk.proofs.FirstLaws.{IsUnderWay, setting_out, goes_on, few_walked, put_first, put_new}
 use Rattle.rc_walk.proofs.walking.trace.Goals as goal
 

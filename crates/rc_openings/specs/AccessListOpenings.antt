@@ -4,24 +4,24 @@ use Rattle.rc_openings.specs.declared.form.Form.TheVariants.{Permit, Deny, Remar
 use Rattle.rc_openings.specs.Opening.{Row, form, refused, ignored}
 
 -- with these begin the forms
-unfoldable pub acl_forms : List Row
-acl_forms =
+unfoldable pub access_list_forms : List Row
+access_list_forms =
     form (codes "permit") Permit
     ∷ form (codes "deny") Deny
     ∷ form (codes "remark") Remark
     ∷ []
 
 -- with these begin lines whose meaning is not modelled
-unfoldable pub acl_refused : List Row
-acl_refused =
+unfoldable pub access_list_refused : List Row
+access_list_refused =
     refused (codes "dynamic")
     ∷ refused (codes "evaluate")
     ∷ []
 
 -- with these begin lines that do not matter
-unfoldable pub acl_ignored : List Row
-acl_ignored =
+unfoldable pub access_list_ignored : List Row
+access_list_ignored =
     ignored (codes "") (codes "exit")
 
-unfoldable pub acl : List Row
-acl = acl_forms ++ acl_refused ++ acl_ignored
+unfoldable pub access_list : List Row
+access_list = access_list_forms ++ access_list_refused ++ access_list_ignored

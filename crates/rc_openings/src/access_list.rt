@@ -1,6 +1,6 @@
 //! The openings of a line under `ip access-list`, behind its sequence number.
 ghost use Rattle.rc_openings.specs.Groups.{IsTable};
-ghost use Rattle.rc_openings.specs.AclOpenings.{acl};
+ghost use Rattle.rc_openings.specs.AccessListOpenings.{access_list};
 
 use crate::table::{Group, Index, Table};
 use crate::{Form, Opening, Verdict};
@@ -51,8 +51,8 @@ static ONE_WORD_GROUPS: [Group; 4] = [
     },
 ];
 
-pub(crate) fn acl_table() -> Table
-    ensures { IsTable result acl }
+pub(crate) fn access_list_table() -> Table
+    ensures { IsTable result access_list }
 {
     Table {
         one_word: Index {

@@ -1,15 +1,15 @@
 //! Access lists (IOS `access-list` and `ip access-list`).
 ghost use Rattle.std.specs.Prelude.{◌≡◌, ◌≤◌, All, IfOk, IfSome};
-ghost use Rattle.rc_config.specs.Filter.{any_address, host_address, has_sequence, last_sequence, AreLinesInOrder, IsLawfulFilter, IsLawfulLine};
-ghost use Rattle.rc_config.specs.declared.filter.FilterLine.{FilterLine};
+ghost use Rattle.rc_config.specs.AccessList.{any_address, host_address, has_sequence, last_sequence, AreLinesInOrder, IsLawfulAccessList, IsLawfulLine};
+ghost use Rattle.rc_config.specs.declared.access_list.AccessListLine.{AccessListLine};
 
 use crate::{ByNumber, Numbered, Ports};
 use rc_base::Addr;
 use std::alloc::{AllocError, Global};
 
 /// What the lines of a list may test.
-#[derive(Clone, Copy, Debug, PartialEq, Eq)]
-pub enum FilterKind {
+#[derive(Clone, Copy, PartialEq, Eq)]
+pub enum AccessListKind {
     /// The source address alone.
     Standard,
     /// The protocol and both addresses, and the ports where the protocol is tcp or udp.
@@ -17,14 +17,14 @@ pub enum FilterKind {
 }
 
 /// What becomes of a packet that a line matches.
-#[derive(Clone, Copy, Debug, PartialEq, Eq)]
+#[derive(Clone, Copy, PartialEq, Eq)]
 pub enum Action {
     Permit,
     Deny,
 }
 
 /// A test of the protocol (RFC 791 s.3.1).
-#[derive(Clone, Copy, Debug, PartialEq, Eq)]
+#[derive(Clone, Copy, PartialEq, Eq)]
 pub enum ProtocolTest {
     /// `ip`: every protocol.
     Any,
@@ -34,7 +34,7 @@ pub enum ProtocolTest {
 
 /// A test of an address: the bits whose wildcard bit is 0 are compared. The ones of a wildcard may stand anywhere, and
 /// the bits of the address under them don't count.
-#[derive(Clone, Copy, Debug, PartialEq, Eq)]
+#[derive(Clone, Copy, PartialEq, Eq)]
 pub struct AddressTest {
     pub addr: Addr,
     pub wildcard: Addr,
@@ -63,7 +63,7 @@ impl AddressTest {
 }
 
 /// A test of a port (RFC 9293 s.3.1, RFC 768).
-#[derive(Clone, Copy, Debug, PartialEq, Eq)]
+#[derive(Clone, Copy, PartialEq, Eq)]
 pub enum PortTest {
     /// Every port.
     Any,
@@ -80,8 +80,8 @@ pub enum PortTest {
 }
 
 /// A line of a list, which matches the headers that pass all of its tests.
-#[derive(Clone, Copy, Debug, PartialEq, Eq)]
-pub struct FilterLine {
+#[derive(Clone, Copy, PartialEq, Eq)]
+pub struct AccessListLine {
     /// The sequence number, from 1 to 2147483647.
     pub sequence: u32,
     pub action: Action,
@@ -92,14 +92,14 @@ pub struct FilterLine {
     pub destination_port: PortTest,
 }
 
-impl FilterLine {
-    ghost use Rattle.rc_config.specs.Filter.{standard_line};
+impl AccessListLine {
+    ghost use Rattle.rc_config.specs.AccessList.{standard_line};
 
     /// A line of a standard list, which tests the source alone.
-    pub fn standard(sequence: u32, action: Action, source: AddressTest) -> FilterLine
+    pub fn standard(sequence: u32, action: Action, source: AddressTest) -> AccessListLine
         ensures { result ≡ standard_line sequence action source }
     {
-        FilterLine {
+        AccessListLine {
             sequence,
             action,
             protocol: ProtocolTest::Any,
@@ -111,7 +111,7 @@ impl FilterLine {
     }
 }
 
-impl Numbered for FilterLine {
+impl Numbered for AccessListLine {
     ghost number = { λ l. l.sequence };
 
     fn number(&self) -> u32 {
@@ -121,21 +121,21 @@ impl Numbered for FilterLine {
 
 /// An access list: its lines by rising sequence number.
 #[derive(Drop)]
-pub struct Filter {
-    pub kind: FilterKind,
-    pub lines: ByNumber<FilterLine>,
+pub struct AccessList {
+    pub kind: AccessListKind,
+    pub lines: ByNumber<AccessListLine>,
 }
 
-impl Filter {
-    ghost use Rattle.rc_config.specs.Filter.{no_lines, with_line};
+impl AccessList {
+    ghost use Rattle.rc_config.specs.AccessList.{no_lines, with_line};
 
     /// A list without lines. It takes no memory.
-    #[tactic(auto, using(crate::proofs::FilterLaws::no_lines_lawful))]
-    pub fn new(alloc: Global, kind: FilterKind) -> Filter
+    #[tactic(auto, using(crate::proofs::AccessListLaws::no_lines_lawful))]
+    pub fn new(alloc: Global, kind: AccessListKind) -> AccessList
         ensures value { result ≡ no_lines kind }
-        ensures lawful { IsLawfulFilter result }
+        ensures lawful { IsLawfulAccessList result }
     {
-        Filter {
+        AccessList {
             kind,
             lines: ByNumber::new(alloc),
         }
@@ -143,23 +143,23 @@ impl Filter {
 
     /// The list with one more line at its place by number, where it takes the place of the line of the same number, if there
     /// is one (`has_line`). A lawful list stays lawful with a lawful line.
-    #[tactic(auto, using(crate::proofs::FilterLaws::placed_lawful))]
-    pub fn with_line(self, line: FilterLine) -> Result<Filter, AllocError>
+    #[tactic(auto, using(crate::proofs::AccessListLaws::placed_lawful))]
+    pub fn with_line(self, line: AccessListLine) -> Result<AccessList, AllocError>
         ensures value { IfOk result (λ f. f ≡ with_line self line) }
         ensures order { IfOk result (λ f. AreLinesInOrder f.lines) }
-        ensures lawful { IfOk result (λ f. IsLawfulFilter self → IsLawfulLine self.kind line → IsLawfulFilter f) }
+        ensures lawful { IfOk result (λ f. IsLawfulAccessList self → IsLawfulLine self.kind line → IsLawfulAccessList f) }
     {
         // The generated proof of a generic call wants each enum within its type named in the function.
         let _test: PortTest = PortTest::Any;
-        let Filter { kind, mut lines } = self;
+        let AccessList { kind, mut lines } = self;
         lines.insert(line)?;
-        Ok(Filter { kind, lines })
+        Ok(AccessList { kind, lines })
     }
 
     /// The number of the last line, which is the greatest, or `None` exactly where there are no lines.
     pub fn greatest(&self) -> Option<u32>
         ensures value { result ≡ last_sequence self.now.lines }
-        ensures greatest { IfSome result (λ n. All (λ (l : FilterLine). l.sequence ≤ n) self.now.lines) }
+        ensures greatest { IfSome result (λ n. All (λ (l : AccessListLine). l.sequence ≤ n) self.now.lines) }
     {
         self.lines.greatest()
     }

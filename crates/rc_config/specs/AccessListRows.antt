@@ -1,30 +1,30 @@
 -- Worked cases of access lists, each by computation.
 use Rattle.std.specs.Prelude.{◌≡◌, ℕ, ◌+◌, ◌*◌, true, false, List, [], ◌∷◌, fold, map, replicate, Some, None, codes, refl}
 use Rattle.rc_config.specs.declared.command.Command.{Command}
-use Rattle.rc_config.specs.declared.command.Command.TheVariants.{Remark, Hostname, Interface, Shutdown, FilterOpened, AccessGroup}
+use Rattle.rc_config.specs.declared.command.Command.TheVariants.{Remark, Hostname, Interface, Shutdown, AccessListOpened, AccessGroup}
 use Rattle.rc_config.specs.declared.command.Command.TheVariants as command
 use Rattle.rc_config.specs.declared.interface.Direction.TheVariants.{In, Out}
-use Rattle.rc_config.specs.declared.filter.Filter.{Filter}
-use Rattle.rc_config.specs.declared.filter.Action.TheVariants.{Permit, Deny}
-use Rattle.rc_config.specs.declared.filter.FilterKind.TheVariants.{Standard, Extended}
-use Rattle.rc_config.specs.declared.filter.FilterLine.{FilterLine}
-use Rattle.rc_config.specs.declared.filter.ProtocolTest.TheVariants.{Any, Is}
+use Rattle.rc_config.specs.declared.access_list.AccessList.{AccessList}
+use Rattle.rc_config.specs.declared.access_list.Action.TheVariants.{Permit, Deny}
+use Rattle.rc_config.specs.declared.access_list.AccessListKind.TheVariants.{Standard, Extended}
+use Rattle.rc_config.specs.declared.access_list.AccessListLine.{AccessListLine}
+use Rattle.rc_config.specs.declared.access_list.ProtocolTest.TheVariants.{Any, Is}
 use Rattle.rc_config.specs.declared.router_text.RouterText.{RouterText}
-use Rattle.rc_config.specs.FilterPorts.{ports_of}
+use Rattle.rc_config.specs.PortLists.{ports_of}
 use Rattle.rc_config.specs.Interface.{fresh}
 use Rattle.rc_config.specs.Named.{named}
 use Rattle.rc_config.specs.Update.{after, empty, interface_named}
-use Rattle.rc_config.specs.Filter.{any_address, host_address, standard_line, no_lines, with_line, has_sequence, last_sequence, has_ports}
+use Rattle.rc_config.specs.AccessList.{any_address, host_address, standard_line, no_lines, with_line, has_sequence, last_sequence, has_ports}
 
 -- a line of this number for the address 10.0.0.n
-abbrev line : ℕ → FilterLine
+abbrev line : ℕ → AccessListLine
 line n = standard_line n Permit (host_address (10 * 16777216 + n))
 
-abbrev list_of : List FilterLine → Filter
+abbrev list_of : List AccessListLine → AccessList
 list_of lines = record { kind = Standard; lines = lines }
 
 -- a list into which lines of these numbers were put one by one
-abbrev lines : List ℕ → List FilterLine
+abbrev lines : List ℕ → List AccessListLine
 lines numbers = (fold with_line (no_lines Standard) (map line numbers)).lines
 
 -- lines stand by number, and not as written
@@ -93,37 +93,37 @@ port = codes "Ethernet0"
 
 -- a line of this number of the list WEB
 abbrev add : ℕ → Command
-add n = command.FilterLine web Standard (line n)
+add n = command.AccessListLine web Standard (line n)
 
 -- a list that is opened is there, without lines
-pub opened : (file (FilterOpened web Extended ∷ [])).lists.filters ≡ (web, no_lines Extended) ∷ []
+pub opened : (file (AccessListOpened web Extended ∷ [])).lists.access_lists ≡ (web, no_lines Extended) ∷ []
 opened = refl
 
 -- opened again it keeps its lines
-pub opened_twice : (file (FilterOpened web Standard ∷ add 10 ∷ FilterOpened web Standard ∷ add 20 ∷ [])).lists.filters ≡ (web, list_of (line 10 ∷ line 20 ∷ [])) ∷ []
+pub opened_twice : (file (AccessListOpened web Standard ∷ add 10 ∷ AccessListOpened web Standard ∷ add 20 ∷ [])).lists.access_lists ≡ (web, list_of (line 10 ∷ line 20 ∷ [])) ∷ []
 opened_twice = refl
 
 -- a line makes a list that isn't there, and lines stand by number
-pub made_by_a_line : (file (add 20 ∷ add 10 ∷ [])).lists.filters ≡ (web, list_of (line 10 ∷ line 20 ∷ [])) ∷ []
+pub made_by_a_line : (file (add 20 ∷ add 10 ∷ [])).lists.access_lists ≡ (web, list_of (line 10 ∷ line 20 ∷ [])) ∷ []
 made_by_a_line = refl
 
 -- lists stand in the order of first mention, and a line of one leaves the others
-pub first_mention : (file (add 10 ∷ FilterOpened (codes "5") Extended ∷ add 20 ∷ [])).lists.filters ≡ (web, list_of (line 10 ∷ line 20 ∷ [])) ∷ (codes "5", no_lines Extended) ∷ []
+pub first_mention : (file (add 10 ∷ AccessListOpened (codes "5") Extended ∷ add 20 ∷ [])).lists.access_lists ≡ (web, list_of (line 10 ∷ line 20 ∷ [])) ∷ (codes "5", no_lines Extended) ∷ []
 first_mention = refl
 
 -- a list is there by its own lines alone: none is that an interface names, and none of which there is only a remark
-pub named_alone : (file (Interface port 1 ∷ AccessGroup port web In ∷ Remark ∷ [])).lists.filters ≡ []
+pub named_alone : (file (Interface port 1 ∷ AccessGroup port web In ∷ Remark ∷ [])).lists.access_lists ≡ []
 named_alone = refl
 
 -- no other command takes a list away
-pub lists_left : named (file (add 10 ∷ Hostname web 1 ∷ Interface port 2 ∷ AccessGroup port web In ∷ Shutdown port true ∷ Remark ∷ [])).lists.filters web ≡ Some (list_of (line 10 ∷ []))
+pub lists_left : named (file (add 10 ∷ Hostname web 1 ∷ Interface port 2 ∷ AccessGroup port web In ∷ Shutdown port true ∷ Remark ∷ [])).lists.access_lists web ≡ Some (list_of (line 10 ∷ []))
 lists_left = refl
 
 -- the later line of a direction counts, and each direction has a list of its own
 pub later_group : interface_named (file (Interface port 1 ∷ AccessGroup port (codes "5") In ∷ AccessGroup port (codes "6") Out ∷ AccessGroup port web In ∷ [])) port
-    ≡ record fresh { filter_in = Some web; filter_out = Some (codes "6") }
+    ≡ record fresh { access_group_in = Some web; access_group_out = Some (codes "6") }
 later_group = refl
 
 -- an interface that is opened again keeps its lists
-pub group_left : interface_named (file (Interface port 1 ∷ AccessGroup port web Out ∷ Interface port 3 ∷ [])) port ≡ record fresh { filter_out = Some web }
+pub group_left : interface_named (file (Interface port 1 ∷ AccessGroup port web Out ∷ Interface port 3 ∷ [])) port ≡ record fresh { access_group_out = Some web }
 group_left = refl

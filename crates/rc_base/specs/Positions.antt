@@ -1,8 +1,8 @@
 -- Interfaces, positions and endings, compared.
 use Rattle.std.specs.Prelude.{Bool, false, ◌&&◌, ◌==◌}
-use Rattle.rc_base.specs.declared.place.IfId.{IfId}
-use Rattle.rc_base.specs.declared.place.Pos.{Pos}
-use Rattle.rc_base.specs.declared.place.Pos.TheVariants.{Own, Entering}
+use Rattle.rc_base.specs.declared.position.IfId.{IfId}
+use Rattle.rc_base.specs.declared.position.Pos.{Pos}
+use Rattle.rc_base.specs.declared.position.Pos.TheVariants.{Own, Entering}
 use Rattle.rc_base.specs.declared.ending.Kind.{Kind}
 use Rattle.rc_base.specs.declared.ending.Kind.TheVariants.{DeniedIn, Accepted, NoRoute, NullRouted, DeniedOut, Unreachable, Exits, Delivered}
 use Rattle.rc_base.specs.declared.ending.Ends.{Ends}

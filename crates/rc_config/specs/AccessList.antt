@@ -1,16 +1,16 @@
 -- Access lists (IOS `access-list` and `ip access-list`): their lines in order, and which lists there are.
 use Rattle.std.specs.Prelude.{◌≡◌, ℕ, ◌-◌, ◌^◌, ◌≤◌, ◌==◌, Bool, false, ◌||◌, List, [], All, Option}
 use Rattle.rc_config.specs.ByNumber.{IsByNumber, placed, has_number, last_number}
-use Rattle.rc_config.specs.declared.filter.Action.{Action}
-use Rattle.rc_config.specs.declared.filter.AddressTest.{AddressTest}
-use Rattle.rc_config.specs.declared.filter.Filter.{Filter}
-use Rattle.rc_config.specs.declared.filter.FilterKind.{FilterKind}
-use Rattle.rc_config.specs.declared.filter.FilterKind.TheVariants.{Standard, Extended}
-use Rattle.rc_config.specs.declared.filter.FilterLine.{FilterLine}
-use Rattle.rc_config.specs.declared.filter.PortTest.{PortTest}
-use Rattle.rc_config.specs.declared.filter.PortTest.TheVariants as port
-use Rattle.rc_config.specs.declared.filter.ProtocolTest.{ProtocolTest}
-use Rattle.rc_config.specs.declared.filter.ProtocolTest.TheVariants as protocol
+use Rattle.rc_config.specs.declared.access_list.Action.{Action}
+use Rattle.rc_config.specs.declared.access_list.AddressTest.{AddressTest}
+use Rattle.rc_config.specs.declared.access_list.AccessList.{AccessList}
+use Rattle.rc_config.specs.declared.access_list.AccessListKind.{AccessListKind}
+use Rattle.rc_config.specs.declared.access_list.AccessListKind.TheVariants.{Standard, Extended}
+use Rattle.rc_config.specs.declared.access_list.AccessListLine.{AccessListLine}
+use Rattle.rc_config.specs.declared.access_list.PortTest.{PortTest}
+use Rattle.rc_config.specs.declared.access_list.PortTest.TheVariants as port
+use Rattle.rc_config.specs.declared.access_list.ProtocolTest.{ProtocolTest}
+use Rattle.rc_config.specs.declared.access_list.ProtocolTest.TheVariants as protocol
 
 -- `any` compares no bit
 abbrev pub any_address : AddressTest
@@ -21,31 +21,31 @@ abbrev pub host_address : ℕ → AddressTest
 host_address a = record { addr = a; wildcard = 0 }
 
 -- a line of a standard list tests the source alone
-abbrev pub standard_line : ℕ → Action → AddressTest → FilterLine
+abbrev pub standard_line : ℕ → Action → AddressTest → AccessListLine
 standard_line n a source = record { sequence = n; action = a; protocol = protocol.Any; source = source; source_port = port.Any; destination = any_address; destination_port = port.Any }
 
 -- a list without lines
-abbrev pub no_lines : FilterKind → Filter
+abbrev pub no_lines : AccessListKind → AccessList
 no_lines kind = record { kind = kind; lines = [] }
 
 -- a line stands by its sequence number
-abbrev pub sequence_of : FilterLine → ℕ
+abbrev pub sequence_of : AccessListLine → ℕ
 sequence_of l = l.sequence
 
 -- the list with one more line, at its place by number
-abbrev pub with_line : Filter → FilterLine → Filter
+abbrev pub with_line : AccessList → AccessListLine → AccessList
 with_line f l = record f { lines = placed sequence_of l f.lines }
 
 -- a line has this number
-abbrev pub has_sequence : List FilterLine → ℕ → Bool
+abbrev pub has_sequence : List AccessListLine → ℕ → Bool
 has_sequence lines n = has_number sequence_of n lines
 
 -- the number of the last line
-abbrev pub last_sequence : List FilterLine → Option ℕ
+abbrev pub last_sequence : List AccessListLine → Option ℕ
 last_sequence lines = last_number sequence_of lines
 
 -- lines stand by rising sequence number: each number is lower than all later ones
-abbrev pub AreLinesInOrder : List FilterLine → Type 0
+abbrev pub AreLinesInOrder : List AccessListLine → Type 0
 AreLinesInOrder lines = IsByNumber sequence_of lines
 
 -- a sequence number of a line
@@ -67,12 +67,12 @@ IsPortTest (port.Below n) = Unit {0}
 IsPortTest (port.Above n) = Unit {0}
 
 -- a line of a standard list tests its source alone
-abbrev pub IsOfKind : FilterKind → FilterLine → Type 0
+abbrev pub IsOfKind : AccessListKind → AccessListLine → Type 0
 IsOfKind Standard l = l ≡ standard_line l.sequence l.action l.source
 IsOfKind Extended l = Unit {0}
 
 -- a line of a list of this kind: ports are tested only where the protocol is tcp or udp
-pub record IsLawfulLine (kind : FilterKind) (l : FilterLine) : Type 0 where
+pub record IsLawfulLine (kind : AccessListKind) (l : AccessListLine) : Type 0 where
   pub sequence : IsSequence l.sequence
   pub of_kind : IsOfKind kind l
   pub source_port : IsPortTest l.source_port
@@ -80,6 +80,6 @@ pub record IsLawfulLine (kind : FilterKind) (l : FilterLine) : Type 0 where
   pub no_ports : has_ports l.protocol ≡ false → (l.source_port ≡ port.Any) × (l.destination_port ≡ port.Any)
 
 -- lines in order, each lawful
-pub record IsLawfulFilter (f : Filter) : Type 0 where
+pub record IsLawfulAccessList (f : AccessList) : Type 0 where
   pub in_order : AreLinesInOrder f.lines
   pub lines : All (IsLawfulLine f.kind) f.lines

@@ -3,48 +3,48 @@ ghost use Rattle.std.specs.Prelude.{◌≡◌, Err, None, IfOk, IfSome};
 ghost use Rattle.std.specs.Option.{option_copied};
 ghost use Rattle.rc_openings.specs.Reading.{SaysBy};
 ghost use Rattle.rc_openings.specs.Words.{words_left, words_of};
-ghost use Rattle.rc_config.specs.Filter.{IsLawfulFilter, IsSequence};
+ghost use Rattle.rc_config.specs.AccessList.{IsLawfulAccessList, IsSequence};
 ghost use Rattle.rc_config.specs.Lawful.{FitsFile, HasLawfulLists, IsInRange};
-ghost use Rattle.rc_config.specs.Place.{block_at};
+ghost use Rattle.rc_config.specs.OpenBlock.{block_at};
 ghost use Rattle.rc_gram_acl.specs.ListNumber.{kind_of_number as kind_by_number};
 ghost use Rattle.rc_gram_acl.specs.Reading.{line_answer};
-ghost use Rattle.rc_grammar.specs.Filters as filters;
+ghost use Rattle.rc_grammar.specs.AccessLists as access_lists;
 ghost use Rattle.rc_grammar.specs.Grammars.{behind_number as words_behind_number, own_words as words_of_its_own};
 
 use rc_base::Name;
-use rc_config::{Command, Context, Filter, FilterKind, Place, PortTest, RouterText};
-use rc_gram_acl::{kind_of_number, read_filter_line, refused_words, sequence_for};
+use rc_config::{Command, Context, AccessList, AccessListKind, OpenBlock, PortTest, RouterText};
+use rc_gram_acl::{kind_of_number, read_access_list_line, refused_words, sequence_for};
 use rc_lines::Line;
 use rc_openings::{Form, LineRefusal, Verdict, Words, judged, number_in, unopened, word_u32};
 
-fn same_kind(first: FilterKind, second: FilterKind) -> bool
-    ensures { result ≡ filters.same_kind first second }
+fn same_kind(first: AccessListKind, second: AccessListKind) -> bool
+    ensures { result ≡ access_lists.same_kind first second }
 {
     match first {
-        FilterKind::Standard => match second {
-            FilterKind::Standard => true,
-            FilterKind::Extended => false,
+        AccessListKind::Standard => match second {
+            AccessListKind::Standard => true,
+            AccessListKind::Extended => false,
         },
-        FilterKind::Extended => match second {
-            FilterKind::Standard => false,
-            FilterKind::Extended => true,
+        AccessListKind::Extended => match second {
+            AccessListKind::Standard => false,
+            AccessListKind::Extended => true,
         },
     }
 }
 
 /// Whether the list that is there is of this kind, or none is there.
-fn may_be(found: Option<&Filter>, kind: FilterKind) -> bool
-    ensures { result ≡ filters.may_be (option_copied found.entry) kind }
+fn may_be(found: Option<&AccessList>, kind: AccessListKind) -> bool
+    ensures { result ≡ access_lists.may_be (option_copied found.entry) kind }
 {
     match found {
         None => true,
-        Some(filter) => same_kind(filter.kind, kind),
+        Some(access_list) => same_kind(access_list.kind, kind),
     }
 }
 
 /// The number of the first line of a list.
 fn first_sequence(written: Option<u32>) -> Option<u32>
-    ensures value { result ≡ filters.sequence_by None FilterKind.Standard written }
+    ensures value { result ≡ access_lists.sequence_by None AccessListKind.Standard written }
     ensures within { IfSome result IsSequence }
 {
     let number = written.unwrap_or(10);
@@ -55,16 +55,16 @@ fn first_sequence(written: Option<u32>) -> Option<u32>
 }
 
 /// The number of one more line of a list, or `None` where it is of the other kind or has no room for it.
-fn sequence_by(found: Option<&Filter>, kind: FilterKind, written: Option<u32>) -> Option<u32>
-    requires { IfSome (option_copied found) IsLawfulFilter }
-    ensures value { result ≡ filters.sequence_by (option_copied found.entry) kind written }
+fn sequence_by(found: Option<&AccessList>, kind: AccessListKind, written: Option<u32>) -> Option<u32>
+    requires { IfSome (option_copied found) IsLawfulAccessList }
+    ensures value { result ≡ access_lists.sequence_by (option_copied found.entry) kind written }
     ensures within { IfSome result IsSequence }
 {
     match found {
         None => first_sequence(written),
-        Some(filter) => {
-            if same_kind(filter.kind, kind) {
-                sequence_for(filter, written)
+        Some(access_list) => {
+            if same_kind(access_list.kind, kind) {
+                sequence_for(access_list, written)
             } else {
                 None
             }
@@ -77,37 +77,37 @@ fn sequence_by(found: Option<&Filter>, kind: FilterKind, written: Option<u32>) -
 fn sequence_in(
     file: &RouterText,
     list: &Name,
-    kind: FilterKind,
+    kind: AccessListKind,
     written: Option<u32>,
 ) -> Option<u32>
     requires { HasLawfulLists file.now }
-    ensures value { result ≡ filters.sequence_in file.now list.now kind written }
+    ensures value { result ≡ access_lists.sequence_in file.now list.now kind written }
     ensures within { IfSome result IsSequence }
-    ensures room { IfSome result (filters.HasRoom file.now list.now kind) }
+    ensures room { IfSome result (access_lists.HasRoom file.now list.now kind) }
 {
-    sequence_by(file.lists.filters.get(list), kind, written)
+    sequence_by(file.lists.access_lists.get(list), kind, written)
 }
 
 /// Why a line that has no list or no number is refused.
-fn refusal_of(kind: FilterKind, words: Words) -> LineRefusal
-    ensures { filters.no_line (line_answer kind 1 (words_left words.entry)) ≡ Err result }
+fn refusal_of(kind: AccessListKind, words: Words) -> LineRefusal
+    ensures { access_lists.no_line (line_answer kind 1 (words_left words.entry)) ≡ Err result }
 {
-    match read_filter_line(kind, 1, words) {
+    match read_access_list_line(kind, 1, words) {
         Ok(_) => LineRefusal::BadValue,
         Err(refusal) => refusal,
     }
 }
 
 /// `permit|deny ..`, one more line of a list.
-fn filter_line(
+fn access_list_line(
     file: &RouterText,
     list: Name,
-    kind: FilterKind,
+    kind: AccessListKind,
     written: Option<u32>,
     words: Words,
 ) -> Result<Command, LineRefusal>
     requires { HasLawfulLists file.now }
-    ensures row { result ≡ filters.line_of file.now list kind written (words_left words.entry) }
+    ensures row { result ≡ access_lists.line_of file.now list kind written (words_left words.entry) }
     ensures in_range { IfOk result IsInRange }
     ensures fits { IfOk result (FitsFile file.now) }
 {
@@ -115,14 +115,14 @@ fn filter_line(
     let Some(number) = sequence else {
         return Err(refusal_of(kind, words));
     };
-    match read_filter_line(kind, number, words) {
-        Ok(line) => Ok(Command::FilterLine { list, kind, line }),
+    match read_access_list_line(kind, number, words) {
+        Ok(line) => Ok(Command::AccessListLine { list, kind, line }),
         Err(refusal) => Err(refusal),
     }
 }
 
 fn is_remark(mut words: Words) -> bool
-    ensures { result ≡ filters.is_remark (words_left words.entry) }
+    ensures { result ≡ access_lists.is_remark (words_left words.entry) }
 {
     match words.next_word() {
         Some(word) => word == b"remark".as_slice(),
@@ -133,18 +133,18 @@ fn is_remark(mut words: Words) -> bool
 /// `permit|deny ..` and `remark ..` behind a list's number.
 fn numbered_by(file: &RouterText, number: u32, words: Words) -> Result<Command, LineRefusal>
     requires { HasLawfulLists file.now }
-    ensures row { result ≡ filters.numbered_by file.now number (kind_by_number number) (words_left words.entry) }
+    ensures row { result ≡ access_lists.numbered_by file.now number (kind_by_number number) (words_left words.entry) }
     ensures in_range { IfOk result IsInRange }
     ensures fits { IfOk result (FitsFile file.now) }
 {
     let kind = kind_of_number(number);
     match kind {
-        None => Err(refusal_of(FilterKind::Standard, words)),
+        None => Err(refusal_of(AccessListKind::Standard, words)),
         Some(kind) => {
             if is_remark(words) {
                 Ok(Command::Remark)
             } else {
-                filter_line(file, Name::of_number(number), kind, None, words)
+                access_list_line(file, Name::of_number(number), kind, None, words)
             }
         }
     }
@@ -153,7 +153,7 @@ fn numbered_by(file: &RouterText, number: u32, words: Words) -> Result<Command, 
 /// `access-list N permit|deny ..`, `access-list N remark ..`
 fn numbered(file: &RouterText, mut words: Words) -> Result<Command, LineRefusal>
     requires { HasLawfulLists file.now }
-    ensures row { result ≡ filters.numbered file.now (words_left words.entry) }
+    ensures row { result ≡ access_lists.numbered file.now (words_left words.entry) }
     ensures in_range { IfOk result IsInRange }
     ensures fits { IfOk result (FitsFile file.now) }
 {
@@ -161,7 +161,7 @@ fn numbered(file: &RouterText, mut words: Words) -> Result<Command, LineRefusal>
         None => Err(LineRefusal::BadValue),
         Some(word) => match word_u32(word) {
             Some(number) => numbered_by(file, number, words),
-            None => Err(refusal_of(FilterKind::Standard, words)),
+            None => Err(refusal_of(AccessListKind::Standard, words)),
         },
     }
 }
@@ -169,19 +169,19 @@ fn numbered(file: &RouterText, mut words: Words) -> Result<Command, LineRefusal>
 /// The block of the list of this name and kind.
 fn opened_as(
     file: &RouterText,
-    kind: FilterKind,
+    kind: AccessListKind,
     list: Option<Name>,
 ) -> Result<Command, LineRefusal>
-    ensures row { result ≡ filters.opened_as file.now kind list }
+    ensures row { result ≡ access_lists.opened_as file.now kind list }
     ensures in_range { IfOk result IsInRange }
     ensures fits { IfOk result (FitsFile file.now) }
 {
     match list {
         None => Err(LineRefusal::BadValue),
         Some(list) => {
-            let free = may_be(file.lists.filters.get(&list), kind);
+            let free = may_be(file.lists.access_lists.get(&list), kind);
             if free {
-                Ok(Command::FilterOpened { list, kind })
+                Ok(Command::AccessListOpened { list, kind })
             } else {
                 Err(LineRefusal::BadValue)
             }
@@ -190,8 +190,8 @@ fn opened_as(
 }
 
 /// `ip access-list standard NAME`, `ip access-list extended NAME`
-fn opened(file: &RouterText, kind: FilterKind, mut words: Words) -> Result<Command, LineRefusal>
-    ensures row { result ≡ filters.opened file.now kind (words_left words.entry) }
+fn opened(file: &RouterText, kind: AccessListKind, mut words: Words) -> Result<Command, LineRefusal>
+    ensures row { result ≡ access_lists.opened file.now kind (words_left words.entry) }
     ensures in_range { IfOk result IsInRange }
     ensures fits { IfOk result (FitsFile file.now) }
 {
@@ -204,22 +204,22 @@ fn opened(file: &RouterText, kind: FilterKind, mut words: Words) -> Result<Comma
 /// The answer of the rows of a form, where this sequence number is written in front of the line.
 fn read_form(
     form: Form,
-    place: &Place,
+    place: &OpenBlock,
     file: &RouterText,
     written: Option<u32>,
     words: Words,
 ) -> Result<Command, LineRefusal>
     requires { HasLawfulLists file.now }
-    ensures row { result ≡ filters.row_answer form place.now file.now written (words_left words.entry) }
+    ensures row { result ≡ access_lists.row_answer form place.now file.now written (words_left words.entry) }
     ensures in_range { IfOk result IsInRange }
     ensures fits { IfOk result (FitsFile file.now) }
 {
     match (form, *place) {
         (Form::AccessList, _) => numbered(file, words.skip(1)),
-        (Form::StandardAccessList, _) => opened(file, FilterKind::Standard, words.skip(3)),
-        (Form::ExtendedAccessList, _) => opened(file, FilterKind::Extended, words.skip(3)),
-        (Form::Permit, Place::Acl(list, kind)) => filter_line(file, list, kind, written, words),
-        (Form::Deny, Place::Acl(list, kind)) => filter_line(file, list, kind, written, words),
+        (Form::StandardAccessList, _) => opened(file, AccessListKind::Standard, words.skip(3)),
+        (Form::ExtendedAccessList, _) => opened(file, AccessListKind::Extended, words.skip(3)),
+        (Form::Permit, OpenBlock::AccessList(list, kind)) => access_list_line(file, list, kind, written, words),
+        (Form::Deny, OpenBlock::AccessList(list, kind)) => access_list_line(file, list, kind, written, words),
         (Form::Remark, _) => Ok(Command::Remark),
         _ => Err(LineRefusal::BadValue),
     }
@@ -227,7 +227,7 @@ fn read_form(
 
 /// The sequence number that a first word is.
 fn number_in_front(mut words: Words) -> Option<u32>
-    ensures { result ≡ filters.number_in_front (words_left words.entry) }
+    ensures { result ≡ access_lists.number_in_front (words_left words.entry) }
 {
     match words.next_word() {
         Some(word) => number_in(1, 2_147_483_647, word),
@@ -236,16 +236,16 @@ fn number_in_front(mut words: Words) -> Option<u32>
 }
 
 /// The sequence number that is written in front of a line.
-fn written_at(at: &Place, words: Words) -> Option<u32>
-    ensures { result ≡ filters.written_at at.now (words_left words.entry) }
+fn written_at(at: &OpenBlock, words: Words) -> Option<u32>
+    ensures { result ≡ access_lists.written_at at.now (words_left words.entry) }
 {
     match at {
-        Place::Acl(_, _) => number_in_front(words),
-        Place::Closed => None,
-        Place::Global => None,
-        Place::Interface(_) => None,
-        Place::Map(_, _) => None,
-        Place::Ignored => None,
+        OpenBlock::AccessList(_, _) => number_in_front(words),
+        OpenBlock::Closed => None,
+        OpenBlock::Global => None,
+        OpenBlock::Interface(_) => None,
+        OpenBlock::Map(_, _) => None,
+        OpenBlock::Ignored => None,
     }
 }
 
@@ -267,23 +267,23 @@ fn behind_number(words: Words) -> Words
 }
 
 /// The words that are a line's own.
-fn own_words<'a>(at: &Place, words: Words<'a>) -> Words<'a>
+fn own_words<'a>(at: &OpenBlock, words: Words<'a>) -> Words<'a>
     ensures { words_left result ≡ words_of_its_own at.now (words_left words.entry) }
 {
     match at {
-        Place::Acl(_, _) => behind_number(words),
-        Place::Closed => words,
-        Place::Global => words,
-        Place::Interface(_) => words,
-        Place::Map(_, _) => words,
-        Place::Ignored => words,
+        OpenBlock::AccessList(_, _) => behind_number(words),
+        OpenBlock::Closed => words,
+        OpenBlock::Global => words,
+        OpenBlock::Interface(_) => words,
+        OpenBlock::Map(_, _) => words,
+        OpenBlock::Ignored => words,
     }
 }
 
 /// The words that make a line of a form one that isn't modelled, where no row says so.
 #[tactic(auto, unfolding(rc_openings::specs::Words::words_of))]
 fn refused_behind(form: Form) -> Words<'static>
-    ensures { words_left result ≡ filters.refused_behind form }
+    ensures { words_left result ≡ access_lists.refused_behind form }
 {
     match form {
         Form::AccessList => refused_words(),
@@ -292,19 +292,19 @@ fn refused_behind(form: Form) -> Words<'static>
 }
 
 fn read_words(
-    place: &Place,
+    place: &OpenBlock,
     file: &RouterText,
     written: Option<u32>,
     words: Words,
 ) -> Result<Command, LineRefusal>
     requires { HasLawfulLists file.now }
-    ensures decided { SaysBy (filters.filter_rows place.now file.now written) (block_at place.now) (words_left words.entry) result }
+    ensures decided { SaysBy (access_lists.access_list_rows place.now file.now written) (block_at place.now) (words_left words.entry) result }
     ensures in_range { IfOk result IsInRange }
     ensures fits { IfOk result (FitsFile file.now) }
 {
     // The generated proof of a generic call wants each enum within its type named in the function.
     let _test: PortTest = PortTest::Any;
-    match place.block().decide(words) {
+    match block.kind().decide(words) {
         None => Err(unopened(words)),
         Some(opening) => match opening.verdict {
             Verdict::Ignored => Ok(Command::Passed),
@@ -322,7 +322,7 @@ fn read_words(
 /// What a line says where it stands, where its form is one of access lists.
 pub(crate) fn read_line(line: &Line, context: Context) -> Result<Command, LineRefusal>
     requires { HasLawfulLists context.file.now }
-    ensures decided { SaysBy (filters.filter_rows context.entry.place context.entry.file.now (filters.written_at context.entry.place (words_of line.now.text))) (block_at context.entry.place) (words_of_its_own context.entry.place (words_of line.now.text)) result }
+    ensures decided { SaysBy (access_lists.access_list_rows context.entry.place context.entry.file.now (access_lists.written_at context.entry.place (words_of line.now.text))) (block_at context.entry.place) (words_of_its_own context.entry.place (words_of line.now.text)) result }
     ensures in_range { IfOk result IsInRange }
     ensures fits { IfOk result (FitsFile context.entry.file.now) }
 {

@@ -10,17 +10,17 @@ use Rattle.rc_openings.specs.declared.form.Form.{Form}
 use Rattle.rc_openings.specs.declared.form.Form.TheVariants as form
 use Rattle.rc_openings.specs.declared.reading.LineRefusal.{LineRefusal}
 use Rattle.rc_openings.specs.declared.reading.LineRefusal.TheVariants.{BadValue}
-use Rattle.rc_config.specs.Filter.{has_sequence}
+use Rattle.rc_config.specs.AccessList.{has_sequence}
 use Rattle.rc_config.specs.Named.{named}
-use Rattle.rc_config.specs.Lists.{filter_named}
+use Rattle.rc_config.specs.Lists.{access_list_named}
 use Rattle.rc_config.specs.declared.command.Command.{Command}
 use Rattle.rc_config.specs.declared.command.Command.TheVariants as command
-use Rattle.rc_config.specs.declared.context.Place.{Place}
-use Rattle.rc_config.specs.declared.context.Place.TheVariants as place
-use Rattle.rc_config.specs.declared.filter.Filter.{Filter}
-use Rattle.rc_config.specs.declared.filter.FilterKind.{FilterKind}
-use Rattle.rc_config.specs.declared.filter.FilterKind.TheVariants.{Standard, Extended}
-use Rattle.rc_config.specs.declared.filter.FilterLine.{FilterLine}
+use Rattle.rc_config.specs.declared.context.OpenBlock.{OpenBlock}
+use Rattle.rc_config.specs.declared.context.OpenBlock.TheVariants as place
+use Rattle.rc_config.specs.declared.access_list.AccessList.{AccessList}
+use Rattle.rc_config.specs.declared.access_list.AccessListKind.{AccessListKind}
+use Rattle.rc_config.specs.declared.access_list.AccessListKind.TheVariants.{Standard, Extended}
+use Rattle.rc_config.specs.declared.access_list.AccessListLine.{AccessListLine}
 use Rattle.rc_config.specs.declared.router_text.RouterText.{RouterText}
 use Rattle.rc_gram_acl.specs.ListNumber.{kind_of_number}
 use Rattle.rc_gram_acl.specs.Reading.{line_answer}
@@ -28,62 +28,62 @@ use Rattle.rc_gram_acl.specs.Refused.{refused_words}
 use Rattle.rc_gram_acl.specs.Sequence.{sequence_for}
 
 -- the forms of access lists
-abbrev pub is_filter_form : Form → Bool
-is_filter_form form.AccessList = true
-is_filter_form form.StandardAccessList = true
-is_filter_form form.ExtendedAccessList = true
-is_filter_form form.Permit = true
-is_filter_form form.Deny = true
-is_filter_form form.Remark = true
-is_filter_form _ = false
+abbrev pub is_access_list_form : Form → Bool
+is_access_list_form form.AccessList = true
+is_access_list_form form.StandardAccessList = true
+is_access_list_form form.ExtendedAccessList = true
+is_access_list_form form.Permit = true
+is_access_list_form form.Deny = true
+is_access_list_form form.Remark = true
+is_access_list_form _ = false
 
 -- with these begin the lines of a block that may be of such a form; each line begins with no words
-abbrev pub filter_fronts : Block → List (List (List ℕ))
-filter_fronts block.Global = (codes "access-list" ∷ []) ∷ (codes "ip" ∷ codes "access-list" ∷ []) ∷ []
-filter_fronts block.Acl = [] ∷ []
-filter_fronts _ = []
+abbrev pub access_list_fronts : Block → List (List (List ℕ))
+access_list_fronts block.Global = (codes "access-list" ∷ []) ∷ (codes "ip" ∷ codes "access-list" ∷ []) ∷ []
+access_list_fronts block.AccessList = [] ∷ []
+access_list_fronts _ = []
 
 abbrev pub Answer : Type 0
 Answer = Result Command LineRefusal
 
-abbrev pub same_kind : FilterKind → FilterKind → Bool
+abbrev pub same_kind : AccessListKind → AccessListKind → Bool
 same_kind Standard Standard = true
 same_kind Standard Extended = false
 same_kind Extended Standard = false
 same_kind Extended Extended = true
 
 -- the list that is there is of this kind, or none is there
-abbrev pub may_be : Option Filter → FilterKind → Bool
+abbrev pub may_be : Option AccessList → AccessListKind → Bool
 may_be None kind = true
 may_be (Some f) kind = same_kind f.kind kind
 
 -- the number of one more line: none where the list that is there is of the other kind
-abbrev pub sequence_by : Option Filter → FilterKind → Option ℕ → Option ℕ
+abbrev pub sequence_by : Option AccessList → AccessListKind → Option ℕ → Option ℕ
 sequence_by None kind written = sequence_for [] written
 sequence_by (Some f) kind written = if same_kind f.kind kind then sequence_for f.lines written else None
 
-abbrev pub sequence_in : RouterText → List ℕ → FilterKind → Option ℕ → Option ℕ
-sequence_in file list kind written = sequence_by (named file.lists.filters list) kind written
+abbrev pub sequence_in : RouterText → List ℕ → AccessListKind → Option ℕ → Option ℕ
+sequence_in file list kind written = sequence_by (named file.lists.access_lists list) kind written
 
 -- the list that is there is of this kind, and no line of it has this number
-abbrev pub HasRoom : RouterText → List ℕ → FilterKind → ℕ → Type 0
-HasRoom file list kind n = ((filter_named file.lists list kind).kind ≡ kind) × (has_sequence (filter_named file.lists list kind).lines n ≡ false)
+abbrev pub HasRoom : RouterText → List ℕ → AccessListKind → ℕ → Type 0
+HasRoom file list kind n = ((access_list_named file.lists list kind).kind ≡ kind) × (has_sequence (access_list_named file.lists list kind).lines n ≡ false)
 
-abbrev pub with_line : List ℕ → FilterKind → Result FilterLine LineRefusal → Answer
-with_line list kind (Ok line) = Ok (command.FilterLine list kind line)
+abbrev pub with_line : List ℕ → AccessListKind → Result AccessListLine LineRefusal → Answer
+with_line list kind (Ok line) = Ok (command.AccessListLine list kind line)
 with_line list kind (Err refusal) = Err refusal
 
 -- a line that has no list or no number fits no row, also where its words are those of a line
-abbrev pub no_line : Result FilterLine LineRefusal → Answer
+abbrev pub no_line : Result AccessListLine LineRefusal → Answer
 no_line (Ok line) = Err BadValue
 no_line (Err refusal) = Err refusal
 
-abbrev pub line_at : List ℕ → FilterKind → Option ℕ → List (List ℕ) → Answer
+abbrev pub line_at : List ℕ → AccessListKind → Option ℕ → List (List ℕ) → Answer
 line_at list kind (Some n) words = with_line list kind (line_answer kind n words)
 line_at list kind None words = no_line (line_answer kind 1 words)
 
 -- `permit|deny ..`, one more line of a list
-abbrev pub line_of : RouterText → List ℕ → FilterKind → Option ℕ → List (List ℕ) → Answer
+abbrev pub line_of : RouterText → List ℕ → AccessListKind → Option ℕ → List (List ℕ) → Answer
 line_of file list kind written words = line_at list kind (sequence_in file list kind written) words
 
 abbrev pub is_remark : List (List ℕ) → Bool
@@ -91,7 +91,7 @@ is_remark [] = false
 is_remark (w ∷ ws) = bytes_eq w (codes "remark")
 
 -- `permit|deny ..` and `remark ..` behind a list's number; the latter has no effect
-abbrev pub numbered_by : RouterText → ℕ → Option FilterKind → List (List ℕ) → Answer
+abbrev pub numbered_by : RouterText → ℕ → Option AccessListKind → List (List ℕ) → Answer
 numbered_by file n (Some kind) rest = if is_remark rest then Ok command.Remark else line_of file (name_of_number n) kind None rest
 numbered_by file n None rest = no_line (line_answer Standard 1 rest)
 
@@ -104,23 +104,23 @@ abbrev pub numbered : RouterText → List (List ℕ) → Answer
 numbered file [] = Err BadValue
 numbered file (n ∷ rest) = numbered_in file (number_of n) rest
 
-abbrev pub opened_as : RouterText → FilterKind → Option (List ℕ) → Answer
-opened_as file kind (Some list) = if may_be (named file.lists.filters list) kind then Ok (command.FilterOpened list kind) else Err BadValue
+abbrev pub opened_as : RouterText → AccessListKind → Option (List ℕ) → Answer
+opened_as file kind (Some list) = if may_be (named file.lists.access_lists list) kind then Ok (command.AccessListOpened list kind) else Err BadValue
 opened_as file kind None = Err BadValue
 
 -- `ip access-list standard NAME`, `ip access-list extended NAME`: a number is a name too and stands for itself, and no list of the
 -- other kind has the name
-abbrev pub opened : RouterText → FilterKind → List (List ℕ) → Answer
+abbrev pub opened : RouterText → AccessListKind → List (List ℕ) → Answer
 opened file kind (name ∷ []) = opened_as file kind (name_of name)
 opened file kind _ = Err BadValue
 
 -- the answer of the rows of a form, where this sequence number is written in front of the line
-abbrev pub row_answer : Form → Place → RouterText → Option ℕ → List (List ℕ) → Answer
+abbrev pub row_answer : Form → OpenBlock → RouterText → Option ℕ → List (List ℕ) → Answer
 row_answer form.AccessList at file written line = numbered file (drop 1 line)
 row_answer form.StandardAccessList at file written line = opened file Standard (drop 3 line)
 row_answer form.ExtendedAccessList at file written line = opened file Extended (drop 3 line)
-row_answer form.Permit (place.Acl list kind) file written line = line_of file list kind written line
-row_answer form.Deny (place.Acl list kind) file written line = line_of file list kind written line
+row_answer form.Permit (place.AccessList list kind) file written line = line_of file list kind written line
+row_answer form.Deny (place.AccessList list kind) file written line = line_of file list kind written line
 row_answer form.Remark at file written line = Ok command.Remark
 row_answer _ at file written line = Err BadValue
 
@@ -131,8 +131,8 @@ refused_behind form.AccessList = refused_words
 refused_behind _ = []
 
 -- the rows at a place
-abbrev pub filter_rows : Place → RouterText → Option ℕ → FormRows Command
-filter_rows at file written = record { answer = λ f line. row_answer f at file written line; refused = refused_behind; passed = command.Passed }
+abbrev pub access_list_rows : OpenBlock → RouterText → Option ℕ → FormRows Command
+access_list_rows at file written = record { answer = λ f line. row_answer f at file written line; refused = refused_behind; passed = command.Passed }
 
 -- the sequence number that a first word is
 abbrev pub number_in_front : List (List ℕ) → Option ℕ
@@ -140,8 +140,8 @@ number_in_front [] = None
 number_in_front (w ∷ ws) = number_within 1 2147483647 w
 
 -- the sequence number that is written in front of a line in the block of an access list
-abbrev pub written_at : Place → List (List ℕ) → Option ℕ
-written_at (place.Acl list kind) line = number_in_front line
+abbrev pub written_at : OpenBlock → List (List ℕ) → Option ℕ
+written_at (place.AccessList list kind) line = number_in_front line
 written_at place.Closed line = None
 written_at place.Global line = None
 written_at (place.Interface name) line = None

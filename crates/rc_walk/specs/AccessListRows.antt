@@ -2,7 +2,7 @@
 use Rattle.std.specs.Prelude.{◌≡◌, ℕ, [], ◌∷◌, codes, refl}
 use Rattle.rc_base.specs.declared.ending.Kind.TheVariants.{DeniedIn, Accepted, NoRoute, NullRouted, DeniedOut, Unreachable, Exits, Delivered}
 use Rattle.rc_base.specs.declared.header.Header.{Header}
-use Rattle.rc_base.specs.declared.place.Pos.TheVariants.{Own, Entering}
+use Rattle.rc_base.specs.declared.position.Pos.TheVariants.{Own, Entering}
 use Rattle.rc_config.specs.IfType.{type_of}
 use Rattle.rc_config.specs.Interface.{with_group}
 use Rattle.rc_config.specs.declared.interface.Direction.TheVariants.{In, Out}
