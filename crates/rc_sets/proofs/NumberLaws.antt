@@ -5,7 +5,7 @@ use Rattle.std.proofs.lemmas.Nat.{shr_below}
 use Rattle.rc_base.specs.Addr.{leading_bits}
 use Rattle.rc_base.specs.Prefix.{Cidr}
 use Rattle.rc_trees.specs.Recipes.{tree}
-use Rattle.rc_trees.specs.Trees.{Tree, never, always, node, top, HasNodesOf}
+use Rattle.rc_trees.specs.Trees.{Tree, never, always, node, HasNodesOf}
 use Rattle.rc_trees.specs.Headers.{is_set}
 use Rattle.rc_trees.specs.Combine.{joined}
 use Rattle.rc_trees.specs.Fields.{masked, with_bit, chain}

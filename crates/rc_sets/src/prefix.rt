@@ -25,10 +25,11 @@ pub fn prefix_set<M: May>(
     ensures cause { IfErr result (IsCause nodes.now work.new) }
 {
     let len = prefix.len();
+    let network = prefix.network();
     if len == 0 {
         return Ok(ALWAYS);
     }
-    let front = prefix.network().bits() >> (32 - len);
+    let front = network.bits() >> (32 - len);
     match masked_set(work, nodes, len - 1, len, 0, front) {
         Ok(set) => Ok(set),
         Err(_) => Err(SetError::Full),

@@ -1,4 +1,4 @@
-use Rattle.std.proofs.Common.{refl, ◌≡◌, sym, subst}
+use Rattle.std.proofs.Common.{refl, sym, subst}
 use Rattle.rc_nodes.specs.Seats.{SeatKnows}
 use Rattle.rc_nodes.proofs.KnownLaws.{knows_always}
 use Rattle.rc_sets.proofs.NumberLaws.{no_bits, may_follow, followed}
