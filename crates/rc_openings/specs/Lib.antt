@@ -1,4 +1,5 @@
 pub mod Words
+pub mod Forms
 pub mod Opening
 pub mod Apart
 pub mod GlobalOpenings

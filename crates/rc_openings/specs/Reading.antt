@@ -1,15 +1,22 @@
--- What a line says in a block, given the rows of its forms.
-use Rattle.std.specs.Prelude.{◌≡◌, ℕ, Bool, List, Option, Some, None, Result, Ok, Err, if◌then◌else◌, drop, length}
+-- What a line says in a block: its opening decides, and the grammar of its form reads the words behind the opening.
+use Rattle.std.specs.Prelude.{◌≡◌, ℕ, Bool, List, [], ◌∷◌, Option, Some, None, Result, Ok, Err, if◌then◌else◌, is_some, drop, length}
 use Rattle.std.specs.List.{list_any}
 use Rattle.std.specs.Str.{bytes_eq}
 use Rattle.rc_openings.specs.declared.block.Block.{Block}
+use Rattle.rc_openings.specs.declared.block.Block.TheVariants as block
+use Rattle.rc_openings.specs.declared.decision.Decision.{Decision as Found}
+use Rattle.rc_openings.specs.declared.decision.Decision.TheVariants as found
 use Rattle.rc_openings.specs.declared.form.Form.{Form as FormKind}
+use Rattle.rc_openings.specs.declared.reading.LineError.{LineError}
+use Rattle.rc_openings.specs.declared.reading.LineError.TheVariants as error
 use Rattle.rc_openings.specs.declared.reading.LineRefusal.{LineRefusal}
 use Rattle.rc_openings.specs.declared.reading.LineRefusal.TheVariants.{Unknown, Unsupported, BadValue, OutOfPlace}
 use Rattle.rc_openings.specs.declared.opening.Verdict.{Verdict}
-use Rattle.rc_openings.specs.declared.opening.Verdict.TheVariants.{Form, Later, Refused, Ignored}
+use Rattle.rc_openings.specs.declared.opening.Verdict.TheVariants as verdict
 use Rattle.rc_openings.specs.Block.{rows_of, begins_form_anywhere}
 use Rattle.rc_openings.specs.Opening.{Row, IsAnswer, decisive_row}
+use Rattle.rc_openings.specs.Values.{number_within}
+use Rattle.rc_openings.specs.Words.{words_left}
 
 -- the number of a refusal
 abbrev pub code_of : LineRefusal → ℕ
@@ -31,28 +38,94 @@ judged refused rest answer = answer
 abbrev pub unopened : List (List ℕ) → LineRefusal
 unopened line = if begins_form_anywhere line then OutOfPlace else Unknown
 
--- the forms of a grammar: the answer of a form's rows to a line (BadValue where none fits), the form's refused words,
--- and the command of a line that is passed over
+-- the sequence number, from 1 to 2147483647, with which a line begins
+abbrev pub number_in_front : List (List ℕ) → Option ℕ
+number_in_front [] = None
+number_in_front (w ∷ ws) = number_within 1 2147483647 w
+
+abbrev pub behind_number : List (List ℕ) → List (List ℕ)
+behind_number [] = []
+behind_number (w ∷ ws) = if is_some (number_within 1 2147483647 w) then ws else w ∷ ws
+
+-- the words that are a line's own: in the block of an access list those behind a sequence number
+abbrev pub own_words : Block → List (List ℕ) → List (List ℕ)
+own_words block.Closed line = line
+own_words block.Global line = line
+own_words block.Interface line = line
+own_words block.AccessList line = behind_number line
+own_words block.RouteMap line = line
+own_words block.Ospf line = line
+own_words block.Bgp line = line
+own_words block.Ignored line = line
+
+-- what the openings of its block say of a line: it is passed over, it is refused, or it is of a form and has these words behind its
+-- opening
+pub data Decision : Type 0 where
+  Passed : Decision
+  Refused : (refusal : LineRefusal) → Decision
+  OfForm : (form : FormKind) → (behind : List (List ℕ)) → Decision
+
+-- a form that is not read yet is refused like what is not modelled
+abbrev pub verdict_on : List (List ℕ) → Verdict → Decision
+verdict_on behind verdict.Ignored = Passed
+verdict_on behind verdict.Refused = Refused Unsupported
+verdict_on behind (verdict.Later f) = Refused Unsupported
+verdict_on behind (verdict.Form f) = OfForm f behind
+
+-- the decision of the opening that decides, if there is one
+abbrev pub decision_by : List (List ℕ) → Option Row → Decision
+decision_by line None = Refused (unopened line)
+decision_by line (Some row) = verdict_on (drop (length row.words) line) row.verdict
+
+-- of the openings of the block with which the line's own words begin, the one with most words decides so
+abbrev pub IsDecided : Block → List (List ℕ) → Decision → Type 0
+IsDecided block line decision =
+    (row : Option Row) × IsAnswer (rows_of block) (own_words block line) row × (decision ≡ decision_by (own_words block line) row)
+
+-- the same, computed: by a line's own words, and by the line
+abbrev pub decision_of : Block → List (List ℕ) → Decision
+decision_of block own = decision_by own (decisive_row (rows_of block) own)
+
+unfoldable pub decided : Block → List (List ℕ) → Decision
+decided block line = decision_of block (own_words block line)
+
+-- what was found, with a cursor over the words behind the opening, is this decision
+abbrev pub IsDecision : Decision → Found → Type 0
+IsDecision decision found.Passed = decision ≡ Passed
+IsDecision decision (found.Refused refusal) = decision ≡ Refused refusal
+IsDecision decision (found.Form f behind) = decision ≡ OfForm f (words_left behind)
+
+-- the rows of forms: what a line of a form says by the words behind its opening, and the command of a line that is passed over
 pub record FormRows (C : Type 0) : Type 0 where
   pub answer : FormKind → List (List ℕ) → Result C LineRefusal
-  pub refused : FormKind → List (List ℕ)
   pub passed : C
 
--- the answer, given the decisive opening
-abbrev pub answer_by : {C : Type 0} → FormRows C → List (List ℕ) → Option Row → Result C LineRefusal
-answer_by forms line None = Err (unopened line)
-answer_by {C} forms line (Some row) = by row.verdict
-  where
-    by : Verdict → Result C LineRefusal
-    by Ignored = Ok forms.passed
-    by Refused = Err Unsupported
-    by (Later f) = Err Unsupported
-    by (Form f) = judged (forms.refused f) (drop (length row.words) line) (forms.answer f line)
+-- what a line says, given the decision on it
+abbrev pub said : {C : Type 0} → FormRows C → Decision → Result C LineRefusal
+said rows Passed = Ok rows.passed
+said rows (Refused refusal) = Err refusal
+said rows (OfForm f behind) = rows.answer f behind
 
--- the line says this in a block: the opening with most words decides
+-- the line says this in a block: one opening decides, and the row of its form is the meaning
 abbrev pub SaysBy : {C : Type 0} → FormRows C → Block → List (List ℕ) → Result C LineRefusal → Type 0
-SaysBy forms block line answer = (row : Option Row) × IsAnswer (rows_of block) line row × (answer ≡ answer_by forms line row)
+SaysBy rows block line answer = (decision : Decision) × IsDecided block line decision × (answer ≡ said rows decision)
 
 -- what it says, computed
-unfoldable pub said_by : {C : Type 0} → FormRows C → Block → List (List ℕ) → Result C LineRefusal
-said_by forms block line = answer_by forms line (decisive_row (rows_of block) line)
+abbrev pub said_by : {C : Type 0} → FormRows C → Block → List (List ℕ) → Result C LineRefusal
+said_by rows block line = said rows (decided block line)
+
+-- memory ran out, or the line is refused so
+abbrev pub Fails : {C : Type 0} → LineError → Result C LineRefusal → Type 0
+Fails error.Memory answer = Unit {0}
+Fails (error.Refused refusal) answer = answer ≡ Err refusal
+
+-- it gave this answer, unless memory ran out
+abbrev pub Gives : {C : Type 0} → Result C LineError → Result C LineRefusal → Type 0
+Gives (Ok c) answer = answer ≡ Ok c
+Gives (Err e) answer = Fails e answer
+
+-- P of the answer, unless memory ran out
+abbrev pub IfAnswered : {C : Type 0} → Result C LineError → (Result C LineRefusal → Type 0) → Type 0
+IfAnswered (Ok c) P = P (Ok c)
+IfAnswered (Err (error.Refused refusal)) P = P (Err refusal)
+IfAnswered (Err error.Memory) P = Unit {0}

@@ -1,4 +1,6 @@
-//! The forms of lines.
+//! The forms of lines, and the grammars that read them.
+ghost use Rattle.std.specs.Prelude.{◌≡◌};
+ghost use Rattle.rc_openings.specs.Forms.{grammar_of};
 
 /// What a line may say, by the words that it begins with: one for each form opening of each kind of block.
 ///
@@ -139,4 +141,49 @@ pub enum Form {
     BgpRedistributeStatic,
     /// `redistribute ospf` under `router bgp`.
     BgpRedistributeOspf,
+}
+
+/// The grammars of lines: each reads the lines of its own forms.
+#[derive(Clone, Copy, PartialEq, Eq)]
+pub enum Grammar {
+    /// Host names, interfaces, static routes, and the forms of grammars to come.
+    General,
+    /// Access lists.
+    AccessLists,
+    /// Prefix lists, community lists and route maps.
+    Policies,
+}
+
+impl Form {
+    /// The grammar that reads its lines.
+    pub fn grammar(self) -> Grammar
+        ensures { result ≡ grammar_of self }
+    {
+        match self {
+            Form::AccessList
+            | Form::StandardAccessList
+            | Form::ExtendedAccessList
+            | Form::Permit
+            | Form::Deny
+            | Form::Remark => Grammar::AccessLists,
+            Form::PrefixList
+            | Form::CommunityList
+            | Form::StandardCommunityList
+            | Form::RouteMap
+            | Form::MatchAddress
+            | Form::MatchPrefixList
+            | Form::MatchCommunity
+            | Form::SetLocalPreference
+            | Form::SetMetric
+            | Form::SetMetricType1
+            | Form::SetMetricType2
+            | Form::SetWeight
+            | Form::SetOrigin
+            | Form::SetOriginIgp
+            | Form::SetOriginIncomplete
+            | Form::SetCommunity
+            | Form::PrependAsPath => Grammar::Policies,
+            _ => Grammar::General,
+        }
+    }
 }

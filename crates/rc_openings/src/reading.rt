@@ -32,6 +32,15 @@ impl LineRefusal {
     }
 }
 
+/// Why a line gives no command, in every grammar.
+#[derive(Clone, Copy, PartialEq, Eq)]
+pub enum LineError {
+    /// It is refused.
+    Refused(LineRefusal),
+    /// Memory ran out.
+    Memory,
+}
+
 /// Whether the word is one of these.
 fn is_one_of(word: &[u8], mut words: Words) -> bool
     ensures { result ≡ have_one_word (word.now ∷ []) (words_left words.entry) }

@@ -1,0 +1,32 @@
+-- Which grammar reads the lines of a form.
+use Rattle.rc_openings.specs.declared.form.Form.{Form}
+use Rattle.rc_openings.specs.declared.form.Form.TheVariants as form
+use Rattle.rc_openings.specs.declared.form.Grammar.{Grammar}
+use Rattle.rc_openings.specs.declared.form.Grammar.TheVariants.{General, AccessLists, Policies}
+
+-- access lists; prefix lists, community lists and route maps; and all else
+abbrev pub grammar_of : Form → Grammar
+grammar_of form.AccessList = AccessLists
+grammar_of form.StandardAccessList = AccessLists
+grammar_of form.ExtendedAccessList = AccessLists
+grammar_of form.Permit = AccessLists
+grammar_of form.Deny = AccessLists
+grammar_of form.Remark = AccessLists
+grammar_of form.PrefixList = Policies
+grammar_of form.CommunityList = Policies
+grammar_of form.StandardCommunityList = Policies
+grammar_of form.RouteMap = Policies
+grammar_of form.MatchAddress = Policies
+grammar_of form.MatchPrefixList = Policies
+grammar_of form.MatchCommunity = Policies
+grammar_of form.SetLocalPreference = Policies
+grammar_of form.SetMetric = Policies
+grammar_of form.SetMetricType1 = Policies
+grammar_of form.SetMetricType2 = Policies
+grammar_of form.SetWeight = Policies
+grammar_of form.SetOrigin = Policies
+grammar_of form.SetOriginIgp = Policies
+grammar_of form.SetOriginIncomplete = Policies
+grammar_of form.SetCommunity = Policies
+grammar_of form.PrependAsPath = Policies
+grammar_of _ = General
