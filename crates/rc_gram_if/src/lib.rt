@@ -9,7 +9,7 @@ mod reading;
 mod route_options;
 mod rows;
 
-pub use reading::read_line;
+pub use reading::{read_form, read_line};
 
 #[cfg(test)]
 mod tests;

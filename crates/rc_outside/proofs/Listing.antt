@@ -4,7 +4,7 @@ use Rattle.std.specs.List.{list_any}
 use Rattle.std.specs.Str.{bytes_eq}
 use Rattle.std.proofs.lemmas.List.Folds.{list_any-append}
 use Rattle.rc_outside.specs.Folder.{File, is_in, is_named, names_in, first_of_each}
-use Rattle.rc_outside.proofs.Places.{names-kept, names-dropped, names-other, seen-kept, seen-dropped, seen-other, new, not_new}
+use Rattle.rc_outside.proofs.Paths.{names-kept, names-dropped, names-other, seen-kept, seen-dropped, seen-other, new, not_new}
 
 abbrev pub has : List (List ℕ) → List ℕ → Bool
 has names n = list_any (λ f. bytes_eq f n) names

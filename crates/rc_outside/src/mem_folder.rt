@@ -21,7 +21,7 @@ pub struct MemFile {
     pub bytes: Vec<u8>,
 }
 
-/// A folder in memory, which tells its files and may be asked for any folder text. Of the files in one place it has
+/// A folder in memory, which tells its files and may be asked for any folder text. Of the files at one path it has
 /// the first alone. Chosen calls fail, so that a caller can be tried on a folder that does.
 #[derive(Drop)]
 pub struct MemFolder {
@@ -92,7 +92,7 @@ fn names_of(alloc: Global, files: &[MemFile], dir: &str) -> Result<Vec<FileName>
     Ok(names)
 }
 
-// The bytes of the first file in that place.
+// The bytes of the first file at that path.
 fn file_bytes<'a>(files: &'a [MemFile], dir: &str, name: &str) -> Option<&'a [u8]>
     ensures { option_copied result ≡ bytes_at dir.now name.now (files_of files.now) }
 {

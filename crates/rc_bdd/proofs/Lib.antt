@@ -1,0 +1,4 @@
+mod AtOnce
+mod WorkLaws
+mod StepLaws
+mod ValueLaws

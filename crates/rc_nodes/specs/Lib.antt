@@ -1,0 +1,4 @@
+pub mod Words
+pub mod Views
+pub mod Good
+pub mod Seats

@@ -1,0 +1,11 @@
+pub mod TreeLaws
+pub mod ReducedLaws
+pub mod OneTree
+pub mod SideLaws
+pub mod OperationLaws
+pub mod PartLaws
+pub mod NodeLaws
+pub mod RecipeLaws
+pub mod FieldLaws
+pub mod FieldsReduced
+pub mod HeaderLaws
