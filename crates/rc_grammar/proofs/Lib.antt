@@ -1,6 +1,3 @@
 mod FewLaws
 mod Refused
-mod GrammarLaws
-mod AccessListRoom
-mod PolicyLaws
 mod TextLaws
