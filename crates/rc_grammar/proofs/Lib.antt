@@ -1,3 +1,4 @@
 mod FewLaws
 mod Refused
 mod TextLaws
+mod FirstRefusal

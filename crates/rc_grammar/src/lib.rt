@@ -8,7 +8,7 @@ mod grammars;
 mod reading;
 mod refusal;
 
-pub use reading::read_file;
+pub use reading::{first_refusal, read_file};
 pub use refusal::{FileCause, FileRefusal, ReadError};
 
 #[cfg(test)]
