@@ -1,6 +1,6 @@
 //! The operations on the sets of two prefixes.
-ghost use Rattle.std.specs.Prelude.{◌≡◌, ◌<◌, ◌≤◌, IfOk, List};
-ghost use Rattle.rc_nodes.specs.Seats.{IsKnown, IsSeatOf, Keeps, SeatKnows, TableView};
+ghost use Rattle.std.specs.Prelude.{◌≡◌, IfOk};
+ghost use Rattle.rc_nodes.specs.Seats.{IsKnown, IsSeatOf, Keeps};
 ghost use Rattle.rc_tests_sets.specs.Pairs.{pair_nodes};
 
 use rc_base::{Addr, Header, Prefix};
