@@ -1,7 +1,7 @@
 //! The public calls, each on its happy path.
 use crate::{kind_of_number, read_access_list_line, sequence_for};
 use rc_base::Addr;
-use rc_config::{AddressTest, AccessList, AccessListKind, PortTest};
+use rc_config::{AccessList, AccessListKind, AddressTest, PortTest};
 use rc_openings::{LineRefusal, Words};
 use std::test::Fail;
 
@@ -34,9 +34,11 @@ fn numbers_of_lines(rt: HostRuntime) -> Result<(), Fail> {
     let _test: PortTest = PortTest::Any;
     let list = AccessList::new(rt.alloc(), AccessListKind::Standard);
     assert_eq!(rt; sequence_for(&list, None), Some(10));
-    let line = read_access_list_line(AccessListKind::Standard, 15, Words::new(b"deny 10.0.0.1")).expect(
-        &rt, "it fits",
-    );
+    let line = read_access_list_line(
+        AccessListKind::Standard,
+        15,
+        Words::new(b"deny 10.0.0.1"),
+    ).expect(&rt, "it fits");
     let list = list.with_line(line)?;
     assert_eq!(rt; sequence_for(&list, None), Some(25));
     assert_eq!(rt; sequence_for(&list, Some(15)), None);

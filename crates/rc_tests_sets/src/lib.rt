@@ -1,0 +1,5 @@
+//! Tests of the node table and of the sets over it.
+#![tactic(auto)]
+
+#[cfg(test)]
+mod chains;
