@@ -8,31 +8,23 @@
 
 mod action_word;
 mod by_number;
-#[cfg(test)]
-mod by_number_tests;
 mod command;
 mod community_list;
 mod context;
 mod down;
 mod access_list;
-#[cfg(test)]
-mod access_list_tests;
 mod if_type;
 mod interface;
 mod lists;
 mod map_line;
 mod named;
 mod network;
-#[cfg(test)]
-mod policy_tests;
 mod ports;
 mod prefix_list;
 mod route_map;
 mod router_text;
 mod sets;
 mod static_route;
-#[cfg(test)]
-mod tests;
 
 pub use action_word::action_of;
 pub use by_number::{ByNumber, Numbered};

@@ -18,6 +18,3 @@ pub use list_number::kind_of_number;
 pub use reading::read_access_list_line;
 pub use refused::refused_words;
 pub use sequence::sequence_for;
-
-#[cfg(test)]
-mod tests;

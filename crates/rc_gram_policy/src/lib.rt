@@ -21,6 +21,3 @@ pub use error::LineError;
 pub use map_lines::read_map_line;
 pub use map_opening::{OpenedEntry, read_map_opening};
 pub use prefix_lines::read_prefix_line;
-
-#[cfg(test)]
-mod tests;

@@ -18,8 +18,6 @@ mod ospf;
 mod reading;
 mod route_map;
 mod table;
-#[cfg(test)]
-mod tests;
 mod values;
 mod words;
 
