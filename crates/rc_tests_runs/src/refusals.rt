@@ -69,7 +69,7 @@ fn folder_of_bytes(alloc: Global, bytes: &[u8]) -> Result<MemFolder, AllocError>
 }
 
 #[test]
-fn hostile_bytes(rt: HostRuntime) -> Result<(), Fail> {
+fn hostile_bytes_are_refused(rt: HostRuntime) -> Result<(), Fail> {
     for (bytes, answer) in [
         (b"\x00".as_slice(), "refused a.cfg:1: 1\n"),
         (b"\n\xff", "refused a.cfg:2: 1\n"),

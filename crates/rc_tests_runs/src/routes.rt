@@ -109,7 +109,7 @@ const CONNECTED_ROUTES: [(&str, &str); 6] = [
 ];
 
 #[test]
-fn connected_routes(rt: HostRuntime) -> Result<(), Fail> {
+fn connected_routes_of_a_file(rt: HostRuntime) -> Result<(), Fail> {
     check_all_done(&rt, &CONNECTED_ROUTES)
 }
 
@@ -131,7 +131,7 @@ const STATIC_ROUTES: [(&str, &str); 3] = [
 ];
 
 #[test]
-fn static_routes(rt: HostRuntime) -> Result<(), Fail> {
+fn static_routes_of_a_file(rt: HostRuntime) -> Result<(), Fail> {
     check_all_done(&rt, &STATIC_ROUTES)
 }
 
@@ -179,7 +179,7 @@ fn lines_of_chain(rt: &impl Host, length: u32) -> Result<usize, Fail> {
 }
 
 #[test]
-fn chains_of_next_hops(rt: HostRuntime) -> Result<(), Fail> {
+fn at_most_16_routes_resolve_in_a_chain(rt: HostRuntime) -> Result<(), Fail> {
     for (length, lines) in [(15, 18), (16, 19), (17, 19)] {
         let found = lines_of_chain(&rt, length)?;
         assert!(rt; found == lines, "{length} routes");
