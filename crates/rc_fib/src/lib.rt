@@ -9,8 +9,6 @@ mod fib;
 mod layers;
 mod longest;
 mod resolve;
-#[cfg(test)]
-mod tests;
 
 pub use entry::Entry;
 pub use fib::Fib;

@@ -10,6 +10,3 @@ mod rounds;
 
 pub use outcome::Outcome;
 pub use rounds::{one_outcome, run_rounds};
-
-#[cfg(test)]
-mod tests;

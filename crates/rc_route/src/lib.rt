@@ -7,8 +7,6 @@
 mod path;
 mod route;
 mod state;
-#[cfg(test)]
-mod tests;
 
 pub use path::{BgpPath, PathSource};
 pub use route::{Hop, Route, Source, Table, compare_hops, compare_sources, push_hop};

@@ -1,43 +1,39 @@
 //! Prefix lists, community lists and route maps, from files to answers.
-use super::{BASE, CONNECTED, check_done, check_files, check_refused};
-use crate::Status;
+use crate::answers::{BASE, CONNECTED, check_all_refused, check_done, check_files};
+use rc_analyse::Status;
 use std::test::Fail;
 
 #[test]
 fn undefined_lists(rt: HostRuntime) -> Result<(), Fail> {
-    for (lines, number) in [
+    let rows = [
         (
             "route-map M permit 10\n match ip address prefix-list P\n",
-            5,
+            "5: 9",
         ),
-        ("route-map M permit 10\n match ip address 5\n", 5),
-        ("route-map M permit 10\n match community 7\n", 5),
+        ("route-map M permit 10\n match ip address 5\n", "5: 9"),
+        ("route-map M permit 10\n match community 7\n", "5: 9"),
         (
             "access-list 101 permit ip any any\nroute-map M permit 10\n match ip address 101\n",
-            6,
+            "6: 9",
         ),
         (
             "access-list 5 remark later\nroute-map M deny 10\n match ip address 5\n",
-            6,
+            "6: 9",
         ),
         (
             "ip prefix-list P permit 10.0.0.0/8\nroute-map M permit 10\n match ip address prefix-list P Q\n",
-            6,
+            "6: 9",
         ),
         (
             "ip prefix-list 7 permit 10.0.0.0/8\nroute-map M permit 10\n match community 7\n",
-            6,
+            "6: 9",
         ),
         (
             "route-map M permit 20\n match community 7\nroute-map M permit 10\n match community 8\n",
-            5,
+            "5: 9",
         ),
-    ] {
-        let config = format!(in rt.alloc(); "{BASE}{lines}")?;
-        let text = format!(in rt.alloc(); "refused a.cfg:{number}: 9\n")?;
-        check_refused(&rt, config.as_str(), text.as_str())?;
-    }
-    Ok(())
+    ];
+    check_all_refused(&rt, &rows)
 }
 
 /// Two files that each name an undefined list, in the order of their names and against that of their host names.
@@ -92,7 +88,7 @@ fn lists_that_are_defined(rt: HostRuntime) -> Result<(), Fail> {
 
 #[test]
 fn policies_that_are_refused(rt: HostRuntime) -> Result<(), Fail> {
-    for (lines, answer) in [
+    let rows = [
         ("ip prefix-list P permit 10.0.0.0/8 ge 8\n", "4: 3"),
         ("ip prefix-list P permit 10.0.0.0/8 ge 24 le 16\n", "4: 3"),
         (
@@ -106,10 +102,6 @@ fn policies_that_are_refused(rt: HostRuntime) -> Result<(), Fail> {
         ("route-map M permit 10\n set community additive\n", "5: 3"),
         ("route-map M permit 10\n shutdown\n", "5: 4"),
         ("set metric 5\n", "4: 4"),
-    ] {
-        let config = format!(in rt.alloc(); "{BASE}{lines}")?;
-        let text = format!(in rt.alloc(); "refused a.cfg:{answer}\n")?;
-        check_refused(&rt, config.as_str(), text.as_str())?;
-    }
-    Ok(())
+    ];
+    check_all_refused(&rt, &rows)
 }

@@ -1,11 +1,7 @@
 //! Access lists, from files to walks.
-use super::traces::check_line;
-use super::{BASE, check_refused};
-use crate::Status;
-use std::alloc::{AllocError, AllocGlobal};
-use std::process::Abort;
+use crate::answers::{BASE, Host, check_all_refused, check_line};
+use rc_analyse::Status;
 use std::test::Fail;
-use std::thread::Threads;
 
 /// A place in words and as it is printed.
 type Place = (&'static str, &'static str);
@@ -14,22 +10,22 @@ const HOME: Place = ("R1", "R1 self");
 
 const LAN: Place = ("R1:GigabitEthernet0/0", "R1 GigabitEthernet0/0");
 
-/// How the walk of a packet ends at the place where it starts, at a router with these lines behind those of its first
+/// Asserts how the walk of a packet ends at the place where it starts, at a router with these lines behind those of its first
 /// interface.
-fn check_end<R: Threads + Sync + AllocGlobal + Abort>(
-    rt: &R,
+fn check_end(
+    rt: &impl Host,
     lines: &str,
     place: Place,
     packet: &str,
     ending: &str,
-) -> Result<(), AllocError> {
+) -> Result<(), Fail> {
     let alloc = rt.alloc();
     let (from, at) = place;
     let config = format!(in alloc; "{BASE}{lines}")?;
     let line = format!(in alloc; "trace d --from {from} {packet}")?;
     let text = format!(in alloc; "outcome fixed 2\nat {at}\nend {ending}\n")?;
-    let files = &[("a.cfg", config.as_str())];
-    check_line(rt, files, line.as_str(), Status::Done, text.as_str())
+    let files = [("a.cfg", config.as_str())];
+    check_line(rt, &files, line.as_str(), Status::Done, text.as_str())
 }
 
 /// A wildcard that leaves the third octet out.
@@ -178,7 +174,7 @@ fn lists_of_the_next_router(rt: HostRuntime) -> Result<(), Fail> {
 
 #[test]
 fn lists_that_are_refused(rt: HostRuntime) -> Result<(), Fail> {
-    for (lines, answer) in [
+    let rows = [
         ("access-list 101 permit tcp any any established\n", "4: 2"),
         ("access-list 101 permit udp any any range 5 4\n", "4: 3"),
         (
@@ -193,10 +189,6 @@ fn lists_that_are_refused(rt: HostRuntime) -> Result<(), Fail> {
             "ip access-list extended 5\naccess-list 5 permit any\n",
             "5: 3",
         ),
-    ] {
-        let config = format!(in rt.alloc(); "{BASE}{lines}")?;
-        let text = format!(in rt.alloc(); "refused a.cfg:{answer}\n")?;
-        check_refused(&rt, config.as_str(), text.as_str())?;
-    }
-    Ok(())
+    ];
+    check_all_refused(&rt, &rows)
 }

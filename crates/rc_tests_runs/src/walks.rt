@@ -1,34 +1,17 @@
 //! Walks of packets, and the routes of one router, from files to text.
-use super::answered;
-use crate::Status;
-use std::alloc::{AllocError, AllocGlobal, Global};
-use std::process::Abort;
+use crate::answers::{CIRCLE, Host, NamedText, check_line};
+use rc_analyse::Status;
+use std::alloc::{AllocError, Global};
 use std::test::Fail;
-use std::thread::Threads;
-
-/// The words of a line, parted by blanks, over some files.
-pub(super) fn check_line<R: Threads + Sync + AllocGlobal + Abort>(
-    rt: &R,
-    files: &[(&str, &str)],
-    line: &str,
-    status: Status,
-    text: &str,
-) -> Result<(), AllocError> {
-    let words: Vec<&str> = line.split(' ').collect(rt.alloc())?;
-    let (found, out) = answered(rt, words.as_slice(), files, Vec::new(rt.alloc()))?;
-    assert_eq!(rt; found, status, "{line}");
-    assert_eq!(rt; out.bytes.as_slice(), text.as_bytes(), "{line}");
-    Ok(())
-}
 
 /// The walk that a packet to an address goes from a place.
-fn check_walk<R: Threads + Sync + AllocGlobal + Abort>(
-    rt: &R,
-    files: &[(&str, &str)],
+fn check_walk(
+    rt: &impl Host,
+    files: &[NamedText<'_>],
     place: &str,
     destination: &str,
     text: &str,
-) -> Result<(), AllocError> {
+) -> Result<(), Fail> {
     let line = format!(in rt.alloc(); "trace d --from {place} --dst {destination}")?;
     check_line(rt, files, line.as_str(), Status::Done, text)
 }
@@ -219,7 +202,7 @@ fn the_routes_of_one_router(rt: HostRuntime) -> Result<(), Fail> {
 
 #[test]
 fn no_walk_without_a_fixed_point(rt: HostRuntime) -> Result<(), Fail> {
-    let files = &[("a.cfg", super::CIRCLE)];
+    let files = &[("a.cfg", CIRCLE)];
     for (line, status, text) in [
         (
             "trace d --from R1 --dst 10.0.0.1",
