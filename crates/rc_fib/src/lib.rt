@@ -6,6 +6,8 @@
 
 mod entry;
 mod fib;
+mod hop_set;
+mod laws;
 mod layers;
 mod longest;
 mod resolve;
@@ -14,3 +16,4 @@ mod tests;
 
 pub use entry::Entry;
 pub use fib::Fib;
+pub use laws::{hops_by_depth, prepared_hops_are_resolved};
