@@ -6,9 +6,12 @@
 
 mod entry;
 mod fib;
+mod hop_set;
+mod laws;
 mod layers;
 mod longest;
 mod resolve;
 
 pub use entry::Entry;
 pub use fib::Fib;
+pub use laws::{hops_by_depth, prepared_hops_are_resolved};

@@ -5,6 +5,7 @@
 #![tactic(auto)]
 
 mod outcome;
+mod progress;
 mod round;
 mod rounds;
 
