@@ -7,12 +7,8 @@
 #![tactic(auto)]
 
 mod access_list;
-#[cfg(test)]
-mod access_list_tests;
 mod action_word;
 mod by_number;
-#[cfg(test)]
-mod by_number_tests;
 mod command;
 mod community_list;
 mod context;
@@ -23,16 +19,12 @@ mod lists;
 mod map_line;
 mod named;
 mod network;
-#[cfg(test)]
-mod policy_tests;
 mod ports;
 mod prefix_list;
 mod route_map;
 mod router_text;
 mod sets;
 mod static_route;
-#[cfg(test)]
-mod tests;
 
 pub use access_list::{
     AccessList, AccessListKind, AccessListLine, Action, AddressTest, PortTest, ProtocolTest,

@@ -22,7 +22,7 @@ use Rattle.rc_base.specs.contracts.prefix.PrefixOrd.TheImpl as impl
 use Rattle.rc_base.specs.contracts.prefix.PrefixPartialOrd.TheImpl as partial_impl
 use Rattle.rc_base.proofs.OrderedLaws.{prefix_cmp_total, same_by_prefix_cmp}
 use Rattle.rc_fib.specs.declared.entry.Entry.{Entry}
-use Rattle.rc_fib.specs.Entries.{IsInOrder, IsPlace, IsGap, ends_before}
+use Rattle.rc_fib.specs.Entries.{IsInOrder, IsIndexOf, IsGap, ends_before}
 
 -- ---- the order of prefixes
 
@@ -92,7 +92,7 @@ prefix_holds a n =
     let again : a / 2 ^ (32 - n) * 2 ^ (32 - n) / 2 ^ (32 - n) ≡ a / 2 ^ (32 - n) = mul-div_left (a / 2 ^ (32 - n)) (pow_pos (32 - n)) in
     eq-eqb _ _ (sym again)
 
--- ---- entries by their places
+-- ---- entries by their indexes
 
 all_take : {K : Type 0} (P : K → Type 0) (n : ℕ) (xs : List K) → AllByRecursion P xs → AllByRecursion P (take n xs)
 all_take P zero xs h = tt
@@ -127,15 +127,15 @@ module _ (entries : List Entry) (o : IsInOrder entries) where
 
   -- what a bisection finds
   module _ (p : Cidr) where
-    pub bisected : (r : Result ℕ ℕ) → IsSearchInRange r (length entries) → IsBinarySearchResult (λ (e : Entry). impl.cmp-value.it e.prefix p) entries r → record { found : IfOk r (IsPlace entries p); absent : IfErr r (IsGap entries p) }
+    pub bisected : (r : Result ℕ ℕ) → IsSearchInRange r (length entries) → IsBinarySearchResult (λ (e : Entry). impl.cmp-value.it e.prefix p) entries r → record { found : IfOk r (IsIndexOf entries p); absent : IfErr r (IsGap entries p) }
     bisected r within by_code = at r within (subst (λ (c : Cidr → Cidr → Ordering). IsBinarySearchResult (λ (e : Entry). c e.prefix p) entries r) code_cmp by_code)
       where
-        at : (r : Result ℕ ℕ) → IsSearchInRange r (length entries) → IsBinarySearchResult (λ (e : Entry). prefix_cmp e.prefix p) entries r → record { found : IfOk r (IsPlace entries p); absent : IfErr r (IsGap entries p) }
-        at (Ok place) within equal = record {
+        at : (r : Result ℕ ℕ) → IsSearchInRange r (length entries) → IsBinarySearchResult (λ (e : Entry). prefix_cmp e.prefix p) entries r → record { found : IfOk r (IsIndexOf entries p); absent : IfErr r (IsGap entries p) }
+        at (Ok index) within equal = record {
           found = record { within = within; here = λ d. same_by_prefix_cmp _ p (equal d) };
           absent = tt;
         }
-        at (Err place) within parted =
+        at (Err index) within parted =
             let parts = parted (searchable_from_sorted prefix_cmp_total (λ (e : Entry). e.prefix) entries p in_order) in
             record {
               found = tt;

@@ -1,13 +1,17 @@
 -- Layer upon layer of entries comes to the resolved table.
-use Rattle.std.proofs.Common.{refl, subst, All, rules, ◌≡◌, ap, sym, ◌∙◌, ℕ, zero, suc, ◌+◌, ◌-◌, ◌<◌, ◌≤◌, arith, List, [], ◌∷◌, map}
+use Rattle.std.proofs.Common.{refl, subst, All, rules, ◌≡◌, ap, sym, ◌∙◌, ℕ, zero, suc, ◌+◌, ◌-◌, ◌<◌, ◌≤◌, arith, List, [], ◌∷◌, ◌++◌, map, Bool, true, false, ◌&&◌, Some, None}
+use Rattle.std.specs.List.{list_all, flat_map}
 use Rattle.std.specs.List.Sorted.{IsStrictlySortedBy}
 use Rattle.rc_base.specs.Prefix.{IsCidr, prefix_cmp}
 use Rattle.rc_route.specs.Tables.{IsTable}
 use Rattle.rc_route.specs.declared.route.Route.{Route}
 use Rattle.rc_route.specs.declared.route.Hop.{Hop}
+use Rattle.rc_route.specs.declared.route.Hop.TheVariants.{Null, Dev, Via}
+use Rattle.rc_route.specs.Hops.{same_hop}
+use Rattle.rc_base.specs.Lists.{first_seen}
 use Rattle.rc_fib.specs.declared.entry.Entry.{Entry}
 use Rattle.rc_fib.specs.Entries.{IsInOrder, entries_over}
-use Rattle.rc_fib.specs.Forwarding.{resolve_all, hops_within, resolved, resolved_within}
+use Rattle.rc_fib.specs.Forwarding.{resolve_all, resolve_hop, resolved_hops, is_resolved, hops_within, resolved, resolved_within}
 use Rattle.rc_fib.proofs.ForwardingLaws.{resolved_hops-within}
 
 -- the entries with so many layers more upon them
@@ -58,6 +62,37 @@ no_layers table depth entries past left =
 pub last_layer : (table : List Route) (depth : ℕ) (entries next : List Entry) → next ≡ entries_over entries table → next ≡ entries → more_layers table (16 - depth) entries ≡ resolved table → next ≡ resolved table
 last_layer table depth entries next is same left =
     same ∙ sym (layers_stay table (16 - depth) entries (sym is ∙ same)) ∙ left
+
+-- ---- a table whose hops all say where a packet goes
+
+both : (a b : Bool) → (a && b) ≡ true → (a ≡ true) × (b ≡ true)
+both true true e = (refl, refl)
+both true false e = absurd (cc e)
+both false b e = absurd (cc e)
+
+hop_plain : (f g : ℕ → List Hop) (h : Hop) → is_resolved h ≡ true → resolve_hop f h ≡ resolve_hop g h
+hop_plain f g Null e = refl
+hop_plain f g (Dev i) e = refl
+hop_plain f g (Via a None) e = absurd (cc e)
+hop_plain f g (Via a (Some i)) e = refl
+
+hops_plain : (f g : ℕ → List Hop) (hs : List Hop) → list_all is_resolved hs ≡ true → flat_map (resolve_hop f) hs ≡ flat_map (resolve_hop g) hs
+hops_plain f g [] e = refl
+hops_plain f g (h ∷ hs) e = let (here, later) = both (is_resolved h) (list_all is_resolved hs) e in λ i. hop_plain f g h here i ++ hops_plain f g hs later i
+
+entries_plain : (es fs : List Entry) (table : List Route) → list_all (λ (r : Route). list_all is_resolved r.hops) table ≡ true → entries_over es table ≡ entries_over fs table
+entries_plain es fs [] e = refl
+entries_plain es fs (r ∷ rs) e =
+    let (here, later) = both (list_all is_resolved r.hops) (list_all (λ (q : Route). list_all is_resolved q.hops) rs) e in
+    let hops = hops_plain (resolved_hops es) (resolved_hops fs) r.hops here in
+    let rest = entries_plain es fs rs later in
+    λ i. record { prefix = r.prefix; hops = first_seen same_hop (hops i) } ∷ rest i
+
+-- one layer is enough for it
+pub plain_table : (table : List Route) (next : List Entry) → next ≡ entries_over [] table → list_all (λ (r : Route). list_all is_resolved r.hops) table ≡ true → next ≡ resolved table
+unfolding more_layers
+plain_table table next is plain =
+    is ∙ sym (layers_stay table 15 (entries_over [] table) (entries_plain (entries_over [] table) [] table plain)) ∙ all_layers table
 
 -- ---- the order
 

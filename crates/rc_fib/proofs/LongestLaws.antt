@@ -7,7 +7,7 @@ use Rattle.std.proofs.lemmas.Bool.Decides.{nat_tests}
 use Rattle.rc_base.specs.Prefix.{Cidr, contains, prefix_at, prefix_cmp}
 use Rattle.rc_base.proofs.OrderedLaws.{prefix_cmp_total}
 use Rattle.rc_fib.specs.declared.entry.Entry.{Entry}
-use Rattle.rc_fib.specs.Entries.{IsInOrder, IsPlace, IsGap, HoldsBelow, IsBehind}
+use Rattle.rc_fib.specs.Entries.{IsInOrder, IsIndexOf, IsGap, HoldsBelow, IsBehind}
 use Rattle.rc_fib.specs.Forwarding.{longest_by, entry_of}
 use Rattle.rc_fib.proofs.BisectLaws.{same_itself, turned, turned_back, prefixes_rise, holds_is, prefix_holds, rises}
 
@@ -137,29 +137,29 @@ module _ (entries : List Entry) (o : IsInOrder entries) (a : ℕ) where
     next = prefix_at a (len - 1)
 
     -- it is an entry's: that is the address's
-    pub found_longest : (place : ℕ) (e : Entry) → IsPlace (take end entries) next place → e ≡ get_or entries place e → Some e ≡ entry_of entries a
-    found_longest place e at is =
+    pub found_longest : (index : ℕ) (e : Entry) → IsIndexOf (take end entries) next index → e ≡ get_or entries index e → Some e ≡ entry_of entries a
+    found_longest index e at is =
         let long = length-take end entries in
-        let within : place < length entries = omega (arith, at.within) in
-        let front : (d : Entry) → get_or (take end entries) place d ≡ get_or entries place d = λ d. get_or-take end entries place d (omega (arith, at.within)) in
-        let here : (d : Entry) → (get_or entries place d).prefix ≡ next = λ d. ap (λ (x : Entry). x.prefix) (sym (front d)) ∙ at.here d in
+        let within : index < length entries = omega (arith, at.within) in
+        let front : (d : Entry) → get_or (take end entries) index d ≡ get_or entries index d = λ d. get_or-take end entries index d (omega (arith, at.within)) in
+        let here : (d : Entry) → (get_or entries index d).prefix ≡ next = λ d. ap (λ (x : Entry). x.prefix) (sym (front d)) ∙ at.here d in
         let prefix : e.prefix ≡ next = ap (λ (x : Entry). x.prefix) is ∙ here e in
         let as_long : e.prefix.len ≡ len - 1 = ap (λ (p : Cidr). p.len) prefix in
         let Holds : Cidr → Type 0 = λ p. contains p a ≡ true in
         let holds : contains e.prefix a ≡ true = subst Holds (sym prefix) (prefix_holds a (len - 1)) in
         let all : (k : ℕ) (d : Entry) → k < length entries → contains (get_or entries k d).prefix a ≡ true → (get_or entries k d).prefix.len ≤ e.prefix.len = λ k d less there. let short = below.shorter k d less there in omega arith in
-        let before : (k : ℕ) (d : Entry) → k < place → contains (get_or entries k d).prefix a ≡ true → (get_or entries k d).prefix.len < e.prefix.len =
+        let before : (k : ℕ) (d : Entry) → k < index → contains (get_or entries k d).prefix a ≡ true → (get_or entries k d).prefix.len < e.prefix.len =
         λ k d less there. elim (cases_lt (get_or entries k d).prefix.len (len - 1)) [
           | inl shorter ↦ omega arith
           | inr as_long' ↦
               let short = below.shorter k d (omega arith) there in
               let same : (get_or entries k d).prefix ≡ next = of_length k (len - 1) d (omega arith) there (omega arith) in
-              let tied : prefix_cmp (get_or entries k d).prefix (get_or entries place d).prefix ≡ Equal = (λ i. prefix_cmp (same i) (here d i)) ∙ same_itself next in
-              let apart = rises entries o k place d less within in
+              let tied : prefix_cmp (get_or entries k d).prefix (get_or entries index d).prefix ≡ Equal = (λ i. prefix_cmp (same i) (here d i)) ∙ same_itself next in
+              let apart = rises entries o k index d less within in
               absurd (cc)
         ]
         in
-        sym (best_at (λ (x : Entry). x.prefix) a entries place e within is holds before all)
+        sym (best_at (λ (x : Entry). x.prefix) a entries index e within is holds before all)
 
     module _ (gap : ℕ) (within : end ≤ length entries) (behind : IsBehind entries a len end) (at : IsGap (take end entries) next gap) where
       long : length (take end entries) ≡ end

@@ -16,16 +16,16 @@ pub record IsInOrder (entries : List Entry) : Type 0 where
   pub sorted : IsStrictlySortedBy prefix_cmp (map (λ (e : Entry). e.prefix) entries)
   pub canonical : All (λ (e : Entry). IsCidr e.prefix) entries
 
--- the entry at a place has the prefix
-pub record IsPlace (entries : List Entry) (p : Cidr) (place : ℕ) : Type 0 where
-  pub within : place < length entries
-  pub here : (d : Entry) → (slice_index_or entries place d).prefix ≡ p
+-- the entry at an index has the prefix
+pub record IsIndexOf (entries : List Entry) (p : Cidr) (index : ℕ) : Type 0 where
+  pub within : index < length entries
+  pub here : (d : Entry) → (slice_index_or entries index d).prefix ≡ p
 
--- no entry has the prefix: the entries before a place stand before it, and the others behind it
-pub record IsGap (entries : List Entry) (p : Cidr) (place : ℕ) : Type 0 where
-  pub within : place ≤ length entries
-  pub before : (k : ℕ) (d : Entry) → k < place → prefix_cmp (slice_index_or entries k d).prefix p ≡ Less
-  pub behind : (k : ℕ) (d : Entry) → place ≤ k → k < length entries → prefix_cmp (slice_index_or entries k d).prefix p ≡ Greater
+-- no entry has the prefix: the entries before an index stand before it, and the others behind it
+pub record IsGap (entries : List Entry) (p : Cidr) (index : ℕ) : Type 0 where
+  pub within : index ≤ length entries
+  pub before : (k : ℕ) (d : Entry) → k < index → prefix_cmp (slice_index_or entries k d).prefix p ≡ Less
+  pub behind : (k : ℕ) (d : Entry) → index ≤ k → k < length entries → prefix_cmp (slice_index_or entries k d).prefix p ≡ Greater
 
 -- the last of the entries, if any, stands before the prefix
 abbrev pub ends_before : List Entry → Cidr → Bool
@@ -36,9 +36,9 @@ ends_before entries p =
 pub record HoldsBelow (entries : List Entry) (a len : ℕ) : Type 0 where
   pub shorter : (k : ℕ) (d : Entry) → k < length entries → contains (slice_index_or entries k d).prefix a ≡ true → (slice_index_or entries k d).prefix.len < len
 
--- from a place on the entries stand behind each prefix of the address that is shorter
-pub record IsBehind (entries : List Entry) (a len place : ℕ) : Type 0 where
-  pub behind : (k : ℕ) (d : Entry) (m : ℕ) → place ≤ k → k < length entries → m < len → prefix_cmp (slice_index_or entries k d).prefix (prefix_at a m) ≡ Greater
+-- from an index on the entries stand behind each prefix of the address that is shorter
+pub record IsBehind (entries : List Entry) (a len index : ℕ) : Type 0 where
+  pub behind : (k : ℕ) (d : Entry) (m : ℕ) → index ≤ k → k < length entries → m < len → prefix_cmp (slice_index_or entries k d).prefix (prefix_at a m) ≡ Greater
 
 -- the gateway of a hop that names no interface
 abbrev pub gateway_of : Hop → Option ℕ

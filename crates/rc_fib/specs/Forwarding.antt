@@ -1,10 +1,10 @@
 -- The hops of an address in a route table: the longest prefix that holds it (RFC 1812 s.5.2.4.3), and gateways resolved through the table.
-use Rattle.std.specs.Prelude.{ℕ, zero, suc, Bool, true, false, List, [], ◌∷◌, map, Option, Some, None, nat_lt, if◌then◌else◌, ◌&&◌, ◌==◌, filter}
+use Rattle.std.specs.Prelude.{ℕ, zero, suc, Bool, true, false, List, [], ◌∷◌, map, Option, Some, None, nat_lt, if◌then◌else◌, filter}
 use Rattle.std.specs.List.{flat_map, list_any, reduce}
 use Rattle.std.specs.Option.{option_map, option_map_or}
 use Rattle.rc_base.specs.Lists.{first_seen}
-use Rattle.rc_base.specs.Positions.{same_interface}
 use Rattle.rc_base.specs.Prefix.{Cidr, contains}
+use Rattle.rc_route.specs.Hops.{same_hop}
 use Rattle.rc_route.specs.declared.route.Hop.{Hop}
 use Rattle.rc_route.specs.declared.route.Hop.TheVariants.{Null, Dev, Via}
 use Rattle.rc_route.specs.declared.route.Route.{Route}
@@ -22,13 +22,6 @@ abbrev pub longest : List Route → ℕ → Option Route
 longest table a = longest_by (λ r. r.prefix) table a
 
 -- ---- hops
-
-abbrev pub same_hop : Hop → Hop → Bool
-same_hop Null Null = true
-same_hop (Dev i) (Dev j) = same_interface i j
-same_hop (Via g None) (Via h None) = g == h
-same_hop (Via g (Some i)) (Via h (Some j)) = (g == h) && same_interface i j
-same_hop _ _ = false
 
 -- a packet leaves over the hop: it names an interface
 abbrev pub has_interface : Hop → Bool

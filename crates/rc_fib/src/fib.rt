@@ -10,9 +10,15 @@ use std::marker::Model;
 
 /// A route table with its hops resolved (RFC 1812 s.5.2.4.3), seen as the list of its entries: one for each route, in the
 /// table's order.
-#[derive(Drop)]
 pub struct Fib {
     entries: Items<Entry>,
+}
+
+/// By a function of its own, so that what holds tables drops each by one call.
+impl Drop for Fib {
+    fn drop(self) {
+        let Fib { entries: _ } = self;
+    }
 }
 
 impl Model for Fib {
@@ -31,15 +37,25 @@ ghost use Rattle.std.specs.Prelude.{◌≡◌, ◌≤◌, IfOk, MatchOption, Som
 
 impl Fib {
     ghost use Rattle.rc_route.specs.Tables.{IsTable};
+    ghost use Rattle.rc_fib.specs.Entries.{IsInOrder};
     ghost use Rattle.rc_fib.specs.Forwarding as spec;
 
     /// Prepares a table (RFC 1812 s.5.2.4.3). It errs only where memory runs out.
     pub fn of(alloc: Global, table: &Table) -> Result<Fib, AllocError>
         requires { IsTable table.now }
-        ensures { IfOk result (λ f. f ≡ spec.resolved table.now) }
+        ensures value { IfOk result (λ f. f ≡ spec.resolved table.now) }
+        ensures in_order { IfOk result IsInOrder }
     {
         let entries = resolve_table(alloc, table.as_slice())?;
         Ok(Fib { entries })
+    }
+
+    /// Its entries: one for each route, by address, then length.
+    pub fn entries(&self) -> &[Entry]
+        ensures value { result.now ≡ self.now }
+        ensures in_order { IsInOrder self.now }
+    {
+        self.entries.as_slice()
     }
 
     /// The hops of an address: those of the longest prefix that holds it, none where no prefix does (RFC 1812 s.5.2.4.3).
@@ -49,11 +65,11 @@ impl Fib {
         hops_of(self.entries.as_slice(), addr)
     }
 
-    /// The route at a place of the table with its resolved hops, or `None` exactly past the end.
-    pub fn route(&self, place: usize) -> Option<(Prefix, &[Hop])>
-        ensures { MatchOption result (length self.now ≤ place) (λ r. slice_get self.now place ≡ Some (record { prefix = r.0; hops = r.1.now })) }
+    /// The route at an index of the table with its resolved hops, or `None` exactly past the end.
+    pub fn route(&self, index: usize) -> Option<(Prefix, &[Hop])>
+        ensures { MatchOption result (length self.now ≤ index) (λ r. slice_get self.now index ≡ Some (record { prefix = r.0; hops = r.1.now })) }
     {
-        let found = self.entries.as_slice().get(place);
+        let found = self.entries.as_slice().get(index);
         match found {
             Some(entry) => Some((entry.prefix, entry.hops.as_slice())),
             None => None,

@@ -1,13 +1,14 @@
 //! A table resolved layer by layer: each layer looks the gateways up in the one before it.
 ghost use Rattle.std.specs.Prelude.{◌≡◌, ◌↔◌, IsTrue, IfOk};
+ghost use Rattle.std.specs.List.{list_all};
 ghost use Rattle.rc_base.specs.Prefix.{IsCidr};
 ghost use Rattle.rc_route.specs.Tables.{IsTable};
 ghost use Rattle.rc_fib.specs.Entries as layer;
 ghost use Rattle.rc_fib.specs.Entries.{IsInOrder};
-ghost use Rattle.rc_fib.specs.Forwarding.{resolved};
+ghost use Rattle.rc_fib.specs.Forwarding.{resolved, is_resolved};
 
 use crate::Entry;
-use crate::resolve::resolve;
+use crate::resolve::{is_resolved, resolve};
 use rc_base::Items;
 use rc_route::Route;
 use std::alloc::{AllocError, Global};
@@ -21,6 +22,7 @@ fn entry_over(alloc: Global, entries: &[Entry], route: &Route) -> Result<Entry, 
     ensures value { IfOk result (λ entry. entry ≡ layer.entry_over entries.now route.now) }
     ensures canonical { IsCidr route.now.prefix }
 {
+    // For the proof: reading the network tells that the prefix is one.
     let _network = route.prefix.network();
     let hops = resolve(alloc, entries, route.hops.as_slice())?;
     Ok(Entry {
@@ -55,14 +57,32 @@ fn is_same(a: &[Entry], b: &[Entry]) -> bool
     a == b
 }
 
+/// Whether each hop of a route says where a packet goes, with no look-up.
+fn is_plain(route: &Route) -> bool
+    ensures { result ≡ list_all is_resolved route.now.hops }
+{
+    route.hops.as_slice().iter().all(|hop| is_resolved(hop))
+}
+
+/// Whether each hop of a table says where a packet goes, with no look-up.
+fn is_plain_table(table: &[Route]) -> bool
+    ensures { result ≡ list_all (λ r. list_all is_resolved r.hops) table.now }
+{
+    table.iter().all(|route| is_plain(route))
+}
+
 /// The entries of a table, all gateways resolved.
 ///
-/// Where a layer changes nothing, no later one does.
+/// Where no hop needs a look-up, one layer is all; and where a layer changes nothing, no later one does.
 pub(crate) fn resolve_table(alloc: Global, table: &[Route]) -> Result<Items<Entry>, AllocError>
     requires { IsTable table.now }
     ensures value { IfOk result (λ entries. entries ≡ resolved table.now) }
     ensures in_order { IfOk result IsInOrder }
 {
+    if is_plain_table(table) {
+        let plain = entries_over(alloc, &[], table)?;
+        return Ok(plain);
+    }
     let mut entries = Items::new(alloc);
     for _depth in 0..DEPTH {
         let next = entries_over(alloc, entries.as_slice(), table)?;

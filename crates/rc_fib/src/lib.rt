@@ -6,11 +6,12 @@
 
 mod entry;
 mod fib;
+mod hop_set;
+mod laws;
 mod layers;
 mod longest;
 mod resolve;
-#[cfg(test)]
-mod tests;
 
 pub use entry::Entry;
 pub use fib::Fib;
+pub use laws::{hops_by_depth, prepared_hops_are_resolved};

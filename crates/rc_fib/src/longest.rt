@@ -3,17 +3,17 @@ ghost use Rattle.std.specs.Prelude.{◌≡◌, ◌≤◌, IfOk, IfErr};
 ghost use Rattle.std.specs.Option.{option_copied};
 ghost use Rattle.rc_base.specs.Prefix.{prefix_at};
 ghost use Rattle.rc_fib.specs.Entries as order;
-ghost use Rattle.rc_fib.specs.Entries.{IsGap, IsInOrder, IsPlace};
+ghost use Rattle.rc_fib.specs.Entries.{IsGap, IsInOrder, IsIndexOf};
 ghost use Rattle.rc_fib.specs.Forwarding.{entry_of, resolved_hops};
 
 use crate::Entry;
 use rc_base::{Addr, Prefix};
 use rc_route::Hop;
 
-/// The place of a prefix by bisection, or that where it would stand.
+/// The index of a prefix by bisection, or that where it would stand.
 fn bisect(entries: &[Entry], prefix: &Prefix) -> Result<usize, usize>
     requires { IsInOrder entries.now }
-    ensures found { IfOk result (IsPlace entries.now prefix.now) }
+    ensures found { IfOk result (IsIndexOf entries.now prefix.now) }
     ensures absent { IfErr result (IsGap entries.now prefix.now) }
 {
     entries.binary_search_by_key(prefix, |entry| entry.prefix)
@@ -30,11 +30,11 @@ fn ends_before(entries: &[Entry], prefix: &Prefix) -> bool
     }
 }
 
-/// The place of a prefix, or that where it would stand.
+/// The index of a prefix, or that where it would stand.
 #[tactic(auto, using(crate::proofs::BisectLaws::gap_if_ends_before))]
-fn place_of(entries: &[Entry], prefix: &Prefix) -> Result<usize, usize>
+fn index_of(entries: &[Entry], prefix: &Prefix) -> Result<usize, usize>
     requires { IsInOrder entries.now }
-    ensures found { IfOk result (IsPlace entries.now prefix.now) }
+    ensures found { IfOk result (IsIndexOf entries.now prefix.now) }
     ensures absent { IfErr result (IsGap entries.now prefix.now) }
 {
     if ends_before(entries, prefix) {
@@ -54,7 +54,7 @@ fn prefix_of(addr: Addr, len: u8) -> Prefix
 /// The entry of the longest prefix that holds an address.
 ///
 /// The prefixes of the address are looked up from the longest on. Each stands before the one that is longer, so that
-/// what is behind that one's place isn't searched again.
+/// what is behind that one's index isn't searched again.
 pub(crate) fn longest(entries: &[Entry], addr: Addr) -> Option<&Entry>
     requires { IsInOrder entries.now }
     ensures { option_copied result ≡ entry_of entries.now addr }
@@ -63,9 +63,9 @@ pub(crate) fn longest(entries: &[Entry], addr: Addr) -> Option<&Entry>
     let mut len = 33;
     while len > 0 {
         len -= 1;
-        match place_of(&entries[..end], &prefix_of(addr, len)) {
-            Ok(place) => return Some(&entries[place]),
-            Err(place) => end = place,
+        match index_of(&entries[..end], &prefix_of(addr, len)) {
+            Ok(index) => return Some(&entries[index]),
+            Err(index) => end = index,
         }
     }
     None

@@ -2,27 +2,17 @@
 ghost use Rattle.std.specs.Prelude.{◌≡◌, IfOk, OnOk, map};
 ghost use Rattle.std.specs.List.{fold, list_any};
 ghost use Rattle.indexmap.specs.IndexSet.{insert_key};
+ghost use Rattle.rc_route.specs.Hops.{same_hop};
 ghost use Rattle.rc_fib.specs.Entries as layer;
 ghost use Rattle.rc_fib.specs.Entries.{IsInOrder};
 ghost use Rattle.rc_fib.specs.Forwarding as spec;
 
 use crate::Entry;
+use crate::hop_set::HopSet;
 use crate::longest::hops_of;
-use indexmap::IndexSet;
-use rc_base::{Addr, IfId, Items};
-use rc_route::Hop;
+use rc_base::Addr;
+use rc_route::{Hop, Hops};
 use std::alloc::{AllocError, Global};
-
-/// Puts a hop at the end of a set, where it doesn't stand there already.
-#[tactic(auto, using(crate::proofs::HopLaws::same_insert))]
-fn insert_hop(set: &mut IndexSet<Hop>, hop: Hop) -> Result<(), AllocError>
-    ensures { OnOk result (set.new.keys ≡ insert_key spec.same_hop set.old.keys hop) }
-{
-    // The generated proof of an insertion wants each enum within the element named in the function.
-    let _interface: Option<IfId> = None;
-    set.insert(hop)?;
-    Ok(())
-}
 
 /// The hop with a gateway, where it has an interface and no gateway of its own.
 fn with_gateway(hop: &Hop, gateway: Addr) -> Hop
@@ -45,52 +35,58 @@ fn gateway_of(hop: &Hop) -> Option<Addr>
 }
 
 /// Puts the hops of a gateway, each once.
-fn insert_through(set: &mut IndexSet<Hop>, gateway: Addr, through: &[Hop]) -> Result<(), AllocError>
-    ensures { OnOk result (set.new.keys ≡ fold (insert_key spec.same_hop) set.old.keys (map (spec.with_gateway gateway) through.now)) }
+fn insert_through(
+    alloc: Global,
+    set: &mut HopSet,
+    gateway: Addr,
+    through: &[Hop],
+) -> Result<(), AllocError>
+    ensures { OnOk result (set.new ≡ fold (insert_key same_hop) set.old (map (spec.with_gateway gateway) through.now)) }
 {
     for hop in through {
-        insert_hop(set, with_gateway(hop, gateway))?;
+        set.insert(alloc, with_gateway(hop, gateway))?;
     }
     Ok(())
 }
 
 /// Puts what a hop resolves to, each hop once.
 #[tactic(auto, using(crate::proofs::HopLaws::resolve_by_gateway))]
-fn insert_resolved(set: &mut IndexSet<Hop>, entries: &[Entry], hop: &Hop) -> Result<(), AllocError>
+fn insert_resolved(
+    alloc: Global,
+    set: &mut HopSet,
+    entries: &[Entry],
+    hop: &Hop,
+) -> Result<(), AllocError>
     requires { IsInOrder entries.now }
-    ensures { OnOk result (set.new.keys ≡ fold (insert_key spec.same_hop) set.old.keys (spec.resolve_hop (spec.resolved_hops entries.now) hop.now)) }
+    ensures { OnOk result (set.new ≡ fold (insert_key same_hop) set.old (spec.resolve_hop (spec.resolved_hops entries.now) hop.now)) }
 {
     let gateway = gateway_of(hop);
     match gateway {
-        Some(gateway) => insert_through(set, gateway, hops_of(entries, gateway)),
-        None => insert_hop(set, *hop),
+        Some(gateway) => insert_through(alloc, set, gateway, hops_of(entries, gateway)),
+        None => set.insert(alloc, *hop),
     }
-}
-
-/// What hops resolve to, in order, as a set.
-fn resolved_set(alloc: Global, entries: &[Entry], hops: &[Hop]) -> Result<IndexSet<Hop>, AllocError>
-    requires { IsInOrder entries.now }
-    ensures { IfOk result (λ set. set.keys ≡ spec.resolve_all (spec.resolved_hops entries.now) hops.now) }
-{
-    let mut set = IndexSet::new(alloc);
-    for hop in hops {
-        insert_resolved(&mut set, entries, hop)?;
-    }
-    Ok(set)
 }
 
 /// What hops resolve to, in order, without repeats after the first.
-pub(crate) fn resolve(
-    alloc: Global,
-    entries: &[Entry],
-    hops: &[Hop],
-) -> Result<Items<Hop>, AllocError>
+pub(crate) fn resolve(alloc: Global, entries: &[Entry], hops: &[Hop]) -> Result<Hops, AllocError>
     requires { IsInOrder entries.now }
     ensures { IfOk result (λ found. found ≡ spec.resolve_all (spec.resolved_hops entries.now) hops.now) }
 {
-    let set = resolved_set(alloc, entries, hops)?;
-    let found = Vec::from_slice(alloc, set.as_slice())?;
-    Ok(Items::from_vec(found))
+    let mut set = HopSet::new();
+    for hop in hops {
+        insert_resolved(alloc, &mut set, entries, hop)?;
+    }
+    set.into_hops(alloc)
+}
+
+/// Whether a hop says where a packet goes: nowhere, or over an interface.
+pub(crate) fn is_resolved(hop: &Hop) -> bool
+    ensures { result ≡ spec.is_resolved hop.now }
+{
+    match hop {
+        Hop::Via(_, None) => false,
+        _ => true,
+    }
 }
 
 /// Whether a hop names an interface.

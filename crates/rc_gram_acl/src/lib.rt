@@ -17,6 +17,3 @@ mod sequence;
 mod values;
 
 pub use reading::{read_form, read_line};
-
-#[cfg(test)]
-mod tests;

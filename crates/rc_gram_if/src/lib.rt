@@ -10,6 +10,3 @@ mod route_options;
 mod rows;
 
 pub use reading::{read_form, read_line};
-
-#[cfg(test)]
-mod tests;

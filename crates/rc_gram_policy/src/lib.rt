@@ -19,6 +19,3 @@ mod rows;
 mod values;
 
 pub use reading::{read_form, read_line};
-
-#[cfg(test)]
-mod tests;

@@ -10,8 +10,3 @@ mod refusal;
 
 pub use reading::{first_refusal, read_file};
 pub use refusal::{FileCause, FileRefusal, ReadError};
-
-#[cfg(test)]
-mod policy_tests;
-#[cfg(test)]
-mod tests;

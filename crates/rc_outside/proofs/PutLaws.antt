@@ -1,6 +1,5 @@
 -- Texts that are put to a sink one after another.
-use Rattle.std.proofs.Common.{◌≡◌, ℕ, ◌+◌, ◌-◌, ◌<◌, ◌≤◌, List, [], ◌∷◌, ◌++◌, Option, Some, None, Result, Ok, Err, IsErr, refl, sym, ap, ◌∙◌, subst, suc, append_assoc, append-nil, take, drop, length, get_or, flat_map, arith}
-use Rattle.std.specs.List.{range_with_len}
+use Rattle.std.proofs.Common.{◌≡◌, ℕ, ◌+◌, ◌<◌, List, [], ◌∷◌, ◌++◌, Option, Some, None, Result, Ok, Err, IsErr, refl, sym, ap, ◌∙◌, subst, append_assoc, append-nil, take, drop, length, get_or, flat_map, arith}
 use Rattle.std.proofs.lemmas.List.{take-append-drop, take_more}
 use Rattle.std.proofs.lemmas.List.Concat.{flat_map-append}
 use Rattle.rc_outside.specs.Sink.{appended, AppendsFront}
@@ -116,9 +115,9 @@ module _ {S : Type 0} {sink : Ghosts S} {E : Type 0} where
   hand_any {r = Ok v} rest err h = absurd (cc)
   hand_any {r = Err f} rest err h = record { ok = tt; err = h.err; faults = still_fault h.faults }
 
-  pub line_stopped : {old new : S} {e : E} {r : Result (Unit {0}) E} {x left : List ℕ} → IsErr r → IsPutByHand sink old new (Err e) x left → IsPut sink old new r x
-  line_stopped {r = Ok v} err h = absurd (cc)
-  line_stopped {r = Err f} err h = record { ok = tt; err = h.err; faults = still_fault h.faults }
+  pub line_stopped : {old new : S} {e : E} {r : Result (Unit {0}) E} {x left : List ℕ} (y : List ℕ) → IsErr r → IsPutByHand sink old new (Err e) x left → IsPut sink old new r (x ++ y)
+  line_stopped {r = Ok v} y err h = absurd (cc)
+  line_stopped {r = Err f} {x = x} y err h = record { ok = tt; err = front-longer x y h.err; faults = still_fault h.faults }
 
   -- a piece of what is in hand goes to the sink
   pub hand_piece : {old now new : S} {u : Unit {0}} {r : Result (Unit {0}) E} {all : List ℕ} (piece left : List ℕ) → IsPutByHand sink {E = E} old now (Ok u) all (piece ++ left) → IsPut sink now new r piece

@@ -15,7 +15,7 @@ use Rattle.rc_route.specs.Tables.{IsTable}
 use Rattle.rc_route.specs.declared.route.Hop.TheVariants.{Dev}
 use Rattle.rc_route.specs.declared.route.Route.{Route}
 use Rattle.rc_route.specs.declared.route.Source.TheVariants as source
-use Rattle.rc_rib.specs.Connected.{prefixes_at, out_of, places, route_of, connected}
+use Rattle.rc_rib.specs.Connected.{prefixes_at, out_of, indexes, route_of, connected}
 use Rattle.rc_rib.specs.Offers.{id_at, ids_before, prefixes_of_id, route_of_members}
 
 -- ---- one interface more
@@ -52,7 +52,7 @@ module _ (r : ℕ) (entries : Entries) where
   routes_by_prefix : (ps : List Cidr) → map (λ p. route_of_members p (filter (λ i. list_any (same_prefix p) (prefixes_of_id entries i)) (ids_before r (length entries)))) ps ≡ map (route_of r entries) ps
   routes_by_prefix [] = refl
   routes_by_prefix (p ∷ ps) =
-      ap (λ hops. record { prefix = p; source = source.Connected; distance = 0; metric = 0; hops = hops } ∷ map (λ q. route_of_members q (filter (λ i. list_any (same_prefix q) (prefixes_of_id entries i)) (ids_before r (length entries)))) ps) (hops_of_ids p (places entries))
+      ap (λ hops. record { prefix = p; source = source.Connected; distance = 0; metric = 0; hops = hops } ∷ map (λ q. route_of_members q (filter (λ i. list_any (same_prefix q) (prefixes_of_id entries i)) (ids_before r (length entries)))) ps) (hops_of_ids p (indexes entries))
       ∙ ap (λ routes. route_of r entries p ∷ routes) (routes_by_prefix ps)
 
   -- the rows of all interfaces are the connected routes
@@ -61,7 +61,7 @@ module _ (r : ℕ) (entries : Entries) where
   routes_of_index =
       rows_of_index route_of_members (prefixes_of_id entries) (ids_before r (length entries)) (distinct_ids_of r (length entries))
       ∙ routes_by_prefix (in_order prefix_cmp (flat_map (prefixes_of_id entries) (ids_before r (length entries))))
-      ∙ ap (λ ps. map (route_of r entries) (in_order prefix_cmp ps)) (prefixes_of_ids (places entries))
+      ∙ ap (λ ps. map (route_of r entries) (in_order prefix_cmp ps)) (prefixes_of_ids (indexes entries))
 
   -- ---- the routes are a table
 
@@ -73,5 +73,5 @@ module _ (r : ℕ) (entries : Entries) where
   pub connected_is_table : IsTable (connected r entries)
   unfolding connected
   connected_is_table =
-      let ps : List Cidr = flat_map (prefixes_at entries) (places entries) in
+      let ps : List Cidr = flat_map (prefixes_at entries) (indexes entries) in
       subst (IsStrictlySortedBy prefix_cmp) (sym (prefixes_of_routes (in_order prefix_cmp ps))) (in_order-sorted prefix_cmp prefix_cmp_total ps)

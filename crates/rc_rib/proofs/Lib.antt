@@ -1,3 +1,4 @@
+mod AgainLaws
 pub mod ConnectedLaws
 mod BestLaws
 mod TableLaws

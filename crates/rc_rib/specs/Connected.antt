@@ -10,26 +10,26 @@ use Rattle.rc_route.specs.declared.route.Hop.TheVariants.{Dev}
 use Rattle.rc_route.specs.declared.route.Route.{Route}
 use Rattle.rc_route.specs.declared.route.Source.TheVariants.{Connected}
 
--- the prefixes of the interface at a place
+-- the prefixes of the interface at an index
 abbrev pub prefixes_at : Entries → ℕ → List Cidr
-prefixes_at entries place = option_map_or (prefixes_of entries) (slice_get entries place) []
+prefixes_at entries index = option_map_or (prefixes_of entries) (slice_get entries index) []
 
--- the places of all interfaces, in the order of declaration
-abbrev pub places : Entries → List ℕ
-places entries = range_with_len 0 (length entries)
+-- the indexes of all interfaces, in the order of declaration
+abbrev pub indexes : Entries → List ℕ
+indexes entries = range_with_len 0 (length entries)
 
--- the hop out of the interface at a place of router r
+-- the hop out of the interface at an index of router r
 abbrev pub out_of : ℕ → ℕ → Hop
-out_of r place = Dev (record { router = r; index = place })
+out_of r index = Dev (record { router = r; index = index })
 
--- the connected route of a prefix over the interfaces at these places
+-- the connected route of a prefix over the interfaces at these indexes
 abbrev pub route_over : ℕ → Cidr → List ℕ → Route
 route_over r p interfaces = record { prefix = p; source = Connected; distance = 0; metric = 0; hops = map (out_of r) interfaces }
 
 -- the route of a prefix: over all the interfaces that have it
 abbrev pub route_of : ℕ → Entries → Cidr → Route
-route_of r entries p = route_over r p (filter (λ place. list_any (same_prefix p) (prefixes_at entries place)) (places entries))
+route_of r entries p = route_over r p (filter (λ index. list_any (same_prefix p) (prefixes_at entries index)) (indexes entries))
 
 -- a route for each prefix of an interface that is up, by address, then length
 unfoldable pub connected : ℕ → Entries → List Route
-connected r entries = map (route_of r entries) (in_order prefix_cmp (flat_map (prefixes_at entries) (places entries)))
+connected r entries = map (route_of r entries) (in_order prefix_cmp (flat_map (prefixes_at entries) (indexes entries)))

@@ -5,3 +5,4 @@ pub mod Offers
 pub mod Next
 pub mod Rows
 pub mod StaticRows
+pub mod Again

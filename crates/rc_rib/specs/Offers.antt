@@ -14,13 +14,13 @@ use Rattle.rc_rib.specs.Connected.{prefixes_at}
 use Rattle.rc_rib.specs.declared.active.ActiveLine.{ActiveLine}
 use Rattle.rc_rib.specs.declared.grouping.StaticHops.{StaticHops}
 
--- the interface at a place of router r
+-- an interface of router r, by its index
 abbrev pub id_at : ℕ → ℕ → IfId
-id_at r place = record { router = r; index = place }
+id_at r index = record { router = r; index = index }
 
--- the interfaces of router r before a place
+-- the interfaces of router r before an index
 abbrev pub ids_before : ℕ → ℕ → List IfId
-ids_before r place = map (id_at r) (range_with_len 0 place)
+ids_before r index = map (id_at r) (range_with_len 0 index)
 
 -- the prefixes of an interface of a router
 abbrev pub prefixes_of_id : Entries → IfId → List Cidr

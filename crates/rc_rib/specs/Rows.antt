@@ -49,10 +49,10 @@ pub shared_prefix : connected 7 ((first, primary_with (address 1 1 24)) ∷ (cod
 unfolding connected
 shared_prefix = refl
 
--- a place is that among all interfaces, those that are down too
-pub place_among_all : connected 7 ((first, shut_with (address 1 1 24 ∷ [])) ∷ (codes "Gi0/1", primary_with (address 1 2 24)) ∷ []) ≡ route (address 1 0 24) (1 ∷ []) ∷ []
+-- an index is that among all interfaces, those that are down too
+pub index_among_all : connected 7 ((first, shut_with (address 1 1 24 ∷ [])) ∷ (codes "Gi0/1", primary_with (address 1 2 24)) ∷ []) ≡ route (address 1 0 24) (1 ∷ []) ∷ []
 unfolding connected
-place_among_all = refl
+index_among_all = refl
 
 -- a secondary address makes a route of its own
 pub secondary_route : connected 7 ((first, record fresh { primary = Some (address 2 1 24); secondary = address 1 1 24 ∷ [] }) ∷ []) ≡ route (address 1 0 24) (0 ∷ []) ∷ route (address 2 0 24) (0 ∷ []) ∷ []

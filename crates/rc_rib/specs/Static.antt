@@ -21,7 +21,7 @@ use Rattle.rc_rib.specs.declared.active.ActiveLine.{ActiveLine}
 
 -- the interface of a name, where router r declares it and it is up
 abbrev pub up_interface : ℕ → Entries → List ℕ → Option IfId
-up_interface r entries name = if is_down entries name then None else option_map (λ place. record { router = r; index = place }) (index_of entries name)
+up_interface r entries name = if is_down entries name then None else option_map (λ index. record { router = r; index = index }) (index_of entries name)
 
 -- A next hop resolves in the previous table, by another route than one of this prefix: the longest prefix there that holds it is another one.
 abbrev pub is_reachable : List Entry → Cidr → ℕ → Bool

@@ -106,7 +106,7 @@ pub(crate) fn active_lines(
 ) -> Result<Vec<ActiveLine>, AllocError>
     ensures { IfOk result (λ lines. lines.items ≡ spec.active_lines router file.now.interfaces old.now file.now.static_routes) }
 {
-    // The generated proof of a push wants each enum within the element named in the function.
+    // For the proof: that of a push wants each enum within the element named in the function.
     let (_hop, _interface): (Hop, Option<IfId>) = (Hop::Null, None);
     let mut lines = Vec::new(alloc);
     for line in file.static_routes.as_slice() {

@@ -7,8 +7,8 @@ ghost use Rattle.rc_rib.specs.Offers.{prefix_of, offered};
 ghost use Rattle.rc_rib.specs.Best as spec;
 
 use crate::rows::routes_of_rows;
-use rc_base::{Items, Prefix, PrefixMap};
-use rc_route::{Route, Source, Table, compare_sources};
+use rc_base::{Prefix, PrefixMap};
+use rc_route::{Hops, Route, Source, Table, compare_sources};
 use std::alloc::{AllocError, Global};
 use std::cmp::Ordering;
 use std::collections::VecDeque;
@@ -39,34 +39,34 @@ fn after_offer(known: Option<Route>, offer: Route) -> Route
 }
 
 /// A route that stands under a prefix until the preferred one does.
-fn no_route(alloc: Global, prefix: Prefix) -> Route {
+fn no_route(prefix: Prefix) -> Route {
     Route {
         prefix,
         source: Source::Static,
         distance: 255,
         metric: 0,
-        hops: Items::new(alloc),
+        hops: Hops::none(),
     }
 }
 
 /// Offers a route for its prefix.
 #[tactic(auto, using(rc_base::proofs::GroupLaws::insert_again))]
-fn offer(alloc: Global, rows: &mut PrefixMap<Route>, route: Route) -> Result<(), AllocError>
+fn offer(rows: &mut PrefixMap<Route>, route: Route) -> Result<(), AllocError>
     ensures { OnOk result (rows.new ≡ with_thing prefix_of offered rows.old route) }
 {
     let prefix = route.prefix;
-    let known = rows.insert(prefix, no_route(alloc, prefix))?;
+    let known = rows.insert(prefix, no_route(prefix))?;
     rows.insert(prefix, after_offer(known, route))?;
     Ok(())
 }
 
 /// Offers each route of a table.
-fn offer_all(alloc: Global, rows: &mut PrefixMap<Route>, routes: Table) -> Result<(), AllocError>
+fn offer_all(rows: &mut PrefixMap<Route>, routes: Table) -> Result<(), AllocError>
     ensures { OnOk result (rows.new ≡ fold (with_thing prefix_of offered) rows.old routes) }
 {
     let mut left = VecDeque::from(routes.into_vec());
     while let Some(route) = left.pop_front() {
-        offer(alloc, rows, route)?;
+        offer(rows, route)?;
     }
     Ok(())
 }
@@ -84,7 +84,7 @@ pub(crate) fn best_routes(alloc: Global, first: Table, second: Table) -> Result<
         return Ok(first);
     }
     let mut rows = PrefixMap::new(alloc);
-    offer_all(alloc, &mut rows, first)?;
-    offer_all(alloc, &mut rows, second)?;
+    offer_all(&mut rows, first)?;
+    offer_all(&mut rows, second)?;
     routes_of_rows(alloc, rows.into_rows())
 }

@@ -10,9 +10,9 @@ ghost use Rattle.rc_rib.specs.Connected as spec;
 ghost use Rattle.rc_rib.specs.Offers.{ids_before, prefixes_of_id, route_of_members};
 
 use crate::rows::routes_of_rows;
-use rc_base::{IfId, Items, Prefix, PrefixIndex, RouterId};
+use rc_base::{IfId, Prefix, PrefixIndex, RouterId};
 use rc_config::{IfAddr, Interface, RouterText};
-use rc_route::{Hop, Route, Source, Table, push_hop};
+use rc_route::{Hop, Hops, Route, Source, Table};
 use std::alloc::{AllocError, Global};
 
 /// Puts an interface under the prefix of each of these addresses of it.
@@ -63,10 +63,10 @@ fn index_of(alloc: Global, router: RouterId, file: &RouterText) -> Result<Prefix
     ensures { IfOk result (λ index. index ≡ index_of (prefixes_of_id file.now.interfaces) (ids_before router (length file.now.interfaces))) }
 {
     let mut index = PrefixIndex::new(alloc);
-    for place in 0..file.interfaces.len() {
+    for number in 0..file.interfaces.len() {
         let id = IfId {
             router,
-            index: place,
+            index: number,
         };
         add_id(&mut index, file, &id)?;
     }
@@ -74,12 +74,12 @@ fn index_of(alloc: Global, router: RouterId, file: &RouterText) -> Result<Prefix
 }
 
 /// The hops out of interfaces.
-fn hops_over(alloc: Global, members: &[IfId]) -> Result<Items<Hop>, AllocError>
+fn hops_over(alloc: Global, members: &[IfId]) -> Result<Hops, AllocError>
     ensures { IfOk result (λ hops. hops ≡ map Dev members.now) }
 {
-    let mut hops = Items::new(alloc);
+    let mut hops = Hops::none();
     for id in members {
-        push_hop(&mut hops, Hop::Dev(*id))?;
+        hops.push(alloc, Hop::Dev(*id))?;
     }
     Ok(hops)
 }

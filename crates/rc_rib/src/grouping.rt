@@ -9,8 +9,8 @@ ghost use Rattle.rc_rib.specs.Static as spec;
 
 use crate::active::ActiveLine;
 use crate::rows::routes_of_rows;
-use rc_base::{IfId, Items, Prefix, PrefixMap};
-use rc_route::{Hop, Route, Source, Table, push_hop};
+use rc_base::{IfId, Prefix, PrefixMap};
+use rc_route::{Hop, Hops, Route, Source, Table};
 use std::alloc::{AllocError, Global};
 use std::collections::BTreeSet;
 
@@ -18,19 +18,17 @@ use std::collections::BTreeSet;
 #[derive(Drop)]
 pub struct StaticHops {
     pub distance: u8,
-    pub hops: Items<Hop>,
+    pub hops: Hops,
 }
 
 /// The hops of one line.
-fn hops_of_line(alloc: Global, line: &ActiveLine) -> Result<StaticHops, AllocError>
-    ensures { IfOk result (λ v. v ≡ with_line None line.now) }
+fn hops_of_line(line: &ActiveLine) -> StaticHops
+    ensures { result ≡ with_line None line.now }
 {
-    let mut hops = Items::new(alloc);
-    push_hop(&mut hops, line.hop)?;
-    Ok(StaticHops {
+    StaticHops {
         distance: line.distance,
-        hops,
-    })
+        hops: Hops::one(line.hop),
+    }
 }
 
 /// The hops after one more line.
@@ -42,13 +40,13 @@ fn with_hop(
     ensures { IfOk result (λ v. v ≡ with_line known line.now) }
 {
     match known {
-        None => hops_of_line(alloc, line),
+        None => Ok(hops_of_line(line)),
         Some(mut known) => {
             if line.distance < known.distance {
-                return hops_of_line(alloc, line);
+                return Ok(hops_of_line(line));
             }
             if line.distance == known.distance {
-                push_hop(&mut known.hops, line.hop)?;
+                known.hops.push(alloc, line.hop)?;
             }
             Ok(known)
         }
@@ -66,7 +64,7 @@ fn add_line(
 {
     let none = StaticHops {
         distance: 255,
-        hops: Items::new(alloc),
+        hops: Hops::none(),
     };
     let known = rows.insert(line.prefix, none)?;
     let hops = with_hop(alloc, known, line)?;
@@ -89,7 +87,7 @@ fn hops_by_prefix(alloc: Global, lines: &[ActiveLine]) -> Result<PrefixMap<Stati
 fn insert_hop(set: &mut BTreeSet<Hop>, hop: Hop) -> Result<(), AllocError>
     ensures { OnOk result (keys set.new ≡ insert_key hop_cmp (keys set.old) hop) }
 {
-    // The generated proof of an insertion wants each enum within the element named in the function.
+    // For the proof: that of an insertion wants each enum within the element named in the function.
     let _interface: Option<IfId> = None;
     set.insert(hop)?;
     Ok(())
@@ -106,16 +104,26 @@ fn hop_set(alloc: Global, hops: &[Hop]) -> Result<BTreeSet<Hop>, AllocError>
     Ok(set)
 }
 
-/// Hops in their order, each once.
-fn hops_in_order(alloc: Global, hops: &[Hop]) -> Result<Items<Hop>, AllocError>
+/// Hops in their order, each once, by way of a set.
+fn sorted_hops(alloc: Global, hops: &[Hop]) -> Result<Hops, AllocError>
     ensures { IfOk result (λ ordered. ordered ≡ in_order hop_cmp hops.now) }
 {
     let set = hop_set(alloc, hops)?;
-    let mut ordered = Items::new(alloc);
+    let mut ordered = Hops::none();
     for hop in set {
-        push_hop(&mut ordered, hop)?;
+        ordered.push(alloc, hop)?;
     }
     Ok(ordered)
+}
+
+/// Hops in their order, each once. Most prefixes have one, which is in order already.
+fn hops_in_order(alloc: Global, hops: &[Hop]) -> Result<Hops, AllocError>
+    ensures { IfOk result (λ ordered. ordered ≡ in_order hop_cmp hops.now) }
+{
+    match hops {
+        [hop] => Ok(Hops::one(*hop)),
+        _ => sorted_hops(alloc, hops),
+    }
 }
 
 /// The static route of a prefix.

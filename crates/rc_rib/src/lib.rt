@@ -8,7 +8,9 @@ mod active;
 mod best;
 mod connected_routes;
 mod grouping;
+mod inputs;
 mod next;
 mod rows;
 
+pub use inputs::Inputs;
 pub use next::table;

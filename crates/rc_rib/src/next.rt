@@ -1,13 +1,15 @@
 //! One router's next table and best paths.
-ghost use Rattle.std.specs.Prelude.{◌≡◌, [], All, IfOk, length, slice_get};
+ghost use Rattle.std.specs.Prelude.{◌≡◌, [], All, IfOk, IfSome, length, slice_get};
 ghost use Rattle.std.specs.Option.{option_map, option_map_or};
 ghost use Rattle.rc_config.specs.Lawful.{IsLawful, IsRouter};
 ghost use Rattle.rc_config.specs.Members.{router_at};
 ghost use Rattle.rc_fib.specs.Forwarding.{resolved};
 ghost use Rattle.rc_route.specs.Tables.{IsStateOf, IsRouterState, IsTable};
 ghost use Rattle.rc_rib.specs.Next as spec;
+ghost use Rattle.rc_rib.specs.Again.{IsUnchanged};
 ghost use Rattle.rc_rib.specs.Static.{active_lines, static_routes};
 
+use crate::Inputs;
 use crate::active::active_lines;
 use crate::best::best_routes;
 use crate::connected_routes::connected;
@@ -15,7 +17,7 @@ use crate::grouping::static_routes;
 use rc_base::{Items, RouterId};
 use rc_config::{Network, RouterText};
 use rc_fib::Fib;
-use rc_route::{RouterState, State, Table};
+use rc_route::{RouterState, State, Table, copy, same_table};
 use std::alloc::{AllocError, Global};
 
 /// The static routes of a file that its router's previous table makes active. Only where the file has some, that table is
@@ -73,7 +75,7 @@ fn own_table(
     }
 }
 
-/// What a router of a place knows in a state, or `None` exactly past its end.
+/// What a router knows in a state, or `None` exactly past its end.
 fn known_at(state: &State, router: RouterId) -> Option<&RouterState>
     ensures { option_map (λ s. s.now) result ≡ slice_get state.now router }
 {
@@ -99,19 +101,14 @@ fn next_table(
     }
 }
 
-/// What a router knows after a round in which all routers read this state: its table, and its best BGP paths.
-///
-/// Its connected routes, and its static routes that its previous table makes active; for each prefix the least
-/// administrative distance wins. It errs only where memory runs out.
-pub fn table(
+/// What a router knows after a round, made anew.
+fn anew(
     alloc: Global,
     router: RouterId,
     net: &Network,
     state: &State,
 ) -> Result<RouterState, AllocError>
-    requires lawful { IsLawful net.now }
-    requires router { IsRouter net.now router }
-    requires state { IsStateOf (length net.now.routers) state.now }
+    requires { All IsRouterState state.now }
     ensures next { IfOk result (λ s. s ≡ spec.next_router net.now state.now router) }
     ensures in_order { IfOk result IsRouterState }
 {
@@ -120,4 +117,47 @@ pub fn table(
         table,
         paths: Items::new(alloc),
     })
+}
+
+/// What a router knows in a state, where its table is that of a state before.
+fn unchanged<'a>(state: &'a State, before: &State, router: RouterId) -> Option<&'a RouterState>
+    ensures { IfSome result (λ s. IsUnchanged state.now before.now router s.now) }
+{
+    let known = known_at(state, router)?;
+    let old = known_at(before, router)?;
+    if same_table(&known.table, &old.table) {
+        Some(known)
+    } else {
+        None
+    }
+}
+
+/// What a router knows after a round in which all routers read these inputs: its table, and its best BGP paths.
+///
+/// Its connected routes, and its static routes that its previous table makes active; for each prefix the least
+/// administrative distance wins. A router that reads what it read a round earlier knows the same again, and nothing is made
+/// anew for it. It errs only where memory runs out.
+pub fn table(
+    alloc: Global,
+    inputs: &Inputs<'_>,
+    router: RouterId,
+) -> Result<RouterState, AllocError>
+    requires lawful { IsLawful inputs.now.network.now }
+    requires router { IsRouter inputs.now.network.now router }
+    requires state { IsStateOf (length inputs.now.network.now.routers) inputs.now.previous.now }
+    requires earlier { IfSome inputs.now.earlier (λ old. inputs.now.previous.now ≡ spec.next_state inputs.now.network.now old.now) }
+    ensures next { IfOk result (λ s. s ≡ spec.next_router inputs.now.network.now inputs.now.previous.now router) }
+    ensures in_order { IfOk result IsRouterState }
+{
+    let earlier = inputs.earlier;
+    match earlier {
+        None => anew(alloc, router, inputs.network, inputs.previous),
+        Some(earlier) => {
+            let known = unchanged(inputs.previous, earlier, router);
+            match known {
+                Some(known) => copy(alloc, known),
+                None => anew(alloc, router, inputs.network, inputs.previous),
+            }
+        }
+    }
 }

@@ -1,8 +1,9 @@
 -- The checkpoint of a round is a power of two that is below it and whose double is not.
-use Rattle.std.proofs.Common.{refl, sym, ◌≡◌, ◌≢◌, ◌⊎◌, inl, inr, ap, ◌∙◌, subst, ℕ, zero, suc, ◌+◌, ◌*◌, ◌^◌, ◌≤◌, ◌<◌, Bool, true, false, cond, nat_lt, arith, add-one}
+use Rattle.std.proofs.Common.{refl, sym, ◌≡◌, ◌≢◌, inl, inr, ap, ◌∙◌, subst, ℕ, zero, suc, ◌+◌, ◌*◌, ◌^◌, ◌≤◌, ◌<◌, Bool, true, false, cond, nat_lt, arith, add-one}
 use Rattle.std.proofs.lemmas.Bool.Decides.{Decides-ltb}
 use Rattle.std.proofs.Math.Decide.{dec_lt}
 use Rattle.std.proofs.Math.Nat.{pow-le-pow_right, pow-succ'}
+use Rattle.rc_rounds.specs.Progress.{IsPowerBelow}
 use Rattle.rc_rounds.specs.Rounds.{power_below, checkpoint}
 
 not_less : (a b : ℕ) → b ≤ a → nat_lt a b ≡ false
@@ -37,10 +38,6 @@ pub checkpoint-is : (n k : ℕ) → 2 ^ n < k → k ≤ 2 ^ (n + 1) → checkpoi
 checkpoint-is n k low high = power_below-is n k k low high (omega (arith, below_power n))
 
 -- ---- the checkpoint of the next round
-
--- 0 for the first round, else a power of two that is below k, and whose double is not
-pub IsPowerBelow : ℕ → ℕ → Type 0
-IsPowerBelow k c = ((k ≡ 1) × (c ≡ 0)) ⊎ ((n : ℕ) × (c ≡ 2 ^ n) × (c < k) × (k ≤ 2 * c))
 
 pub first-power : IsPowerBelow 1 0
 unfolding IsPowerBelow

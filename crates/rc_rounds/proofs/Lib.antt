@@ -1,4 +1,5 @@
 mod ShareLaws
 pub mod CheckpointLaws
 mod RoundLaws
+mod ProgressLaws
 pub mod OutcomeLaws

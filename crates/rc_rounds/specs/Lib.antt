@@ -1,3 +1,4 @@
 pub mod Rounds
 pub mod Shares
+pub mod Progress
 pub mod Rows

@@ -5,11 +5,9 @@
 #![tactic(auto)]
 
 mod outcome;
+mod progress;
 mod round;
 mod rounds;
 
 pub use outcome::Outcome;
 pub use rounds::{one_outcome, run_rounds};
-
-#[cfg(test)]
-mod tests;

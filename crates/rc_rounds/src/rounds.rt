@@ -4,18 +4,14 @@ ghost use Rattle.rc_config.specs.Lawful.{IsLawful};
 ghost use Rattle.rc_rounds.specs.Rounds.{IsInOrder, IsOutcome, HasOneOutcome};
 
 use crate::Outcome;
-use crate::round::{empty_state, next_state};
-use rc_base::Items;
+use crate::progress::{Progress, Same};
+use crate::round::next_state;
 use rc_config::Network;
 use rc_outside::Gate;
-use rc_route::equal;
 use std::alloc::{AllocError, AllocGlobal};
 use std::thread::Threads;
 
 /// How the rounds of a network end, of which at most so many are made.
-///
-/// Three states are kept: that of the round at work, that of the round before, and that of the checkpoint, the round of the
-/// greatest power of two below. Where the checkpoint is the round before, its state is kept once, so none is ever copied.
 ///
 /// `limit` is from 1 to 100,000 and `workers` from 1 to 64. Each worker passes the gate in each round, whose number is the
 /// phase. At a fixed point each router's table is in order. It errs only where memory runs out.
@@ -34,24 +30,15 @@ pub fn run_rounds<R: Threads + Sync + AllocGlobal, G: Gate>(
     ensures outcome { IfOk result (IsOutcome net.now limit) }
     ensures in_order { IfOk result (IsInOrder (length net.now.routers)) }
 {
-    let mut last = empty_state(rt.alloc(), net)?;
-    let mut checkpoint = 0u32;
-    let mut kept = Items::new(rt.alloc());
+    let mut progress = Progress::start(rt.alloc(), net)?;
     for done in 0..limit {
-        let round = done + 1;
-        let next = next_state(rt.alloc(), net, &last, workers, round, gate)?;
-        if equal(&next, &last) {
-            return Ok(Outcome::Fixed(round, next));
+        let next = next_state(rt.alloc(), &progress.inputs(net), workers, done + 1, gate)?;
+        let same = progress.same(&next);
+        match same {
+            Same::Last => return Ok(Outcome::Fixed(done + 1, next)),
+            Same::Checkpoint => return Ok(Outcome::Repeats(progress.checkpoint, done + 1)),
+            Same::Neither => progress = progress.after(next),
         }
-        if checkpoint < done && equal(&next, &kept) {
-            return Ok(Outcome::Repeats(checkpoint, round));
-        }
-        if round == 1 || round == 2 * checkpoint {
-            checkpoint = round;
-        } else if checkpoint == done {
-            kept = last;
-        }
-        last = next;
     }
     Ok(Outcome::Limit(limit))
 }

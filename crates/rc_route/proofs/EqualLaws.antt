@@ -1,4 +1,4 @@
--- The derived `==` of hops, routes, paths and what a router knows decides equality.
+-- The derived `==` of routes, paths and what a router knows decides equality.
 use Rattle.std.proofs.Common.{List, ◌≡◌, ◌&&◌, ◌==◌, rules}
 use Rattle.std.specs.Bool.{Decides}
 use Rattle.std.proofs.lemmas.Bool.Decides.{nat_tests, Decides-eqb, Decides-and, Decides-like}
@@ -6,15 +6,14 @@ use Rattle.std.specs.Cmp.Lexicographic.{pointwise, pointwise_decides, bytes_deci
 use Rattle.rc_base.specs.Prefix.{Cidr}
 use Rattle.rc_base.specs.declared.origin.Origin.{Origin}
 use Rattle.rc_base.specs.contracts.origin.OriginPartialEq.TheImpl as origin_impl
+use Rattle.rc_route.proofs.HopLaws.{same_hops-Decides}
 use Rattle.rc_route.specs.declared.path.BgpPath.{BgpPath}
 use Rattle.rc_route.specs.declared.path.PathSource.{PathSource}
-use Rattle.rc_route.specs.declared.route.Hop.{Hop}
 use Rattle.rc_route.specs.declared.route.Route.{Route}
 use Rattle.rc_route.specs.declared.route.Source.{Source}
 use Rattle.rc_route.specs.declared.state.RouterState.{RouterState}
 use Rattle.rc_route.specs.contracts.path.BgpPathPartialEq.TheImpl as path_impl
 use Rattle.rc_route.specs.contracts.path.PathSourcePartialEq.TheImpl as path_source_impl
-use Rattle.rc_route.specs.contracts.route.HopPartialEq.TheImpl as hop_impl
 use Rattle.rc_route.specs.contracts.route.RoutePartialEq.TheImpl as route_impl
 use Rattle.rc_route.specs.contracts.route.SourcePartialEq.TheImpl as source_impl
 use Rattle.rc_route.specs.contracts.state.RouterStatePartialEq.TheImpl as router_impl
@@ -31,13 +30,14 @@ path_source-Decides x y = search rules
 prefix-Decides : (p q : Cidr) → Decides ((p.network == q.network) && (p.len == q.len)) (p ≡ q)
 prefix-Decides p q = search (rules, nat_tests)
 
-hop-Decides : (x y : Hop) → Decides (hop_impl.eq-value.it x y) (x ≡ y)
-hop-Decides x y = search rules
-
 route-Decides : (x y : Route) → Decides (route_impl.eq-value.it x y) (x ≡ y)
 route-Decides x y =
     Decides-like _ (λ h. search rules) (λ e. search rules)
-    (Decides-and _ _ (prefix-Decides x.prefix y.prefix) (Decides-and _ _ (source-Decides x.source y.source) (Decides-and _ _ (Decides-eqb x.distance y.distance) (Decides-and _ _ (Decides-eqb x.metric y.metric) (pointwise_decides hop-Decides x.hops y.hops)))))
+    (Decides-and _ _ (prefix-Decides x.prefix y.prefix) (Decides-and _ _ (source-Decides x.source y.source) (Decides-and _ _ (Decides-eqb x.distance y.distance) (Decides-and _ _ (Decides-eqb x.metric y.metric) (same_hops-Decides x.hops y.hops)))))
+
+-- the test of two tables decides whether they are equal
+pub table_decides : (x y : List Route) → Decides (pointwise route_impl.eq-value.it x y) (x ≡ y)
+table_decides = pointwise_decides route-Decides
 
 path-Decides : (x y : BgpPath) → Decides (path_impl.eq-value.it x y) (x ≡ y)
 path-Decides x y =

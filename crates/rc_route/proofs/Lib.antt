@@ -1,2 +1,4 @@
 pub mod EqualLaws
+pub mod HopLaws
+pub mod KeyLaws
 pub mod OrderLaws

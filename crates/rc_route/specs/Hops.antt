@@ -1,12 +1,21 @@
--- The order of the hops of a route, and of sources.
-use Rattle.std.specs.Prelude.{ℕ, List, [], ◌∷◌, Some, None}
+-- When hops are the same, the order of the hops of a route, and that of sources.
+use Rattle.std.specs.Prelude.{ℕ, Bool, true, false, ◌&&◌, ◌==◌, List, [], ◌∷◌, Some, None}
 use Rattle.std.specs.Ordering.{nat_cmp}
 use Rattle.std.specs.declared.cmp.Ordering.{Ordering}
 use Rattle.std.specs.Cmp.Lexicographic.{slice_cmp}
+use Rattle.rc_base.specs.Positions.{same_interface}
 use Rattle.rc_route.specs.declared.route.Hop.{Hop}
 use Rattle.rc_route.specs.declared.route.Hop.TheVariants.{Null, Dev, Via}
 use Rattle.rc_route.specs.declared.route.Source.{Source}
 use Rattle.rc_route.specs.declared.route.Source.TheVariants.{Connected, Static, Ebgp, Ospf, OspfIa, OspfE1, OspfE2, Ibgp}
+
+-- one kind of hop, and one gateway and interface
+abbrev pub same_hop : Hop → Hop → Bool
+same_hop Null Null = true
+same_hop (Dev i) (Dev j) = same_interface i j
+same_hop (Via g None) (Via h None) = g == h
+same_hop (Via g (Some i)) (Via h (Some j)) = (g == h) && same_interface i j
+same_hop _ _ = false
 
 -- null, then hops without a gateway, then by gateway; at one gateway no interface first, then interfaces as declared
 abbrev pub hop_key : Hop → List ℕ

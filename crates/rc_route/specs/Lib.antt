@@ -1,2 +1,4 @@
 pub mod Hops
+pub mod Kept
+pub mod Paths
 pub mod Tables

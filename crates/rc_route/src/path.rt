@@ -1,9 +1,12 @@
 //! BGP paths.
 
 ghost use Rattle.std.specs.Prelude.{◌≡◌, IfOk};
+ghost use Rattle.std.specs.Ordering.{nat_cmp};
+ghost use Rattle.rc_route.specs.Paths.{path_source_rank};
 
-use rc_base::{Addr, Items, Origin, Prefix, RouterId};
+use rc_base::{Addr, Communities, Items, Origin, Prefix, RouterId};
 use std::alloc::{AllocError, Global};
+use std::cmp::Ordering;
 
 /// How a router came to a path. Of equal paths that it originates itself the one that stands first is preferred.
 #[derive(Clone, Copy, PartialEq, Eq, PartialOrd, Ord)]
@@ -23,7 +26,7 @@ pub enum PathSource {
 }
 
 /// A BGP path with its attributes (RFC 4271 s.5, RFC 1997).
-#[derive(Drop, PartialEq, Eq)]
+#[derive(PartialEq, Eq)]
 pub struct BgpPath {
     pub prefix: Prefix,
     /// NEXT_HOP (RFC 4271 s.5.1.3), 0 where the router originates the path.
@@ -38,8 +41,8 @@ pub struct BgpPath {
     pub origin: Origin,
     /// AS_PATH (RFC 4271 s.5.1.2), the nearest AS first.
     pub as_path: Items<u32>,
-    /// COMMUNITIES (RFC 1997), rising, each once.
-    pub communities: Items<u32>,
+    /// COMMUNITIES (RFC 1997).
+    pub communities: Communities,
     pub source: PathSource,
     /// The router that sent the path, or that originates it.
     pub sender: RouterId,
@@ -49,6 +52,27 @@ pub struct BgpPath {
     pub neighbor: Addr,
     /// The metric of the route to the next hop, 0 where the router originates the path.
     pub igp_metric: u32,
+}
+
+/// By a function of its own, so that what holds paths drops each by one call.
+impl Drop for BgpPath {
+    fn drop(self) {
+        let BgpPath {
+            prefix: _,
+            next_hop: _,
+            med: _,
+            local_preference: _,
+            weight: _,
+            origin: _,
+            as_path: _,
+            communities: _,
+            source: _,
+            sender: _,
+            sender_id: _,
+            neighbor: _,
+            igp_metric: _,
+        } = self;
+    }
 }
 
 impl BgpPath {
@@ -74,4 +98,11 @@ impl BgpPath {
             igp_metric: self.igp_metric,
         })
     }
+}
+
+/// In the order of preference among equal paths that a router originates, which is that of `PathSource` too.
+pub fn compare_path_sources(a: PathSource, b: PathSource) -> Ordering
+    ensures { result ≡ nat_cmp (path_source_rank a) (path_source_rank b) }
+{
+    a.cmp(&b)
 }

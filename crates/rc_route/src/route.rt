@@ -1,9 +1,10 @@
 //! Routes and their hops.
 
-ghost use Rattle.std.specs.Prelude.{◌≡◌, ◌∷◌, ◌++◌, [], IfOk, OnOk, OnErr};
+ghost use Rattle.std.specs.Prelude.{◌≡◌, ◌↔◌, IfOk, IsTrue};
 ghost use Rattle.std.specs.Ordering.{nat_cmp};
-ghost use Rattle.rc_route.specs.Hops.{hop_cmp, source_rank};
+ghost use Rattle.rc_route.specs.Hops.{hop_cmp, same_hop, source_rank};
 
+use crate::Hops;
 use rc_base::{Addr, IfId, Items, Prefix};
 use std::alloc::{AllocError, Global};
 use std::cmp::Ordering;
@@ -44,7 +45,7 @@ pub enum Source {
 }
 
 /// A route of a table.
-#[derive(Drop, PartialEq, Eq)]
+#[derive(PartialEq, Eq)]
 pub struct Route {
     pub prefix: Prefix,
     pub source: Source,
@@ -52,7 +53,20 @@ pub struct Route {
     pub distance: u8,
     pub metric: u32,
     /// In their order, each once.
-    pub hops: Items<Hop>,
+    pub hops: Hops,
+}
+
+/// By a function of its own, so that what holds routes drops each by one call.
+impl Drop for Route {
+    fn drop(self) {
+        let Route {
+            prefix: _,
+            source: _,
+            distance: _,
+            metric: _,
+            hops: _,
+        } = self;
+    }
 }
 
 /// A route table: one route for each prefix, by address, then length.
@@ -74,14 +88,12 @@ impl Route {
     }
 }
 
-/// Puts a hop at the end. Where memory runs out the list stays as it was.
-pub fn push_hop(hops: &mut Items<Hop>, hop: Hop) -> Result<(), AllocError>
-    ensures ok { OnOk result (hops.new ≡ hops.old ++ hop ∷ []) }
-    ensures err { OnErr result (hops.new ≡ hops.old) }
+/// Whether two tables are equal, in all that they hold.
+#[tactic(auto, using(crate::proofs::EqualLaws::table_decides))]
+pub fn same_table(a: &Table, b: &Table) -> bool
+    ensures { IsTrue result ↔ (a.now ≡ b.now) }
 {
-    // The generated proof of a push wants each enum within the element named in the function: this names `Option`.
-    let _interface: Option<IfId> = None;
-    hops.push(hop)
+    a == b
 }
 
 /// In the order in which the hops of a route stand, which is that of `Hop` as a key of std's maps and sorts too.
@@ -89,6 +101,15 @@ pub fn compare_hops(a: &Hop, b: &Hop) -> Ordering
     ensures { result ≡ hop_cmp a.now b.now }
 {
     a.cmp(b)
+}
+
+/// Whether two hops are the same, which is the derived `==` too.
+#[tactic(auto, using(crate::proofs::HopLaws::same_test))]
+pub fn same_hop(a: &Hop, b: &Hop) -> bool
+    ensures value { result ≡ same_hop a.now b.now }
+    ensures decides { IsTrue result ↔ (a.now ≡ b.now) }
+{
+    a == b
 }
 
 /// In the order of preference at one administrative distance, which is that of `Source` too.

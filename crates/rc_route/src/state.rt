@@ -6,10 +6,17 @@ use rc_base::Items;
 use std::alloc::{AllocError, Global};
 
 /// What one router knows: its table, and its best BGP paths, one for each prefix, by address, then length.
-#[derive(Drop, PartialEq, Eq)]
+#[derive(PartialEq, Eq)]
 pub struct RouterState {
     pub table: Table,
     pub paths: Items<BgpPath>,
+}
+
+/// By a function of its own, so that what holds states drops each by one call.
+impl Drop for RouterState {
+    fn drop(self) {
+        let RouterState { table: _, paths: _ } = self;
+    }
 }
 
 /// A state: what each router of a network knows, in the network's order.

@@ -3,3 +3,5 @@
 
 #[cfg(test)]
 mod chains;
+#[cfg(test)]
+mod operations;

@@ -178,7 +178,7 @@ fn takers_in_order(rt: HostRuntime) -> Result<(), Fail> {
 }
 
 #[test]
-fn owners(rt: HostRuntime) -> Result<(), Fail> {
+fn addresses_have_owners(rt: HostRuntime) -> Result<(), Fail> {
     let links = three_linked(rt.alloc())?;
     for (router, host, wanted) in [
         (2, 0x0009, true),

@@ -55,7 +55,7 @@ fn only_24(alloc: Global) -> Result<PrefixList, Fail> {
 }
 
 #[test]
-fn prefixes_by_length(rt: HostRuntime) -> Result<(), Fail> {
+fn a_prefix_line_takes_its_lengths(rt: HostRuntime) -> Result<(), Fail> {
     let list = only_24(rt.alloc())?;
     for (bits, len, wanted) in [
         (0x0a09_0100, 24, true),
@@ -82,7 +82,7 @@ fn permitting(alloc: Global, numbers: &[u32]) -> Result<CommunityList, AllocErro
 }
 
 #[test]
-fn all_communities_of_a_line(rt: HostRuntime) -> Result<(), Fail> {
+fn a_line_wants_all_its_communities(rt: HostRuntime) -> Result<(), Fail> {
     let list = permitting(rt.alloc(), &[SECOND, FIRST])?;
     let both = communities(rt.alloc(), &[FIRST, SECOND, 5])?;
     let one = communities(rt.alloc(), &[FIRST, 5])?;
@@ -102,7 +102,7 @@ fn by_source(alloc: Global) -> Result<AccessList, AllocError> {
 }
 
 #[test]
-fn sources_alone(rt: HostRuntime) -> Result<(), Fail> {
+fn routes_match_by_their_source(rt: HostRuntime) -> Result<(), Fail> {
     let access_list = by_source(rt.alloc())?;
     assert!(rt; permits_address(&access_list, Addr::new(0x0a09_0100)));
     assert!(rt; !permits_address(&access_list, Addr::new(0x0a0a_0100)));
@@ -170,7 +170,7 @@ fn wanted(alloc: Global, prefix: Prefix) -> Result<Option<Attrs>, AllocError> {
 }
 
 #[test]
-fn joins_and_prepends(rt: HostRuntime) -> Result<(), Fail> {
+fn an_entry_joins_and_prepends(rt: HostRuntime) -> Result<(), Fail> {
     let alloc = rt.alloc();
     let name = Name::new(b"7").ok_or("7")?;
     let tried = prefix(0x0a09_0100, 24)?;

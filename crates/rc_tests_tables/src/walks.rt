@@ -166,7 +166,7 @@ fn check_end(rt: &impl Abort, alloc: Global, hop: &Hop, dst: u32, kind: Kind) ->
 }
 
 #[test]
-fn endings(rt: HostRuntime) -> Result<(), Fail> {
+fn a_walk_ends_in_each_way(rt: HostRuntime) -> Result<(), Fail> {
     let straight = Hop::Dev(device(0, 0));
     let nobody = Hop::Via(Addr::new(0x0a00_0009), Some(device(0, 0)));
     let unresolved = Hop::Via(Addr::new(0x0a00_0002), None);
@@ -191,7 +191,7 @@ fn check_walk(rt: &impl Abort, walk: &Walk, stop: Stop, positions: &[Pos]) {
 }
 
 #[test]
-fn positions(rt: HostRuntime) -> Result<(), Fail> {
+fn a_walk_has_its_positions(rt: HostRuntime) -> Result<(), Fail> {
     let there = Hop::Via(Addr::new(0x0a00_0002), Some(device(0, 0)));
     let around = [
         home(),
@@ -219,7 +219,7 @@ fn check_plane(rt: &impl Abort, plane: &Plane<'_>) {
 }
 
 #[test]
-fn steps(rt: HostRuntime) -> Result<(), Fail> {
+fn a_step_leads_to_the_next_router(rt: HostRuntime) -> Result<(), Fail> {
     let net = network(rt.alloc())?;
     let links = Links::of(rt.alloc(), &net)?;
     let known = state(rt.alloc(), &Hop::Dev(device(0, 0)), &Hop::Null)?;
@@ -243,7 +243,7 @@ fn filtered_walk(alloc: Global, direction: Direction, src: u32) -> Result<Walk, 
 }
 
 #[test]
-fn lists(rt: HostRuntime) -> Result<(), Fail> {
+fn access_lists_end_a_walk(rt: HostRuntime) -> Result<(), Fail> {
     for (direction, src, stop) in [
         (Direction::In, 0x0a00_0007, Stop::Loop),
         (Direction::In, 0x0a00_0008, Stop::At(Kind::DeniedIn)),

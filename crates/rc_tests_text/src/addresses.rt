@@ -38,7 +38,7 @@ fn a_prefix_holds_its_addresses(rt: HostRuntime) -> Result<(), Fail> {
 }
 
 #[test]
-fn masks(rt: HostRuntime) {
+fn masks_have_lengths(rt: HostRuntime) {
     assert!(rt; mask_of(24).bits() == 0xffff_ff00);
     assert!(rt; mask_of(0).bits() == 0);
     for (mask, len) in [

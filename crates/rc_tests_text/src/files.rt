@@ -96,7 +96,7 @@ fn the_least_line_is_refused(rt: HostRuntime) {
 }
 
 #[test]
-fn banners(rt: HostRuntime) {
+fn lines_of_a_banner_are_passed_over(rt: HostRuntime) {
     let files = [
         (b"banner motd\n".as_slice(), 1, BAD),
         (
@@ -124,7 +124,7 @@ fn repeated(alloc: Global, front: &[u8], piece: &[u8], times: u32) -> Result<Vec
 }
 
 #[test]
-fn long_lines(rt: HostRuntime) -> Result<(), Fail> {
+fn lines_have_at_most_4096_bytes(rt: HostRuntime) -> Result<(), Fail> {
     let alloc = rt.alloc();
     let most = repeated(alloc, b"banner motd #\n", b"!", 4096)?;
     check_refused(&rt, alloc, most.as_slice(), 1, FileCause::OpenBanner);
@@ -147,7 +147,7 @@ fn with_interfaces(alloc: Global, count: u32) -> Result<Vec<u8>, AllocError> {
 }
 
 #[test]
-fn many_interfaces(rt: HostRuntime) -> Result<(), Fail> {
+fn a_file_has_at_most_256_interfaces(rt: HostRuntime) -> Result<(), Fail> {
     let most = with_interfaces(rt.alloc(), 256)?;
     assert!(rt; read_file(rt.alloc(), most.as_slice()).is_ok());
     let over = with_interfaces(rt.alloc(), 257)?;
@@ -172,7 +172,7 @@ fn check_routes(rt: &impl Abort, routes: &[StaticRoute]) {
 }
 
 #[test]
-fn static_routes(rt: HostRuntime) {
+fn a_file_keeps_its_static_routes(rt: HostRuntime) {
     match &read_file(rt.alloc(), ROUTES) {
         Ok(file) => {
             assert!(rt; file.interfaces.len() == 1);

@@ -19,7 +19,7 @@ fn check_groups(rt: &impl Abort, block: Option<&Interface>) {
 }
 
 #[test]
-fn access_groups(rt: HostRuntime) -> Result<(), Fail> {
+fn the_last_group_counts(rt: HostRuntime) -> Result<(), Fail> {
     let serial = Name::new(b"Serial0").ok_or("Serial0")?;
     match &read_file(rt.alloc(), GROUPS) {
         Ok(file) => {
@@ -64,7 +64,7 @@ fn check_lists(rt: &impl Abort, lists: &Named<AccessList>) {
 }
 
 #[test]
-fn access_lists(rt: HostRuntime) {
+fn lines_get_their_numbers(rt: HostRuntime) {
     match &read_file(rt.alloc(), LISTS) {
         Ok(file) => check_lists(&rt, &file.lists.access_lists),
         Err(_) => assert!(rt; false, "refused"),

@@ -42,7 +42,7 @@ fn check_prefixes(rt: &impl Abort, list: &PrefixList) {
 }
 
 #[test]
-fn prefix_lists(rt: HostRuntime) -> Result<(), Fail> {
+fn prefix_lists_of_a_file(rt: HostRuntime) -> Result<(), Fail> {
     let name = Name::new(b"P").ok_or("P")?;
     match &read_file(rt.alloc(), LISTS) {
         Ok(file) => {
@@ -70,7 +70,7 @@ fn check_communities(rt: &impl Abort, list: &CommunityList) {
 }
 
 #[test]
-fn community_lists(rt: HostRuntime) -> Result<(), Fail> {
+fn community_lists_of_a_file(rt: HostRuntime) -> Result<(), Fail> {
     let name = Name::new(b"7").ok_or("7")?;
     match &read_file(rt.alloc(), LISTS) {
         Ok(file) => {
@@ -165,7 +165,7 @@ fn check_maps(rt: &impl Abort, maps: &Named<RouteMap>, name: &Name) {
 }
 
 #[test]
-fn route_maps(rt: HostRuntime) -> Result<(), Fail> {
+fn route_maps_of_a_file(rt: HostRuntime) -> Result<(), Fail> {
     let name = Name::new(b"M").ok_or("M")?;
     match &read_file(rt.alloc(), MAPS) {
         Ok(file) => check_maps(&rt, &file.route_maps, &name),

@@ -5,7 +5,7 @@ use std::process::Abort;
 use std::test::Fail;
 
 #[test]
-fn sets_of_endings(rt: HostRuntime) {
+fn a_set_of_endings_has_its_kinds(rt: HostRuntime) {
     let ends = Ends {
         denied_in: false,
         accepted: true,

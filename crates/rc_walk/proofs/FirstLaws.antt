@@ -184,9 +184,6 @@ module _ (before : List Pos) (q : Pos) (added : Bool) (after : List Pos) (told :
   when : (b : Bool) → stands_in before q ≡ b → after ≡ (if not b then before ++ q ∷ [] else before)
   when b e = put ∙ ap (λ x. if x then before ++ q ∷ [] else before) (told ∙ ap not e)
 
-  pub put_first : before ≡ [] → after ≡ q ∷ []
-  put_first none = when false (ap (λ ps. stands_in ps q) none) ∙ ap (λ ps. ps ++ q ∷ []) none
-
   pub put_new : added ≡ true → (stands_in before q ≡ false) × (after ≡ before ++ q ∷ [])
   put_new new = by (stands_in before q) refl
     where

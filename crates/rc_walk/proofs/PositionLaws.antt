@@ -7,7 +7,7 @@ use Rattle.std.proofs.lemmas.Bool.Decides.{nat_tests, same_from_decides}
 use Rattle.rc_base.specs.declared.position.Pos.{Pos}
 use Rattle.rc_base.specs.declared.position.Pos.TheVariants.{Own, Entering}
 use Rattle.rc_base.specs.Positions.{same_position}
-use Rattle.rc_base.specs.contracts.place.PosPartialEq.TheImpl as pos_impl
+use Rattle.rc_base.specs.contracts.position.PosPartialEq.TheImpl as pos_impl
 use Rattle.rc_walk.specs.Walks.{stands_in}
 
 pub same_position-Decides : (p q : Pos) → Decides (same_position p q) (p ≡ q)

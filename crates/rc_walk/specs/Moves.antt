@@ -15,6 +15,7 @@ use Rattle.rc_route.specs.declared.route.Hop.{Hop}
 use Rattle.rc_route.specs.declared.route.Hop.TheVariants.{Null, Dev, Via}
 use Rattle.rc_route.specs.declared.state.RouterState.{RouterState}
 use Rattle.rc_fib.specs.declared.entry.Entry.{Entry}
+use Rattle.rc_fib.specs.Entries.{IsInOrder}
 use Rattle.rc_fib.specs.Forwarding.{is_resolved, resolved, resolved_hops}
 use Rattle.rc_walk.specs.declared.walk.Move.{Move}
 use Rattle.rc_walk.specs.declared.walk.Move.TheVariants.{Next, End}
@@ -32,6 +33,11 @@ plane_of net state = record { network = net; links = links_of net; fibs = map (�
 -- each hop of each table says where a packet goes: nowhere, or over an interface
 abbrev pub HasResolvedHops : List (List Entry) → Type 0
 HasResolvedHops fibs = All (λ (fib : List Entry). All (λ (e : Entry). All (λ (hop : Hop). is_resolved hop ≡ true) e.hops) fib) fibs
+
+-- each table has one entry for each prefix, in order, and each of their hops says where a packet goes
+pub record ArePrepared (fibs : List (List Entry)) : Type 0 where
+  pub resolved : HasResolvedHops fibs
+  pub in_order : All IsInOrder fibs
 
 abbrev pub router_of : Pos → ℕ
 router_of (Own r) = r

@@ -1,5 +1,7 @@
 //! What holds of every walk.
 ghost use Rattle.std.specs.Prelude.{◌≡◌, ◌≤◌, List, length};
+ghost use Rattle.std.specs.Bool.{Decides};
+ghost use Rattle.rc_base.specs.Positions.{same_position};
 ghost use Rattle.rc_base.specs.declared.header.Header.{Header};
 ghost use Rattle.rc_base.specs.declared.position.Pos.{Pos};
 ghost use Rattle.rc_config.specs.declared.network.Network.{Network};
@@ -29,4 +31,9 @@ pub fn there_is_a_first_walk()
 /// A walk has at most as many positions as the network.
 pub fn walks_are_short()
     ensures { (net : Network) (state : List RouterState) (h : Header) (q : Pos) (w : Walk) → IsPosition net q → IsWalk (plane_of net state) h q w → length w.positions ≤ length (positions net) }
+{}
+
+/// The test of two positions decides whether they are equal.
+pub fn positions_are_told_apart()
+    ensures { (p q : Pos) → Decides (same_position p q) (p ≡ q) }
 {}

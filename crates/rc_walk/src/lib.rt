@@ -9,12 +9,14 @@ mod laws;
 mod plane;
 mod sending;
 mod steps;
-#[cfg(test)]
-mod tests;
 mod walk;
+mod walked;
 mod walking;
 
-pub use laws::{first_walk_is_a_walk, one_first_walk, there_is_a_first_walk, walks_are_short};
+pub use laws::{
+    first_walk_is_a_walk, one_first_walk, positions_are_told_apart, there_is_a_first_walk,
+    walks_are_short,
+};
 pub use plane::Plane;
 pub use steps::{Steps, step};
 pub use walk::{Move, Stop, Walk};

@@ -1,6 +1,7 @@
 //! What forwards packets.
 ghost use Rattle.std.specs.Prelude.{◌≡◌, All, IfOk, map, slice_get};
 ghost use Rattle.std.specs.Option.{option_copied};
+ghost use Rattle.rc_fib.specs.Entries.{IsInOrder};
 ghost use Rattle.rc_fib.specs.Forwarding.{resolved, resolved_hops};
 ghost use Rattle.rc_route.specs.Tables.{IsRouterState};
 ghost use Rattle.rc_route.specs.declared.state.RouterState.{RouterState as Known};
@@ -15,27 +16,38 @@ use std::alloc::{AllocError, Global};
 use std::marker::Model;
 
 /// A network, its links, and each router's table prepared for look-ups.
-#[derive(Drop)]
 pub struct Plane<'a> {
     network: &'a Network,
     links: &'a Links,
     fibs: Items<Fib>,
 }
 
+/// By a function of its own, so that what holds a plane drops its tables by one call.
+impl<'a> Drop for Plane<'a> {
+    fn drop(self) {
+        let Plane {
+            network: _,
+            links: _,
+            fibs: _,
+        } = self;
+    }
+}
+
 impl<'a> Model for Plane<'a> {
-    ghost use Rattle.rc_walk.specs.Moves.{DataPlane, HasResolvedHops};
+    ghost use Rattle.rc_walk.specs.Moves.{DataPlane, ArePrepared};
 
     ghost Value = { DataPlane };
 
     ghost view = { λ p. record { network = p.network.now; links = p.links.now; fibs = p.fibs } };
 
-    ghost invariant = { λ p. HasResolvedHops p.fibs };
+    ghost invariant = { λ p. ArePrepared p.fibs };
 }
 
 /// The tables of a state, prepared for look-ups.
 fn fibs_of(alloc: Global, state: &[RouterState]) -> Result<Items<Fib>, AllocError>
     requires { All IsRouterState state.now }
-    ensures { IfOk result (λ fibs. fibs ≡ map (λ (s : Known). resolved s.table) state.now) }
+    ensures value { IfOk result (λ fibs. fibs ≡ map (λ (s : Known). resolved s.table) state.now) }
+    ensures in_order { IfOk result (All IsInOrder) }
 {
     let mut fibs = Vec::with_capacity(alloc, state.len())?;
     for known in state {
@@ -45,7 +57,7 @@ fn fibs_of(alloc: Global, state: &[RouterState]) -> Result<Items<Fib>, AllocErro
 }
 
 impl<'a> Plane<'a> {
-    ghost use Rattle.rc_walk.specs.Moves.{HasResolvedHops, plane_of, fib_of};
+    ghost use Rattle.rc_walk.specs.Moves.{ArePrepared, plane_of, fib_of};
 
     /// A network in a state, with the network's links. It errs only where memory runs out.
     pub fn of(
@@ -80,7 +92,15 @@ impl<'a> Plane<'a> {
         self.links
     }
 
-    /// The prepared table of a router, or `None` exactly where there is none of this place.
+    /// The prepared tables of all routers: each is in order, and each of their hops says where a packet goes.
+    pub fn fibs(&self) -> &[Fib]
+        ensures value { result.now ≡ self.now.fibs }
+        ensures prepared { ArePrepared self.now.fibs }
+    {
+        self.fibs.as_slice()
+    }
+
+    /// The prepared table of a router, or `None` exactly where the network has none of this index.
     pub fn fib(&self, router: RouterId) -> Option<&Fib>
         ensures { option_copied result ≡ slice_get self.now.fibs router }
     {
@@ -96,12 +116,5 @@ impl<'a> Plane<'a> {
             Some(fib) => fib.hops(addr),
             None => &[],
         }
-    }
-
-    /// That each hop says where a packet goes.
-    pub(crate) fn prepared(&self)
-        ensures { HasResolvedHops self.now.fibs }
-    {
-        let _fibs = &self.fibs;
     }
 }

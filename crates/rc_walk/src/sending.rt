@@ -15,15 +15,15 @@ use rc_route::Hop;
 pub(crate) struct Sending<'a> {
     pub plane: &'a Plane<'a>,
     pub header: Header,
-    pub place: Pos,
+    pub position: Pos,
 }
 
 impl<'a> Sending<'a> {
     /// The router at the position.
     pub fn router(&self) -> RouterId
-        ensures { result ≡ spec.router_of self.now.place }
+        ensures { result ≡ spec.router_of self.now.position }
     {
-        match &self.place {
+        match &self.position {
             Pos::Own(router) => *router,
             Pos::Entering(interface) => interface.router,
         }
@@ -31,9 +31,9 @@ impl<'a> Sending<'a> {
 
     /// Whether the inbound list lets the packet in, where it enters by an interface.
     pub fn is_let_in(&self) -> bool
-        ensures { result ≡ spec.is_let_in self.now.plane.now.network self.now.header self.now.place }
+        ensures { result ≡ spec.is_let_in self.now.plane.now.network self.now.header self.now.position }
     {
-        match &self.place {
+        match &self.position {
             Pos::Own(_) => true,
             Pos::Entering(interface) => passes_at(
                 self.plane.network(),
@@ -46,9 +46,9 @@ impl<'a> Sending<'a> {
 
     /// Whether the outbound list of an interface lets the packet out, where the router hasn't made it itself.
     fn is_let_out(&self, interface: &IfId) -> bool
-        ensures { result ≡ spec.is_let_out self.now.plane.now.network self.now.header self.now.place interface.now }
+        ensures { result ≡ spec.is_let_out self.now.plane.now.network self.now.header self.now.position interface.now }
     {
-        match &self.place {
+        match &self.position {
             Pos::Own(_) => true,
             Pos::Entering(_) => passes_at(
                 self.plane.network(),
@@ -61,7 +61,7 @@ impl<'a> Sending<'a> {
 
     /// Begins the moves over an interface, to a gateway or straight to the destination.
     fn over(&self, interface: &IfId, gateway: Option<Addr>) -> Begun<'a>
-        ensures { moves_begun result ≡ spec.moves_over self.now.plane.now self.now.header self.now.place interface.now gateway }
+        ensures { moves_begun result ≡ spec.moves_over self.now.plane.now self.now.header self.now.position interface.now gateway }
     {
         if !self.is_let_out(interface) {
             return Begun::ending(Kind::DeniedOut);
@@ -71,7 +71,7 @@ impl<'a> Sending<'a> {
 
     /// Begins the moves that a hop gives.
     pub fn moves_by(&self, hop: &Hop) -> Begun<'a>
-        ensures { moves_begun result ≡ spec.moves_by self.now.plane.now self.now.header self.now.place hop.now }
+        ensures { moves_begun result ≡ spec.moves_by self.now.plane.now self.now.header self.now.position hop.now }
     {
         match hop {
             Hop::Null => Begun::ending(Kind::NullRouted),

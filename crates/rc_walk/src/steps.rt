@@ -29,7 +29,7 @@ impl<'a> Model for Steps<'a> {
     ghost use Rattle.rc_walk.specs.Left.{moves_begun};
     ghost use Rattle.rc_walk.specs.Moves as spec;
 
-    ghost view = { λ s. moves_begun s.begun ++ flat_map (spec.moves_by s.sending.plane.now s.sending.header s.sending.place) s.hops.now };
+    ghost view = { λ s. moves_begun s.begun ++ flat_map (spec.moves_by s.sending.plane.now s.sending.header s.sending.position) s.hops.now };
 }
 
 impl<'a> Iterator for Steps<'a> {
@@ -60,24 +60,24 @@ impl<'a> Iterator for Steps<'a> {
 /// addressed to it. All else goes by the hops of the longest prefix that holds the destination: nowhere, to the gateway or
 /// to the destination itself where a router on the link has that address, out of the network, to a host of the subnet, or
 /// over a serial line to whoever is there; where the router forwards it, only by an interface whose outbound list lets it.
-pub fn step<'a>(plane: &'a Plane<'a>, place: Pos, header: &Header) -> Steps<'a>
-    ensures { result ≡ spec.moves plane.now header.now place }
+pub fn step<'a>(plane: &'a Plane<'a>, position: Pos, header: &Header) -> Steps<'a>
+    ensures { result ≡ spec.moves plane.now header.now position }
 {
     let sending = Sending {
         plane,
         header: *header,
-        place,
+        position,
     };
     if !sending.is_let_in() {
-        return ending(plane, &place, header, Kind::DeniedIn);
+        return ending(plane, &position, header, Kind::DeniedIn);
     }
     let router = sending.router();
     if plane.links().is_own(router, header.dst) {
-        return ending(plane, &place, header, Kind::Accepted);
+        return ending(plane, &position, header, Kind::Accepted);
     }
     let hops = plane.hops(router, header.dst);
     if hops.is_empty() {
-        return ending(plane, &place, header, Kind::NoRoute);
+        return ending(plane, &position, header, Kind::NoRoute);
     }
     Steps {
         sending,
@@ -87,14 +87,14 @@ pub fn step<'a>(plane: &'a Plane<'a>, place: Pos, header: &Header) -> Steps<'a>
 }
 
 /// An ending alone.
-fn ending<'a>(plane: &'a Plane<'a>, place: &Pos, header: &Header, kind: Kind) -> Steps<'a>
+fn ending<'a>(plane: &'a Plane<'a>, position: &Pos, header: &Header, kind: Kind) -> Steps<'a>
     ensures { result ≡ Move.End kind ∷ [] }
 {
     Steps {
         sending: Sending {
             plane,
             header: *header,
-            place: *place,
+            position: *position,
         },
         begun: Begun::ending(kind),
         hops: &[],
@@ -102,10 +102,11 @@ fn ending<'a>(plane: &'a Plane<'a>, place: &Pos, header: &Header, kind: Kind) ->
 }
 
 /// The first move of a packet at a position: there is one, since each hop says where a packet goes.
-pub(crate) fn first_move(plane: &Plane<'_>, place: &Pos, header: &Header) -> Move
-    ensures { first_move plane.now header.now place.now ≡ Some result }
+pub(crate) fn first_move(plane: &Plane<'_>, position: &Pos, header: &Header) -> Move
+    ensures { first_move plane.now header.now position.now ≡ Some result }
 {
-    plane.prepared();
-    let mut steps = step(plane, *place, header);
+    // For the proof: the tables tell that each hop says where a packet goes.
+    let _fibs = plane.fibs();
+    let mut steps = step(plane, *position, header);
     steps.next().unwrap()
 }

@@ -1,7 +1,7 @@
-use Rattle.std.proofs.Common.{◌≡◌, ap, ◌∙◌, arith}
+use Rattle.std.proofs.Common.{◌≡◌, ap, sym, ◌∙◌, arith}
 use Rattle.std.proofs.lemmas.Grind.{common_steps}
 use Rattle.rc_fib.specs.Entries.{entries_over}
-use Rattle.rc_fib.proofs.LayerLaws.{more_layers, all_layers, next_of_layers, no_layers, last_layer, none_in_order}
+use Rattle.rc_fib.proofs.LayerLaws.{more_layers, all_layers, next_of_layers, no_layers, last_layer, none_in_order, plain_table}
 use Rattle.rc_fib.proofs.layers.resolve_table.Goals as goal
 
 pub loop-depth-init : goal.loop-depth-init
@@ -26,3 +26,10 @@ loop-depth-preserved c =
 
 pub returns-clause-value : goal.returns-clause-value
 returns-clause-value c = no_layers _ _ _ c.loop-depth-test.false c.loop-depth.invariant.left
+
+pub entries_over-requires-clause-entries : goal.entries_over-requires-clause-entries
+entries_over-requires-clause-entries c = none_in_order
+
+pub returns-then-is_plain_table-clause-value : goal.returns-then-is_plain_table-clause-value
+returns-then-is_plain_table-clause-value c =
+    plain_table c.args.table.now c.in_ok-plain.plain c.in_ok-plain.ensures.value (sym c.is_plain_table.ensures ∙ c.if-is_plain_table.true)

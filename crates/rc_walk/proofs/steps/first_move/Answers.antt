@@ -11,5 +11,5 @@ yields xs ys (Some x) some y = search rules
 
 pub unwrap-requires : goal.unwrap-requires
 unwrap-requires c =
-    let some : is_some (slice_get c.step-steps.result 0) ≡ true = ap (λ xs. is_some (slice_get xs 0)) c.step-steps.ensures ∙ has_first_move c.args.plane.now c.args.header.now c.prepared.ensures c.args.place.now in
+    let some : is_some (slice_get c.step-steps.result 0) ≡ true = ap (λ xs. is_some (slice_get xs 0)) c.step-steps.ensures ∙ has_first_move c.args.plane.now c.args.header.now c.fibs-fibs.ensures.prepared.resolved c.args.position.now in
     yields _ _ _ some c.next.ensures.steps

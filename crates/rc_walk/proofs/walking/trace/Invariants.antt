@@ -5,7 +5,7 @@ use Rattle.rc_walk.proofs.walking.trace.Given as goal
 
 -- the positions so far are the first walk's, up to here
 abbrev pub invariant-loop-kind : goal.invariant-loop-kind
-invariant-loop-kind l = IsUnderWay l.plane l.header l.fn.place l.walked.keys l.here
+invariant-loop-kind l = IsUnderWay l.plane l.header l.fn.position l.walked l.here
 
 abbrev pub decreases-loop-kind : goal.decreases-loop-kind
-decreases-loop-kind l = 1 + length (all_ids l.plane.links) - length l.walked.keys
+decreases-loop-kind l = 1 + length (all_ids l.plane.links) - length l.walked

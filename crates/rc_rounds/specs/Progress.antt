@@ -1,0 +1,33 @@
+-- How far the rounds are, and what is kept of them.
+use Rattle.std.specs.Prelude.{◌≡◌, ◌≢◌, ◌⊎◌, ◌==◌, ℕ, ◌+◌, ◌-◌, ◌*◌, ◌^◌, ◌≤◌, ◌<◌, List, length, if◌then◌else◌}
+use Rattle.rc_config.specs.declared.network.Network.{Network}
+use Rattle.rc_route.specs.Tables.{IsStateOf}
+use Rattle.rc_route.specs.declared.state.RouterState.{RouterState}
+use Rattle.rc_rounds.specs.Rounds.{state_after, GoesOnBelow}
+use Rattle.rc_rounds.specs.declared.progress.Progress.{Progress}
+use Rattle.rc_rounds.specs.declared.progress.Same.{Same}
+use Rattle.rc_rounds.specs.declared.progress.Same.TheVariants.{Last, Checkpoint, Neither}
+
+-- 0 for the first round, else a power of two that is below k, and whose double is not
+unfoldable pub IsPowerBelow : ℕ → ℕ → Type 0
+IsPowerBelow k c = ((k ≡ 1) × (c ≡ 0)) ⊎ ((n : ℕ) × (c ≡ 2 ^ n) × (c < k) × (k ≤ 2 * c))
+
+-- the state that is kept of the checkpoint
+abbrev pub checkpoint_state : Progress → List RouterState
+checkpoint_state p = if p.checkpoint == p.done then p.last else (if p.checkpoint + 1 == p.done then p.before else p.kept)
+
+-- the states are those after the rounds that they are kept of, and no round so far has ended the rounds
+pub record IsProgress (net : Network) (p : Progress) : Type 0 where
+  pub last : p.last ≡ state_after net p.done
+  pub in_order : IsStateOf (length net.routers) p.last
+  pub before : 1 ≤ p.done → p.before ≡ state_after net (p.done - 1)
+  pub checkpoint : IsPowerBelow (p.done + 1) p.checkpoint
+  pub within : p.checkpoint ≤ p.done
+  pub kept : p.checkpoint + 1 < p.done → p.kept ≡ state_after net p.checkpoint
+  pub earlier : GoesOnBelow net (p.done + 1)
+
+-- the next state is that of the round before, or else that of the checkpoint, or neither
+abbrev pub IsSame : Progress → List RouterState → Same → Type 0
+IsSame p next Last = next ≡ p.last
+IsSame p next Checkpoint = (next ≢ p.last) × (next ≡ checkpoint_state p)
+IsSame p next Neither = (next ≢ p.last) × (next ≢ checkpoint_state p)

@@ -1,0 +1,162 @@
+//! What the rounds keep from one to the next.
+ghost use Rattle.std.specs.Prelude.{◌≡◌, ◌+◌, ◌≤◌, ◌<◌, ◌⊎◌, IfOk, IfSome, length, if◌then◌else◌};
+ghost use Rattle.rc_config.specs.declared.network.Network.{Network as NetworkModel};
+ghost use Rattle.rc_rib.specs.Next.{next_state};
+ghost use Rattle.rc_route.specs.Tables.{IsStateOf};
+ghost use Rattle.rc_rounds.specs.Progress.{IsProgress, IsPowerBelow, IsSame, checkpoint_state};
+ghost use Rattle.rc_rounds.specs.Rounds.{GoesOn};
+
+use crate::round::empty_state;
+use rc_base::Items;
+use rc_config::Network;
+use rc_rib::Inputs;
+use rc_route::{State, equal};
+use std::alloc::{AllocError, Global};
+
+/// How far the rounds are.
+///
+/// Four states are kept while the next one is made: those after the last two rounds, and that of the checkpoint, the round of the
+/// greatest power of two below. Where the checkpoint is one of these two rounds, its state is kept once, so none is ever copied.
+pub(crate) struct Progress {
+    /// How many rounds are made.
+    pub done: u32,
+    /// The checkpoint of the next round.
+    pub checkpoint: u32,
+    /// The state after the last round.
+    pub last: State,
+    /// The state of the round before the last one, where two are made: a router that reads the same as there isn't made anew.
+    pub before: State,
+    /// The state of the checkpoint, where that is an earlier round yet.
+    pub kept: State,
+}
+
+/// By a function of its own, so that what holds the rounds drops their states by one call.
+impl Drop for Progress {
+    fn drop(self) {
+        let Progress {
+            done: _,
+            checkpoint: _,
+            last: _,
+            before: _,
+            kept: _,
+        } = self;
+    }
+}
+
+/// Which earlier state the state of a round is.
+#[derive(Clone, Copy, PartialEq, Eq)]
+pub(crate) enum Same {
+    /// That of the round before.
+    Last,
+    /// That of the checkpoint, and not that of the round before.
+    Checkpoint,
+    /// Neither.
+    Neither,
+}
+
+/// The checkpoint of the round after this one: this round where it is a power of two.
+fn next_checkpoint(round: u32, checkpoint: u32) -> u32
+    requires { checkpoint ≤ 100000 }
+    ensures power { IsPowerBelow round checkpoint → IsPowerBelow (round + 1) result }
+    ensures one_of_both { (result ≡ round) ⊎ (result ≡ checkpoint) }
+{
+    if round == 1 || round == 2 * checkpoint {
+        round
+    } else {
+        checkpoint
+    }
+}
+
+/// The state that is kept of the checkpoint, where the round before the last one leaves.
+fn kept_of(is_leaving: bool, leaving: State, kept: State) -> State
+    ensures { result ≡ (if is_leaving then leaving else kept) }
+{
+    if is_leaving { leaving } else { kept }
+}
+
+impl Progress {
+    /// No round is made.
+    pub fn start(alloc: Global, net: &Network) -> Result<Progress, AllocError>
+        ensures done { IfOk result (λ p. p.done ≡ 0) }
+        ensures made { IfOk result (IsProgress net.now) }
+    {
+        let last = empty_state(alloc, net)?;
+        Ok(Progress {
+            done: 0,
+            checkpoint: 0,
+            last,
+            before: Items::new(alloc),
+            kept: Items::new(alloc),
+        })
+    }
+
+    /// The state of the checkpoint.
+    fn checkpoint_state(&self) -> &State
+        requires { self.now.checkpoint ≤ 100000 }
+        ensures { result.now ≡ checkpoint_state self.now }
+    {
+        if self.checkpoint == self.done {
+            return &self.last;
+        }
+        if self.checkpoint + 1 == self.done {
+            return &self.before;
+        }
+        &self.kept
+    }
+
+    /// Which earlier state this one is.
+    pub fn same(&self, next: &State) -> Same
+        requires { self.now.checkpoint ≤ 100000 }
+        ensures { IsSame self.now next.now result }
+    {
+        if equal(next, &self.last) {
+            return Same::Last;
+        }
+        if equal(next, self.checkpoint_state()) {
+            return Same::Checkpoint;
+        }
+        Same::Neither
+    }
+
+    /// What the next round reads.
+    pub fn inputs<'a>(&'a self, net: &'a Network) -> Inputs<'a>
+        requires { IsProgress net.now self.now }
+        ensures network { result.network.now ≡ net.now }
+        ensures previous { result.previous.now ≡ self.now.last }
+        ensures earlier { IfSome result.earlier (λ old. self.now.last ≡ next_state net.now old.now) }
+    {
+        Inputs {
+            network: net,
+            previous: &self.last,
+            earlier: if self.done == 0 {
+                None
+            } else {
+                Some(&self.before)
+            },
+        }
+    }
+
+    /// One round further.
+    pub fn after(self, next: State) -> Progress
+        requires few { self.done < 100000 }
+        requires checkpoint { self.checkpoint ≤ 100000 }
+        ensures done { result.done ≡ self.done + 1 }
+        ensures made { (net : NetworkModel) → IsProgress net self → IsStateOf (length net.routers) next → next ≡ next_state net self.last → GoesOn net (self.done + 1) → IsProgress net result }
+    {
+        let Progress {
+            done,
+            checkpoint,
+            last,
+            before,
+            kept,
+        } = self;
+        let round = done + 1;
+        Progress {
+            done: round,
+            checkpoint: next_checkpoint(round, checkpoint),
+            last: next,
+            kept: kept_of(checkpoint + 1 == done, before, kept),
+            before: last,
+        }
+    }
+}
