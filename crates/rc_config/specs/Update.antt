@@ -36,12 +36,20 @@ route_map_named r name = unwrap_or (named r.route_maps name) no_entries
 abbrev pub with_route_map : RouterText → List ℕ → RouteMap → RouterText
 with_route_map r name m = record r { route_maps = with_value r.route_maps name m }
 
--- the model with these lists
-abbrev pub with_lists : RouterText → Lists → RouterText
-with_lists r l = record r { lists = l }
+-- the lists after one more command. A list that is opened again keeps its lines, and a line of a list stands by its number; one that
+-- an interface or a route map names isn't there by that.
+abbrev pub lists_after : Lists → Command → Lists
+lists_after l (AccessListOpened name kind) = with_access_list_opened l name kind
+lists_after l (AccessListLine name kind line) = with_access_list_line l name kind line
+lists_after l (PrefixLine name line) = with_prefix_line l name line
+lists_after l (CommunityLine name line) = with_community_line l name line
+lists_after l _ = l
 
--- The model after one more command. A list or an entry of a route map that is opened again keeps its lines, and a line of a list
--- stands by its number; a list that an interface or a route map names isn't there by that.
+-- the model with the lists after one more command
+abbrev pub with_lists_after : RouterText → Command → RouterText
+with_lists_after r command = record r { lists = lists_after r.lists command }
+
+-- the model after one more command. An entry of a route map that is opened again keeps its lines.
 abbrev pub after : RouterText → Command → RouterText
 after r Passed = r
 after r Remark = r
@@ -51,10 +59,10 @@ after r (Address name a secondary) = with_interface r name (with_address (interf
 after r (Shutdown name down) = with_interface r name (record (interface_named r name) { shutdown = down })
 after r (Bandwidth name kbits) = with_interface r name (record (interface_named r name) { bandwidth = Some kbits })
 after r (StaticRoute route) = with_static_route r route
-after r (AccessListOpened name kind) = with_lists r (with_access_list_opened r.lists name kind)
-after r (AccessListLine name kind line) = with_lists r (with_access_list_line r.lists name kind line)
+after r (AccessListOpened name kind) = with_lists_after r (AccessListOpened name kind)
+after r (AccessListLine name kind line) = with_lists_after r (AccessListLine name kind line)
 after r (AccessGroup name list direction) = with_interface r name (with_group (interface_named r name) list direction)
-after r (PrefixLine name line) = with_lists r (with_prefix_line r.lists name line)
-after r (CommunityLine name line) = with_lists r (with_community_line r.lists name line)
+after r (PrefixLine name line) = with_lists_after r (PrefixLine name line)
+after r (CommunityLine name line) = with_lists_after r (CommunityLine name line)
 after r (MapOpened name n action) = with_route_map r name (opened (route_map_named r name) n action)
 after r (MapLine name n line) = with_route_map r name (with_line (route_map_named r name) n line)

@@ -7,7 +7,7 @@ ghost use Rattle.rc_config.specs.Named.{index_of, named, with_value};
 ghost use Rattle.rc_config.specs.PrefixList.{no_lines as no_prefix_lines, with_line as prefix_list_with};
 ghost use Rattle.rc_config.specs.RouteMap.{no_entries, opened, with_line};
 ghost use Rattle.rc_config.specs.Interface.{fresh, with_address as address_put, with_group as group_put};
-ghost use Rattle.rc_config.specs.Update.{after, empty};
+ghost use Rattle.rc_config.specs.Update.{after, empty, lists_after};
 
 use crate::{
     AccessList, AccessListKind, AccessListLine, Action, Command, CommunityLine, CommunityList,
@@ -121,23 +121,15 @@ impl RouterText {
                 put_bandwidth(&mut self.interfaces, interface, kbits)
             }
             Command::StaticRoute { route } => put_route(&mut self.static_routes, route),
-            Command::AccessListOpened { list, kind } => {
-                put_access_list_opened(&mut self.lists.access_lists, list, kind)
-            }
-            Command::AccessListLine { list, kind, line } => {
-                put_access_list_line(&mut self.lists.access_lists, list, kind, line)
-            }
+            Command::AccessListOpened { .. } => put_into_lists(&mut self.lists, command),
+            Command::AccessListLine { .. } => put_into_lists(&mut self.lists, command),
             Command::AccessGroup {
                 interface,
                 list,
                 direction,
             } => put_group(&mut self.interfaces, interface, list, direction),
-            Command::PrefixLine { list, line } => {
-                put_prefix_line(&mut self.lists.prefix_lists, list, line)
-            }
-            Command::CommunityLine { list, line } => {
-                put_community_line(&mut self.lists.community_lists, list, line)
-            }
+            Command::PrefixLine { .. } => put_into_lists(&mut self.lists, command),
+            Command::CommunityLine { .. } => put_into_lists(&mut self.lists, command),
             Command::MapOpened {
                 map,
                 number,
@@ -147,6 +139,25 @@ impl RouterText {
                 put_map_line(&mut self.route_maps, map, number, line)
             }
         }
+    }
+}
+
+/// One more command on lists. Other commands change nothing here.
+fn put_into_lists(lists: &mut Lists, command: Command) -> Result<(), AllocError>
+    ensures { OnOk result (lists.new ≡ lists_after lists.old command) }
+{
+    match command {
+        Command::AccessListOpened { list, kind } => {
+            put_access_list_opened(&mut lists.access_lists, list, kind)
+        }
+        Command::AccessListLine { list, kind, line } => {
+            put_access_list_line(&mut lists.access_lists, list, kind, line)
+        }
+        Command::PrefixLine { list, line } => put_prefix_line(&mut lists.prefix_lists, list, line),
+        Command::CommunityLine { list, line } => {
+            put_community_line(&mut lists.community_lists, list, line)
+        }
+        _ => Ok(()),
     }
 }
 
