@@ -22,6 +22,3 @@ pub use rc_words::{
 pub use runs::run;
 pub use status::Status;
 pub use subject::Subject;
-
-#[cfg(test)]
-mod tests;

@@ -31,6 +31,3 @@ pub use position::{IfId, Pos, RouterId, compare_interfaces};
 pub use prefix::Prefix;
 pub use prefix_index::PrefixIndex;
 pub use prefix_map::PrefixMap;
-
-#[cfg(test)]
-mod tests;

@@ -1,7 +1,7 @@
 -- Things by number as the rows of a map.
-use Rattle.std.proofs.Common.{◌≡◌, ℕ, suc, ◌+◌, ◌-◌, ◌<◌, ◌≤◌, ◌==◌, Bool, true, false, not, ◌||◌, cond, nat_lt, List, [], ◌∷◌, length, Some, None, refl, sym, ap, subst, ◌∙◌, arith, is_some, map, get_or, ◌⊎◌, inl, inr}
-use Rattle.std.specs.Prelude.{All, slice_get}
-use Rattle.std.specs.List.{filter, find, list_any, AllByRecursion}
+use Rattle.std.proofs.Common.{◌≡◌, ℕ, suc, ◌<◌, ◌≤◌, ◌==◌, Bool, true, false, not, ◌||◌, cond, nat_lt, List, [], ◌∷◌, length, Some, None, refl, sym, ap, subst, ◌∙◌, arith, is_some, map, get_or, ◌⊎◌, inl, inr}
+use Rattle.std.specs.Prelude.{All}
+use Rattle.std.specs.List.{AllByRecursion}
 use Rattle.std.specs.Map.{keys_of, values_of, lookup, remove_entry}
 use Rattle.std.specs.BTreeMap.{insert_entry, is_at}
 use Rattle.std.specs.Ordering.{nat_cmp, is_eq, is_lt, match_ordering}
@@ -13,8 +13,8 @@ use Rattle.std.proofs.lemmas.List.{length-map, get_or-map}
 use Rattle.std.proofs.lemmas.List.Elements.{All-nil, All-cons, All-head, All-tail}
 use Rattle.std.proofs.lemmas.List.Kept.{AllPairs-cons}
 use Rattle.std.proofs.lemmas.Map.Keys.{below_from_sorted}
-use Rattle.std.proofs.lemmas.Option.{none-some, slice_get-map}
-use Rattle.rc_config.specs.ByNumber.{AreRows, IsByNumber, placed, with_number, without_number, has_number, last_number}
+use Rattle.std.proofs.lemmas.Option.{none-some}
+use Rattle.rc_config.specs.ByNumber.{AreRows, IsByNumber, placed, with_number, without_number, has_number}
 
 -- a query is at a key where it is the same number
 at_number : (n m : ℕ) → is_eq (nat_cmp n m) ≡ (m == n)
@@ -67,7 +67,7 @@ module _ {A : Type 0} (number : A → ℕ) where
       let second = get_or-map number xs j d (number d) within in
       omega arith
 
-  -- ---- one more at its place
+  -- ---- one more by its number
   after_first : (x : A) (xs : List A) → IsByNumber number (x ∷ xs) → All (λ y. number x < number y) xs
   after_first x xs o = λ k d within. o 0 (suc k) d (omega arith) (omega arith)
 

@@ -1,5 +1,5 @@
 -- A command whose values are in range keeps a file's interfaces lawful.
-use Rattle.std.proofs.Common.{◌≡◌, ℕ, Bool, true, false, cond, List, [], ◌∷◌, ◌++◌, Option, Some, None, Result, Ok, Err, IfOk, IsSome, refl, sym, subst}
+use Rattle.std.proofs.Common.{◌≡◌, ℕ, Bool, true, false, cond, List, [], ◌∷◌, ◌++◌, Option, Some, None, Result, Ok, Err, OnOk, IsSome, refl, sym, subst}
 use Rattle.std.specs.Prelude.{All, unwrap_or}
 use Rattle.std.specs.declared.alloc.AllocError.{AllocError}
 use Rattle.std.specs.Option.{option_map_or}
@@ -179,18 +179,18 @@ after-lists r (MapLine name n line) h k f = record {
   route_maps = All-with_value (λ s m. IsLawfulMap m) r.route_maps name _ h.route_maps (map_line_lawful (route_map_named r name) n line (map-lawful r name h) k);
 }
 
--- what a call gives that makes just this model, or runs out of memory
-pub put-lawful : (result : Result RouterText AllocError) (r : RouterText) (c : Command) → IfOk result (λ n. n ≡ after r c)
-    → IfOk result (λ n. HasLawfulInterfaces r → IsInRange c → HasLawfulInterfaces n)
-put-lawful (Ok n) r c e = λ h k. subst HasLawfulInterfaces (sym e) (after-lawful r c h k)
-put-lawful (Err x) r c e = e
+-- what a call leaves that makes just this model, or runs out of memory
+pub put-lawful : {T : Type 0} (result : Result T AllocError) (r n : RouterText) (c : Command) → OnOk result (n ≡ after r c)
+    → OnOk result (HasLawfulInterfaces r → IsInRange c → HasLawfulInterfaces n)
+put-lawful (Ok x) r n c e = λ h k. subst HasLawfulInterfaces (sym e) (after-lawful r c h k)
+put-lawful (Err x) r n c e = e
 
-pub put-routes : (result : Result RouterText AllocError) (r : RouterText) (c : Command) → IfOk result (λ n. n ≡ after r c)
-    → IfOk result (λ n. HasLawfulRoutes r → IsInRange c → HasLawfulRoutes n)
-put-routes (Ok n) r c e = λ h k. subst HasLawfulRoutes (sym e) (after-routes r c h k)
-put-routes (Err x) r c e = e
+pub put-routes : {T : Type 0} (result : Result T AllocError) (r n : RouterText) (c : Command) → OnOk result (n ≡ after r c)
+    → OnOk result (HasLawfulRoutes r → IsInRange c → HasLawfulRoutes n)
+put-routes (Ok x) r n c e = λ h k. subst HasLawfulRoutes (sym e) (after-routes r c h k)
+put-routes (Err x) r n c e = e
 
-pub put-lists : (result : Result RouterText AllocError) (r : RouterText) (c : Command) → IfOk result (λ n. n ≡ after r c)
-    → IfOk result (λ n. HasLawfulLists r → IsInRange c → FitsFile r c → HasLawfulLists n)
-put-lists (Ok n) r c e = λ h k f. subst HasLawfulLists (sym e) (after-lists r c h k f)
-put-lists (Err x) r c e = e
+pub put-lists : {T : Type 0} (result : Result T AllocError) (r n : RouterText) (c : Command) → OnOk result (n ≡ after r c)
+    → OnOk result (HasLawfulLists r → IsInRange c → FitsFile r c → HasLawfulLists n)
+put-lists (Ok x) r n c e = λ h k f. subst HasLawfulLists (sym e) (after-lists r c h k f)
+put-lists (Err x) r n c e = e

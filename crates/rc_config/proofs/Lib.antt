@@ -1,4 +1,5 @@
 pub mod NamedLaws
+mod IndexLaws
 mod LawfulLaws
 pub mod OrderLaws
 pub mod DownLaws

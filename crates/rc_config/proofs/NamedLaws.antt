@@ -5,7 +5,7 @@ use Rattle.std.specs.Cmp.Lexicographic.{bytes_decides}
 use Rattle.rc_base.specs.Name.{same_name}
 use Rattle.rc_config.specs.Named.{named, with_value}
 
-same_name-self : (name : List ℕ) → same_name name name ≡ true
+pub same_name-self : (name : List ℕ) → same_name name name ≡ true
 same_name-self name = (bytes_decides name name).1 refl
 
 -- of two values that are put under one name, the later stays

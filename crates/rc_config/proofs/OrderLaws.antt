@@ -10,7 +10,7 @@ use Rattle.std.specs.declared.cmp.Ordering.TheVariants.{Less, Equal, Greater}
 use Rattle.rc_base.proofs.SortedLaws.{sorted-tail, head_is_first}
 use Rattle.rc_base.specs.Name.{same_name}
 
--- what holds of each element by its place holds of all
+-- what holds of each element by its index holds of all
 all-from : {A : Type 0} (P : A → Type 0) (xs : List A) → ((k : ℕ) (d : A) → k < length xs → P (get_or xs k d)) → AllByRecursion P xs
 all-from P [] each = tt
 all-from P (x ∷ xs) each = (each 0 x (omega arith), all-from P xs (λ k d lt. each (suc k) d (omega arith)))

@@ -52,7 +52,7 @@ opened-lawful : (o : Option MapEntry) (n : ℕ) (action : Action) → n ≤ 6553
 opened-lawful None n action within h = fresh-lawful n action within
 opened-lawful (Some e) n action within h = record { number = h.number; prepended = h.prepended }
 
--- an entry that is opened keeps its number, and takes the place of the one that was taken out
+-- an entry that is opened keeps its number, and replaces the one that was taken out
 opened-number : (o : Option MapEntry) (n : ℕ) (action : Action) → ((e : MapEntry) → o ≡ Some e → e.number ≡ n) → (unwrap_or o (fresh_entry n action)).number ≡ n
 opened-number None n action found = refl
 opened-number (Some e) n action found = found e refl
@@ -93,7 +93,7 @@ entry-number e (Match PrefixList names line) = refl
 entry-number e (Match CommunityList names line) = refl
 entry-number e (Set line) = refl
 
--- an entry with one more line takes the place of the one that was taken out
+-- an entry with one more line replaces the one that was taken out
 pub lined_over : (m : RouteMap) (n : ℕ) (line : MapLine) (e made : MapEntry) → with_number number_of n m.entries ≡ Some e → made ≡ entry_with e line → IsByNumber number_of m.entries
     → placed number_of made (without_number number_of n m.entries) ≡ (with_line m n line).entries
 lined_over m n line e made found is o =

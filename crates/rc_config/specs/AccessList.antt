@@ -32,7 +32,7 @@ no_lines kind = record { kind = kind; lines = [] }
 abbrev pub sequence_of : AccessListLine → ℕ
 sequence_of l = l.sequence
 
--- the list with one more line, at its place by number
+-- the list with one more line, by its number
 abbrev pub with_line : AccessList → AccessListLine → AccessList
 with_line f l = record f { lines = placed sequence_of l f.lines }
 

@@ -37,7 +37,7 @@ as_written = refl
 pub falling : lines (30 ∷ 20 ∷ 10 ∷ []) ≡ line 10 ∷ line 20 ∷ line 30 ∷ []
 falling = refl
 
--- a line takes the place of the one of its number
+-- a line replaces the one of its number
 pub in_its_place : (with_line (list_of (line 10 ∷ line 20 ∷ line 30 ∷ [])) (record (line 20) { action = Deny })).lines ≡ line 10 ∷ record (line 20) { action = Deny } ∷ line 30 ∷ []
 in_its_place = refl
 

@@ -1,5 +1,5 @@
 -- Community lists (IOS `ip community-list`): their lines in file order.
-use Rattle.std.specs.Prelude.{List, [], ◌∷◌, ◌++◌}
+use Rattle.std.specs.Prelude.{[], ◌∷◌, ◌++◌}
 use Rattle.rc_config.specs.declared.community_list.CommunityLine.{CommunityLine}
 use Rattle.rc_config.specs.declared.community_list.CommunityList.{CommunityList}
 

@@ -1,31 +1,43 @@
 -- Which interfaces are down, and the prefixes of those that are up, from the interfaces of a file.
-use Rattle.std.specs.Prelude.{ℕ, suc, zero, ◌==◌, Bool, false, ◌&&◌, ◌||◌, if◌then◌else◌, List, [], ◌∷◌, ◌++◌, map, length, Option, Some, None, nat_lt}
+use Rattle.std.specs.Prelude.{◌≡◌, ℕ, suc, zero, ◌+◌, ◌==◌, Bool, true, false, ◌&&◌, ◌||◌, if◌then◌else◌, List, [], ◌∷◌, ◌++◌, map, length, Option, Some, None, nat_lt}
 use Rattle.std.specs.List.{list_all}
 use Rattle.std.specs.Char.{is_ascii_digit}
 use Rattle.std.specs.Option.{option_map_or, option_and_then}
-use Rattle.rc_base.specs.Name.{name_of}
+use Rattle.rc_base.specs.Name.{is_name, name_of}
 use Rattle.rc_base.specs.Prefix.{Cidr, prefix_at}
 use Rattle.rc_config.specs.declared.interface.IfAddr.{IfAddr}
 use Rattle.rc_config.specs.declared.interface.Interface.{Interface}
 use Rattle.rc_config.specs.Interface.{declared_addresses}
 use Rattle.rc_config.specs.Named.{named}
 
+-- the names of interfaces and what their blocks say, in the order of declaration
+abbrev pub Entries : Type 0
+Entries = List (List ℕ × Interface)
+
 -- one or more digits
 abbrev pub is_number : List ℕ → Bool
 is_number text = nat_lt 0 (length text) && list_all is_ascii_digit text
+
+-- a subinterface is named as its parent, with a point and a number behind it
+pub record IsSubinterface (name parent : List ℕ) : Type 0 where
+  pub number : List ℕ
+  pub digits : is_number number ≡ true
+  pub behind : name ≡ parent ++ 46 ∷ number
+  pub named : is_name parent ≡ true
+
+-- the interface of a name is down: it is declared, and it is shut, or it is a subinterface of one that is down
+pub data IsDown (entries : Entries) : List ℕ → Type 0 where
+  shut : {name : List ℕ} {block : Interface} → named entries name ≡ Some block → block.shutdown ≡ true → IsDown entries name
+  below : {name parent : List ℕ} {block : Interface} → named entries name ≡ Some block → IsSubinterface name parent → IsDown entries parent → IsDown entries name
 
 -- the front and what stands before the point behind which there is nothing but a number; only the last point can be such a one
 abbrev pub before_number : List ℕ → List ℕ → Option (List ℕ)
 before_number front [] = None
 before_number front (b ∷ rest) = if (b == 46) && is_number rest then Some front else before_number (front ++ b ∷ []) rest
 
--- the name X of which a name is a subinterface `X.n`. No interface has a name of no byte.
+-- the one parent of a name, where it is that of a subinterface (`one_parent`)
 abbrev pub parent_of : List ℕ → Option (List ℕ)
 parent_of name = option_and_then name_of (before_number [] name)
-
--- the names of interfaces and what their blocks say, in the order of declaration
-abbrev pub Entries : Type 0
-Entries = List (List ℕ × Interface)
 
 -- whether the interface of a name is down, where its name and those above it are at most so many
 abbrev pub is_down_within : ℕ → Entries → List ℕ → Bool
@@ -33,10 +45,9 @@ is_down_within zero entries name = false
 is_down_within (suc names) entries name =
     option_map_or (λ (i : Interface). i.shutdown || option_map_or (is_down_within names entries) (parent_of name) false) (named entries name) false
 
--- the interface of a name is down: it is declared, and its block says `shutdown` or the interface is down that it is a subinterface of.
--- A parent's name is shorter and a name has at most 63 bytes, so 63 names are always enough: `down_again` says so.
+-- whether the interface of a name is down (`down_decides`): a parent's name is shorter, so there are no more names above one than it has bytes
 abbrev pub is_down : Entries → List ℕ → Bool
-is_down entries name = is_down_within 63 entries name
+is_down entries name = is_down_within (length name + 1) entries name
 
 -- the prefix that an address makes connected
 abbrev pub prefix_of : IfAddr → Cidr

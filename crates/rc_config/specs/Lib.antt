@@ -1,5 +1,6 @@
 pub mod MaskedAddr
 pub mod Named
+pub mod Lent
 pub mod IfType
 pub mod Interface
 pub mod Update

@@ -20,7 +20,7 @@ no_lists = record { access_lists = []; prefix_lists = []; community_lists = [] }
 abbrev pub access_list_named : Lists → List ℕ → AccessListKind → AccessList
 access_list_named l name kind = unwrap_or (named l.access_lists name) (no_access_list_lines kind)
 
--- the lists with this access list under a name, which keeps its place or goes last
+-- the lists with this access list under a name, which keeps its index or goes last
 abbrev pub with_access_list : Lists → List ℕ → AccessList → Lists
 with_access_list l name f = record l { access_lists = with_value l.access_lists name f }
 
@@ -28,7 +28,7 @@ with_access_list l name f = record l { access_lists = with_value l.access_lists 
 abbrev pub with_access_list_opened : Lists → List ℕ → AccessListKind → Lists
 with_access_list_opened l name kind = with_access_list l name (access_list_named l name kind)
 
--- a line of an access list goes to its place by number
+-- a line of an access list stands by its number
 abbrev pub with_access_list_line : Lists → List ℕ → AccessListKind → AccessListLine → Lists
 with_access_list_line l name kind line = with_access_list l name (access_list_with (access_list_named l name kind) line)
 
@@ -36,7 +36,7 @@ with_access_list_line l name kind line = with_access_list l name (access_list_wi
 abbrev pub prefix_list_named : Lists → List ℕ → PrefixList
 prefix_list_named l name = unwrap_or (named l.prefix_lists name) no_prefix_lines
 
--- a line of a prefix list goes to its place by number
+-- a line of a prefix list stands by its number
 abbrev pub with_prefix_line : Lists → List ℕ → PrefixLine → Lists
 with_prefix_line l name line = record l { prefix_lists = with_value l.prefix_lists name (prefix_list_with (prefix_list_named l name) line) }
 

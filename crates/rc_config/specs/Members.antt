@@ -1,6 +1,6 @@
 -- What a network holds at an id or under a name.
 --
--- Ids are places, counted from 0: a router's in the list of the network, an interface's in the list of its router.
+-- Ids are indexes, counted from 0: a router's in the list of the network, an interface's in the list of its router.
 use Rattle.std.specs.Prelude.{ℕ, List, [], ◌∷◌, length, map, Option, slice_get}
 use Rattle.std.specs.List.{range_with_len, flat_map}
 use Rattle.std.specs.Option.{option_map, option_map_or}

@@ -16,7 +16,7 @@ named entries name = lookup (same_name name) entries
 abbrev pub index_of : {V : Type 0} → List (List ℕ × V) → List ℕ → Option ℕ
 index_of entries name = position (same_name name) (keys_of entries)
 
--- the entries with a value under a name: a name that is there keeps its place, and a new one goes last
+-- the entries with a value under a name: a name that is there keeps its index, and a new one goes last
 abbrev pub with_value : {V : Type 0} → List (List ℕ × V) → List ℕ → V → List (List ℕ × V)
 with_value entries name value = insert_entry same_name entries name value
 

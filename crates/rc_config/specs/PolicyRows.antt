@@ -1,7 +1,7 @@
 -- Worked cases of prefix lists and route maps as their lines make them, each by computation.
-use Rattle.std.specs.Prelude.{◌≡◌, ℕ, ◌+◌, ◌*◌, true, false, List, [], ◌∷◌, fold, Some, None, codes, refl}
+use Rattle.std.specs.Prelude.{◌≡◌, ℕ, ◌*◌, true, false, List, [], ◌∷◌, fold, Some, None, codes, refl}
 use Rattle.rc_base.specs.Prefix.{prefix_at}
-use Rattle.rc_base.specs.declared.origin.Origin.TheVariants.{Igp, Incomplete}
+use Rattle.rc_base.specs.declared.origin.Origin.TheVariants.{Incomplete}
 use Rattle.rc_config.specs.PrefixList as prefixes
 use Rattle.rc_config.specs.RouteMap.{fresh_entry, no_entries, opened, with_line}
 use Rattle.rc_config.specs.Sets.{no_sets, with_set}

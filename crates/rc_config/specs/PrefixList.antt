@@ -12,7 +12,7 @@ sequence_of l = l.sequence
 abbrev pub no_lines : PrefixList
 no_lines = record { lines = [] }
 
--- the list with one more line, at its place by number
+-- the list with one more line, by its number
 abbrev pub with_line : PrefixList → PrefixLine → PrefixList
 with_line p l = record { lines = placed sequence_of l p.lines }
 

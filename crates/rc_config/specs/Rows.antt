@@ -12,7 +12,6 @@ use Rattle.rc_config.specs.declared.static_route.Target.TheVariants as target
 use Rattle.rc_base.specs.Prefix.{prefix_at}
 use Rattle.rc_config.specs.IfType.{type_of}
 use Rattle.rc_config.specs.Interface.{fresh, declared_addresses}
-use Rattle.rc_config.specs.Lists.{no_lists}
 use Rattle.rc_config.specs.MaskedAddr.{MaskedAddr}
 use Rattle.rc_config.specs.Members.{router_named, interface_named as interface_id}
 use Rattle.rc_config.specs.Update.{after, empty, interface_named}
@@ -54,13 +53,13 @@ no_primary = refl
 pub up_again : the_first (Shutdown first true ∷ Bandwidth first 64 ∷ Shutdown first false ∷ Bandwidth first 128 ∷ []) ≡ record fresh { bandwidth = Some 128 }
 up_again = refl
 
--- a known name opens its block again: the interface keeps its place and what its block says
+-- a known name opens its block again: the interface keeps its index and what its block says
 pub opened_again : (file (Interface first 2 ∷ Shutdown first true ∷ Interface second 4 ∷ Interface first 6 ∷ Bandwidth first 64 ∷ [])).interfaces
     ≡ (first, record fresh { shutdown = true; bandwidth = Some 64 }) ∷ (second, fresh) ∷ []
 opened_again = refl
 
 -- a host name comes with its line, and a line that says nothing here changes nothing
-pub host_line : file (Passed ∷ Hostname (codes "r1") 2 ∷ Passed ∷ []) ≡ record { host = Some (record { name = codes "r1"; line = 2 }); interfaces = []; static_routes = []; lists = no_lists; route_maps = [] }
+pub host_line : file (Passed ∷ Hostname (codes "r1") 2 ∷ Passed ∷ []) ≡ record empty { host = Some (record { name = codes "r1"; line = 2 }) }
 host_line = refl
 
 -- a static route to 10.0.0.0/8
@@ -113,7 +112,7 @@ pub other_type : type_of (codes "Tunnel0") ≡ None
 unfolding type_of
 other_type = refl
 
--- ids are places: routers in the network's order, interfaces in the order of declaration
+-- ids are indexes: routers in the network's order, interfaces in the order of declaration
 abbrev pair : Network
 pair = record { routers = (codes "r1", file (Interface first 1 ∷ [])) ∷ (codes "r2", file (Interface first 1 ∷ Interface second 2 ∷ [])) ∷ [] }
 

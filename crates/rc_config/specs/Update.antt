@@ -20,7 +20,7 @@ empty = record { host = None; interfaces = []; static_routes = []; lists = no_li
 abbrev pub interface_named : RouterText → List ℕ → Block
 interface_named r name = unwrap_or (named r.interfaces name) fresh
 
--- the model with this interface under a name, which keeps its place or goes last
+-- the model with this interface under a name, which keeps its index or goes last
 abbrev pub with_interface : RouterText → List ℕ → Block → RouterText
 with_interface r name i = record r { interfaces = with_value r.interfaces name i }
 
@@ -32,7 +32,7 @@ with_static_route r route = record r { static_routes = r.static_routes ++ route 
 abbrev pub route_map_named : RouterText → List ℕ → RouteMap
 route_map_named r name = unwrap_or (named r.route_maps name) no_entries
 
--- the model with this route map under a name, which keeps its place or goes last
+-- the model with this route map under a name, which keeps its index or goes last
 abbrev pub with_route_map : RouterText → List ℕ → RouteMap → RouterText
 with_route_map r name m = record r { route_maps = with_value r.route_maps name m }
 
@@ -41,7 +41,7 @@ abbrev pub with_lists : RouterText → Lists → RouterText
 with_lists r l = record r { lists = l }
 
 -- The model after one more command. A list or an entry of a route map that is opened again keeps its lines, and a line of a list
--- goes to its place by number; a list that an interface or a route map names isn't there by that.
+-- stands by its number; a list that an interface or a route map names isn't there by that.
 abbrev pub after : RouterText → Command → RouterText
 after r Passed = r
 after r Remark = r

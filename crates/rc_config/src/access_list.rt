@@ -141,7 +141,7 @@ impl AccessList {
         }
     }
 
-    /// The list with one more line at its place by number, where it takes the place of the line of the same number, if there
+    /// The list with one more line, by its number, where it replaces the line of the same number, if there
     /// is one (`has_line`). A lawful list stays lawful with a lawful line.
     #[tactic(auto, using(crate::proofs::AccessListLaws::placed_lawful))]
     pub fn with_line(self, line: AccessListLine) -> Result<AccessList, AllocError>

@@ -106,7 +106,7 @@ impl<T: Numbered> ByNumber<T> {
 }
 
 impl<T: Numbered + Drop> ByNumber<T> {
-    /// Puts one to its place by number, and gives the one of the same number that stood there before. It errs only where
+    /// Puts one where its number stands, and gives the one of the same number that stood there before. It errs only where
     /// memory runs out, and then all stays as it was.
     pub fn insert(&mut self, item: T) -> Result<Option<T>, AllocError>
         ensures placed { OnOk result (self.new ≡ placed T.number item self.old) }

@@ -1,6 +1,6 @@
 //! What one line of a configuration says.
 use crate::{
-    Action, CommunityLine, Direction, AccessListKind, AccessListLine, IfAddr, MapLine, PrefixLine,
+    AccessListKind, AccessListLine, Action, CommunityLine, Direction, IfAddr, MapLine, PrefixLine,
     StaticRoute,
 };
 use rc_base::Name;

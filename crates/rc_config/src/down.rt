@@ -1,8 +1,8 @@
 //! Which interfaces are down.
-ghost use Rattle.std.specs.Prelude.{◌≡◌, []};
+ghost use Rattle.std.specs.Prelude.{◌≡◌, ◌↔◌, [], IsTrue};
 ghost use Rattle.std.specs.Char.{is_ascii_digit};
 ghost use Rattle.std.specs.List.{list_all};
-ghost use Rattle.rc_config.specs.Down.{before_number, is_number, parent_of, is_down, is_down_within};
+ghost use Rattle.rc_config.specs.Down.{before_number, is_number, parent_of, is_down, is_down_within, IsDown};
 ghost use Rattle.std.specs.Option.{option_copied, option_map};
 
 use crate::RouterText;
@@ -25,9 +25,9 @@ fn is_number(text: &[u8]) -> bool
 fn before_number(text: &[u8]) -> Option<&[u8]>
     ensures { option_map (λ front. front.now) result ≡ before_number [] text.now }
 {
-    for place in 0..text.len() {
-        if text[place] == b'.' && is_number(&text[place + 1..]) {
-            return Some(&text[..place]);
+    for index in 0..text.len() {
+        if text[index] == b'.' && is_number(&text[index + 1..]) {
+            return Some(&text[..index]);
         }
     }
     None
@@ -45,7 +45,7 @@ fn parent_of(name: &Name) -> Option<Name>
 }
 
 /// Whether the interface of a name is down, over so many names.
-fn is_down_within(names: u8, file: &RouterText, name: &Name) -> bool
+fn is_down_within(names: usize, file: &RouterText, name: &Name) -> bool
     ensures { result ≡ is_down_within names file.now.interfaces name.now }
 {
     if names == 0 {
@@ -71,8 +71,10 @@ impl RouterText {
     /// Whether the interface of a name is down: it is declared, and it is shut or it is a subinterface `X.n` of a declared
     /// interface that is down.
     pub fn is_down(&self, name: &Name) -> bool
-        ensures { result ≡ is_down self.now.interfaces name.now }
+        ensures value { result ≡ is_down self.now.interfaces name.now }
+        ensures down { IsTrue result ↔ IsDown self.now.interfaces name.now }
     {
-        is_down_within(63, self, name)
+        // A parent's name is shorter, so there are no more names above one than it has bytes.
+        is_down_within(name.as_bytes().len() + 1, self, name)
     }
 }

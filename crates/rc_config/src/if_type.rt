@@ -70,7 +70,7 @@ fn all() -> &'static [IfType]
     &ALL
 }
 
-/// The place of the first digit.
+/// The index of the first digit.
 fn digit_at(text: &[u8]) -> Option<usize>
     ensures { result ≡ position is_ascii_digit text.now }
 {

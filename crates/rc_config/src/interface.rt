@@ -1,5 +1,5 @@
 //! Interfaces and their addresses.
-ghost use Rattle.std.specs.Prelude.{◌≡◌, IfOk};
+ghost use Rattle.std.specs.Prelude.{◌≡◌, OnOk};
 ghost use Rattle.std.specs.Option.{option_copied, SomeIff};
 ghost use Rattle.rc_base.specs.Prefix.{prefix_at};
 ghost use Rattle.rc_config.specs.MaskedAddr.{IsMaskLen};
@@ -106,31 +106,26 @@ impl Interface {
         }
     }
 
-    /// The interface with one more secondary address, or with this primary address in place of any other.
-    pub(crate) fn with_address(
-        mut self,
-        address: IfAddr,
-        secondary: bool,
-    ) -> Result<Interface, AllocError>
-        ensures { IfOk result (λ i. i ≡ with_address self address secondary) }
+    /// Puts one more secondary address, or this primary address in place of any other.
+    pub(crate) fn put_address(&mut self, address: IfAddr, secondary: bool) -> Result<(), AllocError>
+        ensures { OnOk result (self.new ≡ with_address self.old address secondary) }
     {
         if secondary {
             self.secondary.push(address)?;
         } else {
             self.primary = Some(address);
         }
-        Ok(self)
+        Ok(())
     }
 
-    /// The interface with this list in a direction, in place of any other.
-    pub(crate) fn with_group(mut self, list: Name, direction: Direction) -> Interface
-        ensures { result ≡ with_group self list direction }
+    /// Puts this list in a direction, in place of any other.
+    pub(crate) fn put_group(&mut self, list: Name, direction: Direction)
+        ensures { self.new ≡ with_group self.old list direction }
     {
         match direction {
             Direction::In => self.access_group_in = Some(list),
             Direction::Out => self.access_group_out = Some(list),
         }
-        self
     }
 
     /// The list that filters in a direction, or `None` exactly where no line names one.

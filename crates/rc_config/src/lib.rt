@@ -3,43 +3,37 @@
 //!
 //! It stands on the names and addresses of rc_base, and on the map of indexmap. The layer above knows a file's model as
 //! what `after` makes of its commands one by one, a map as its list of names and values in the order of first mention,
-//! things by number as their list, and a router or an interface by its place in such a list.
+//! things by number as their list, and a router or an interface by its index in such a list.
 #![tactic(auto)]
 
+mod access_list;
 mod action_word;
 mod by_number;
-#[cfg(test)]
-mod by_number_tests;
 mod command;
 mod community_list;
 mod context;
 mod down;
-mod access_list;
-#[cfg(test)]
-mod access_list_tests;
 mod if_type;
 mod interface;
 mod lists;
 mod map_line;
 mod named;
 mod network;
-#[cfg(test)]
-mod policy_tests;
 mod ports;
 mod prefix_list;
 mod route_map;
 mod router_text;
 mod sets;
 mod static_route;
-#[cfg(test)]
-mod tests;
 
+pub use access_list::{
+    AccessList, AccessListKind, AccessListLine, Action, AddressTest, PortTest, ProtocolTest,
+};
 pub use action_word::action_of;
 pub use by_number::{ByNumber, Numbered};
 pub use command::Command;
 pub use community_list::{CommunityLine, CommunityList};
 pub use context::{Context, OpenBlock};
-pub use access_list::{Action, AddressTest, AccessList, AccessListKind, AccessListLine, PortTest, ProtocolTest};
 pub use if_type::{IfType, type_of_name};
 pub use interface::{Direction, IfAddr, Interface};
 pub use lists::Lists;

@@ -2,7 +2,7 @@
 ghost use Rattle.std.specs.Prelude.{◌≡◌};
 ghost use Rattle.rc_config.specs.Lists as spec;
 
-use crate::{CommunityList, AccessList, Named, PrefixList};
+use crate::{AccessList, CommunityList, Named, PrefixList};
 use std::alloc::Global;
 
 /// The access lists, prefix lists and community lists of one router, each kind under names of its own and in the order of

@@ -24,11 +24,11 @@ impl Network {
     pub fn router(&self, name: &Name) -> Option<RouterId>
         ensures { result ≡ router_named self.now name.now }
     {
-        let place = self.routers.index_of(name)?;
-        Some(RouterId::at(place))
+        let index = self.routers.index_of(name)?;
+        Some(RouterId::at(index))
     }
 
-    /// The model of a router, or `None` exactly where the network has none of this place.
+    /// The model of a router, or `None` exactly where the network has none of this id.
     pub fn router_at(&self, router: RouterId) -> Option<&RouterText>
         ensures { option_copied result ≡ router_at self.now router }
     {
@@ -45,7 +45,7 @@ impl Network {
         Some(IfId { router, index })
     }
 
-    /// The name of an interface and what its block says, or `None` exactly where the network has none of this place.
+    /// The name of an interface and what its block says, or `None` exactly where the network has none of this id.
     pub fn interface_at(&self, interface: IfId) -> Option<(&Name, &Interface)>
         ensures { option_map (λ e. (e.0.now, e.1.now)) result ≡ interface_at self.now interface }
     {

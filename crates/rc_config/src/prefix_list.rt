@@ -47,7 +47,7 @@ impl PrefixList {
         }
     }
 
-    /// The list with one more line at its place.
+    /// The list with one more line, by its number.
     fn placed(self, line: PrefixLine) -> Result<PrefixList, AllocError>
         ensures value { IfOk result (λ p. p ≡ with_line self line) }
         ensures order { IfOk result (λ p. AreLinesInOrder p.lines) }
@@ -57,7 +57,7 @@ impl PrefixList {
         Ok(PrefixList { lines })
     }
 
-    /// The list with one more line at its place by number, where it takes the place of the line of the same number, if there
+    /// The list with one more line, by its number, where it replaces the line of the same number, if there
     /// is one (`has_line`). A lawful list stays lawful with a lawful line.
     pub fn with_line(self, line: PrefixLine) -> Result<PrefixList, AllocError>
         ensures value { IfOk result (λ p. p ≡ with_line self line) }

@@ -150,7 +150,7 @@ impl RouteMap {
     }
 
     /// The map in which the entry of this number is opened: a known one again, with this action and the lines that it has,
-    /// and a new one without lines, at its place by number. A lawful map stays lawful where the number is at most 65535.
+    /// and a new one without lines, by its number. A lawful map stays lawful where the number is at most 65535.
     pub fn opened(self, alloc: Global, number: u32, action: Action) -> Result<RouteMap, AllocError>
         ensures value { IfOk result (λ m. m ≡ opened self number action) }
         ensures lawful { IfOk result (λ m. IsLawfulMap self → number ≤ 65535 → IsLawfulMap m) }

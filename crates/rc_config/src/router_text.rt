@@ -1,18 +1,18 @@
 //! The model of a file.
-ghost use Rattle.std.specs.Prelude.{◌≡◌, IfOk, OnOk, unwrap_or, ◌++◌, ◌∷◌, []};
+ghost use Rattle.std.specs.Prelude.{◌≡◌, IfOk, OnOk, Some, unwrap_or, ◌++◌, ◌∷◌, []};
 ghost use Rattle.rc_config.specs.Lawful.{FitsFile, HasLawfulInterfaces, HasLawfulLists, HasLawfulRoutes, IsInRange};
 ghost use Rattle.rc_config.specs.CommunityList.{no_lines as no_community_lines, with_line as community_list_with};
 ghost use Rattle.rc_config.specs.AccessList.{no_lines as no_access_list_lines, with_line as access_list_with};
-ghost use Rattle.rc_config.specs.Named.{named, with_value};
+ghost use Rattle.rc_config.specs.Named.{index_of, named, with_value};
 ghost use Rattle.rc_config.specs.PrefixList.{no_lines as no_prefix_lines, with_line as prefix_list_with};
 ghost use Rattle.rc_config.specs.RouteMap.{no_entries, opened, with_line};
 ghost use Rattle.rc_config.specs.Interface.{fresh, with_address as address_put, with_group as group_put};
 ghost use Rattle.rc_config.specs.Update.{after, empty};
 
 use crate::{
-    Action, Command, CommunityLine, CommunityList, Direction, AccessList, AccessListKind, AccessListLine,
-    IfAddr, Interface, Lists, MapLine, Named, PrefixLine, PrefixList, RouteMap, StaticRoute,
-    Target,
+    AccessList, AccessListKind, AccessListLine, Action, Command, CommunityLine, CommunityList,
+    Direction, IfAddr, Interface, Lists, MapLine, Named, PrefixLine, PrefixList, RouteMap,
+    StaticRoute, Target,
 };
 use rc_base::{Items, Name};
 use std::alloc::{AllocError, Global};
@@ -69,27 +69,31 @@ impl RouterText {
         }
     }
 
-    /// The model after one more command: a later line of a block counts in place of an earlier one, a secondary address is
-    /// one more, a known interface, list or route map keeps its place, a static route or a line of a community list goes behind
-    /// the others, and a line of an access list, of a prefix list or an entry of a route map to its place by number.
+    /// Puts one more command: a later line of a block counts in place of an earlier one, a secondary address is one more, a
+    /// known interface, list or route map keeps its index, a static route or a line of a community list goes behind the
+    /// others, and a line of an access list, of a prefix list or an entry of a route map stands by its number. Where memory
+    /// runs out what is left is no model of the file.
     ///
     /// Where all interfaces are lawful and the command's values are in range, all interfaces are lawful again, and so it is
     /// with static routes; and with lists and route maps, where a line of an access list is one of a list of its kind and its
     /// number is new there.
-    pub fn put(self, command: Command) -> Result<RouterText, AllocError>
+    pub fn apply(&mut self, command: Command) -> Result<(), AllocError>
+        ensures value { OnOk result (self.new ≡ after self.old command) }
+        ensures lawful { OnOk result (HasLawfulInterfaces self.old → IsInRange command → HasLawfulInterfaces self.new) }
+        ensures routes { OnOk result (HasLawfulRoutes self.old → IsInRange command → HasLawfulRoutes self.new) }
+        ensures lists { OnOk result (HasLawfulLists self.old → IsInRange command → FitsFile self.old command → HasLawfulLists self.new) }
+    {
+        self.put_into(command)
+    }
+
+    /// The model after one more command (`apply`).
+    pub fn put(mut self, command: Command) -> Result<RouterText, AllocError>
         ensures value { IfOk result (λ r. r ≡ after self command) }
         ensures lawful { IfOk result (λ r. HasLawfulInterfaces self → IsInRange command → HasLawfulInterfaces r) }
         ensures routes { IfOk result (λ r. HasLawfulRoutes self → IsInRange command → HasLawfulRoutes r) }
         ensures lists { IfOk result (λ r. HasLawfulLists self → IsInRange command → FitsFile self command → HasLawfulLists r) }
     {
-        self.put_command(command)
-    }
-
-    /// The model after one more command.
-    fn put_command(mut self, command: Command) -> Result<RouterText, AllocError>
-        ensures { IfOk result (λ r. r ≡ after self command) }
-    {
-        self.put_into(command)?;
+        self.apply(command)?;
         Ok(self)
     }
 
@@ -146,17 +150,30 @@ impl RouterText {
     }
 }
 
+/// The index of the block of a name, which is opened where it isn't there.
+fn opened_at(blocks: &mut Named<Interface>, name: Name) -> Result<usize, AllocError>
+    ensures blocks { OnOk result (blocks.new ≡ with_value blocks.old name (unwrap_or (named blocks.old name) fresh)) }
+    ensures index { IfOk result (λ i. index_of blocks.new name ≡ Some i) }
+{
+    if let Some(index) = blocks.index_of(&name) {
+        return Ok(index);
+    }
+    let last = blocks.len();
+    let block = Interface::new(blocks.allocator());
+    blocks.insert(name, block)?;
+    Ok(last)
+}
+
 /// `interface IF`
-#[tactic(auto, using(crate::proofs::NamedLaws::with_value_again))]
 fn put_opened(blocks: &mut Named<Interface>, name: Name) -> Result<(), AllocError>
     ensures { OnOk result (blocks.new ≡ with_value blocks.old name (unwrap_or (named blocks.old name) fresh)) }
 {
-    let block = lift(blocks, name)?;
-    put_block(blocks, name, block)
+    opened_at(blocks, name)?;
+    Ok(())
 }
 
 /// `ip address`
-#[tactic(auto, using(crate::proofs::NamedLaws::with_value_again))]
+#[tactic(auto, using(crate::proofs::IndexLaws::written, crate::proofs::IndexLaws::held))]
 fn put_address(
     blocks: &mut Named<Interface>,
     name: Name,
@@ -165,33 +182,39 @@ fn put_address(
 ) -> Result<(), AllocError>
     ensures { OnOk result (blocks.new ≡ with_value blocks.old name (address_put (unwrap_or (named blocks.old name) fresh) address secondary)) }
 {
-    let block = lift(blocks, name)?;
-    let block = block.with_address(address, secondary)?;
-    put_block(blocks, name, block)
+    let index = opened_at(blocks, name)?;
+    match blocks.at_mut(index) {
+        Some(block) => block.put_address(address, secondary),
+        None => Ok(()),
+    }
 }
 
 /// `shutdown` and `no shutdown`
-#[tactic(auto, using(crate::proofs::NamedLaws::with_value_again))]
+#[tactic(auto, using(crate::proofs::IndexLaws::written, crate::proofs::IndexLaws::held))]
 fn put_shutdown(blocks: &mut Named<Interface>, name: Name, down: bool) -> Result<(), AllocError>
     ensures { OnOk result (blocks.new ≡ with_value blocks.old name (record (unwrap_or (named blocks.old name) fresh) { shutdown = down })) }
 {
-    let mut block = lift(blocks, name)?;
-    block.shutdown = down;
-    put_block(blocks, name, block)
+    let index = opened_at(blocks, name)?;
+    if let Some(block) = blocks.at_mut(index) {
+        block.shutdown = down;
+    }
+    Ok(())
 }
 
 /// `bandwidth`
-#[tactic(auto, using(crate::proofs::NamedLaws::with_value_again))]
+#[tactic(auto, using(crate::proofs::IndexLaws::written, crate::proofs::IndexLaws::held))]
 fn put_bandwidth(blocks: &mut Named<Interface>, name: Name, kbits: u32) -> Result<(), AllocError>
     ensures { OnOk result (blocks.new ≡ with_value blocks.old name (record (unwrap_or (named blocks.old name) fresh) { bandwidth = Some kbits })) }
 {
-    let mut block = lift(blocks, name)?;
-    block.bandwidth = Some(kbits);
-    put_block(blocks, name, block)
+    let index = opened_at(blocks, name)?;
+    if let Some(block) = blocks.at_mut(index) {
+        block.bandwidth = Some(kbits);
+    }
+    Ok(())
 }
 
 /// `ip access-group`
-#[tactic(auto, using(crate::proofs::NamedLaws::with_value_again))]
+#[tactic(auto, using(crate::proofs::IndexLaws::written, crate::proofs::IndexLaws::held))]
 fn put_group(
     blocks: &mut Named<Interface>,
     name: Name,
@@ -200,9 +223,11 @@ fn put_group(
 ) -> Result<(), AllocError>
     ensures { OnOk result (blocks.new ≡ with_value blocks.old name (group_put (unwrap_or (named blocks.old name) fresh) list direction)) }
 {
-    let block = lift(blocks, name)?;
-    let block = block.with_group(list, direction);
-    put_block(blocks, name, block)
+    let index = opened_at(blocks, name)?;
+    if let Some(block) = blocks.at_mut(index) {
+        block.put_group(list, direction);
+    }
+    Ok(())
 }
 
 /// `ip access-list standard` and `ip access-list extended`
@@ -215,7 +240,11 @@ fn put_access_list_opened(
     ensures { OnOk result (access_lists.new ≡ with_value access_lists.old name (unwrap_or (named access_lists.old name) (no_access_list_lines kind))) }
 {
     let alloc = access_lists.allocator();
-    let access_list = access_lists.lift(name, AccessList::new(alloc, kind), AccessList::new(alloc, kind))?;
+    let access_list = access_lists.lift(
+        name,
+        AccessList::new(alloc, kind),
+        AccessList::new(alloc, kind),
+    )?;
     access_lists.insert(name, access_list)?;
     Ok(())
 }
@@ -231,7 +260,11 @@ fn put_access_list_line(
     ensures { OnOk result (access_lists.new ≡ with_value access_lists.old name (access_list_with (unwrap_or (named access_lists.old name) (no_access_list_lines kind)) line)) }
 {
     let alloc = access_lists.allocator();
-    let access_list = access_lists.lift(name, AccessList::new(alloc, kind), AccessList::new(alloc, kind))?;
+    let access_list = access_lists.lift(
+        name,
+        AccessList::new(alloc, kind),
+        AccessList::new(alloc, kind),
+    )?;
     let access_list = access_list.with_line(line)?;
     access_lists.insert(name, access_list)?;
     Ok(())
@@ -300,23 +333,6 @@ fn put_map_line(
     let known = maps.lift(name, RouteMap::new(alloc), RouteMap::new(alloc))?;
     let known = known.with_line(number, line)?;
     maps.insert(name, known)?;
-    Ok(())
-}
-
-/// Takes out the block of a name, a fresh one where there is none. Until it is put back a fresh one stands there.
-fn lift(blocks: &mut Named<Interface>, name: Name) -> Result<Interface, AllocError>
-    ensures place { OnOk result (blocks.new ≡ with_value blocks.old name fresh) }
-    ensures block { IfOk result (λ i. i ≡ unwrap_or (named blocks.old name) fresh) }
-{
-    let alloc = blocks.allocator();
-    blocks.lift(name, Interface::new(alloc), Interface::new(alloc))
-}
-
-/// The blocks with this one under a name.
-fn put_block(blocks: &mut Named<Interface>, name: Name, block: Interface) -> Result<(), AllocError>
-    ensures { OnOk result (blocks.new ≡ with_value blocks.old name block) }
-{
-    blocks.insert(name, block)?;
     Ok(())
 }
 

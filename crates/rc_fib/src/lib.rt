@@ -11,8 +11,6 @@ mod laws;
 mod layers;
 mod longest;
 mod resolve;
-#[cfg(test)]
-mod tests;
 
 pub use entry::Entry;
 pub use fib::Fib;

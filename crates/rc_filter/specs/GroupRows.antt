@@ -1,10 +1,11 @@
 -- Worked cases of access groups at the interfaces of a network, each by computation.
-use Rattle.std.specs.Prelude.{◌≡◌, ℕ, true, false, List, [], ◌∷◌, None, codes, refl}
+use Rattle.std.specs.Prelude.{◌≡◌, ℕ, true, false, List, [], ◌∷◌, codes, refl}
 use Rattle.rc_base.specs.declared.header.Header.{Header}
 use Rattle.rc_base.specs.declared.position.IfId.{IfId}
 use Rattle.rc_config.specs.AccessList.{any_address, no_lines, standard_line, with_line}
 use Rattle.rc_config.specs.Interface.{fresh, with_group}
 use Rattle.rc_config.specs.Lists.{no_lists}
+use Rattle.rc_config.specs.Update.{empty}
 use Rattle.rc_config.specs.declared.access_list.Action.TheVariants.{Deny, Permit}
 use Rattle.rc_config.specs.declared.access_list.AccessList.{AccessList}
 use Rattle.rc_config.specs.declared.access_list.AccessListKind.TheVariants.{Standard}
@@ -19,7 +20,7 @@ abbrev name : List ℕ
 name = codes "LIST"
 
 abbrev router : List (List ℕ × Interface) → List (List ℕ × AccessList) → RouterText
-router interfaces access_lists = record { host = None; interfaces = interfaces; static_routes = []; lists = record no_lists { access_lists = access_lists }; route_maps = [] }
+router interfaces access_lists = record empty { interfaces = interfaces; lists = record no_lists { access_lists = access_lists } }
 
 abbrev port : ℕ → ℕ → IfId
 port r n = record { router = r; index = n }

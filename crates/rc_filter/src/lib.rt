@@ -7,8 +7,6 @@
 mod at_interface;
 mod group;
 mod lines;
-#[cfg(test)]
-mod tests;
 
 pub use at_interface::passes_at;
 pub use group::passes;

@@ -4,9 +4,11 @@ pub mod Address
 pub mod Port
 pub mod Lines
 pub mod Refused
-pub mod Reading
+pub mod Entry
 pub mod ListNumber
 pub mod Sequence
+pub mod Lists
+pub mod Reading
 pub mod ValueRows
 pub mod LineRows
 pub mod RefusedRows

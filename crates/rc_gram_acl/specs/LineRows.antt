@@ -1,31 +1,47 @@
 -- Lines of access lists that fit, and some that fit no row, by computation.
-use Rattle.std.specs.Prelude.{◌≡◌, refl, ℕ, ◌+◌, List, [], ◌∷◌, Ok, Err, codes}
+use Rattle.std.specs.Prelude.{◌≡◌, refl, ℕ, ◌+◌, List, [], ◌∷◌, Option, Some, None, Ok, Err, codes}
+use Rattle.rc_openings.specs.Reading.{judged}
 use Rattle.rc_openings.specs.Words.{words_of}
 use Rattle.rc_openings.specs.declared.reading.LineRefusal.TheVariants.{BadValue}
+use Rattle.rc_config.specs.ActionWord.{action_of}
 use Rattle.rc_config.specs.AccessList.{any_address, host_address, standard_line}
 use Rattle.rc_config.specs.declared.access_list.Action.{Action}
 use Rattle.rc_config.specs.declared.access_list.Action.TheVariants.{Permit, Deny}
 use Rattle.rc_config.specs.declared.access_list.AddressTest.{AddressTest}
+use Rattle.rc_config.specs.declared.access_list.AccessListKind.{AccessListKind}
 use Rattle.rc_config.specs.declared.access_list.AccessListKind.TheVariants.{Standard, Extended}
 use Rattle.rc_config.specs.declared.access_list.PortTest.{PortTest}
 use Rattle.rc_config.specs.declared.access_list.PortTest.TheVariants as port
 use Rattle.rc_config.specs.declared.access_list.ProtocolTest.{ProtocolTest}
 use Rattle.rc_config.specs.declared.access_list.ProtocolTest.TheVariants as protocol
 use Rattle.rc_gram_acl.specs.NumberName.{protocol_names, port_names}
-use Rattle.rc_gram_acl.specs.Reading.{Answer, line_answer}
+use Rattle.rc_gram_acl.specs.Entry.{Entry, entry}
 use Rattle.rc_gram_acl.specs.Refused.{refused_words}
 
+-- the tenth line of a list by its words from `permit` or `deny` on
+abbrev pub entry_by : AccessListKind → Option Action → List (List ℕ) → Entry
+entry_by kind (Some action) rest = entry kind 10 action rest
+entry_by kind None rest = Err BadValue
+
+abbrev pub entry_from : AccessListKind → List (List ℕ) → Entry
+entry_from kind [] = Err BadValue
+entry_from kind (w ∷ rest) = entry_by kind (action_of w) rest
+
+-- and what the refused words make of it
+abbrev pub line_answer : AccessListKind → List (List ℕ) → Entry
+line_answer kind words = judged refused_words words (entry_from kind words)
+
 -- a line of a standard list, and of an extended one, says this
-abbrev pub SaysStandard : List ℕ → Answer → Type 0
-SaysStandard text answer = line_answer Standard 10 (words_of text) ≡ answer
+abbrev pub SaysStandard : List ℕ → Entry → Type 0
+SaysStandard text answer = line_answer Standard (words_of text) ≡ answer
 
-abbrev pub SaysExtended : List ℕ → Answer → Type 0
-SaysExtended text answer = line_answer Extended 10 (words_of text) ≡ answer
+abbrev pub SaysExtended : List ℕ → Entry → Type 0
+SaysExtended text answer = line_answer Extended (words_of text) ≡ answer
 
-abbrev pub from_source : Action → AddressTest → Answer
+abbrev pub from_source : Action → AddressTest → Entry
 from_source action source = Ok (standard_line 10 action source)
 
-abbrev pub tests : Action → ProtocolTest → AddressTest → PortTest → AddressTest → PortTest → Answer
+abbrev pub tests : Action → ProtocolTest → AddressTest → PortTest → AddressTest → PortTest → Entry
 tests action p from from_port to to_port =
     Ok (record { sequence = 10; action = action; protocol = p; source = from; source_port = from_port; destination = to; destination_port = to_port })
 
@@ -34,7 +50,7 @@ abbrev pub under : ℕ → ℕ → AddressTest
 under n wildcard = record { addr = 0x0a000000 + n; wildcard = wildcard }
 
 -- a line of tcp from anywhere to ports anywhere
-abbrev pub to_ports : PortTest → Answer
+abbrev pub to_ports : PortTest → Entry
 to_ports test = tests Permit (protocol.Is 6) any_address port.Any any_address test
 
 -- the source: `any`, `host A`, `A` or `A W`; any dotted word is a wildcard, and the address stays whole

@@ -1,10 +1,11 @@
 -- Tests of ports.
-use Rattle.std.specs.Prelude.{ℕ, Bool, ◌||◌, List, [], ◌∷◌, ◌++◌, length, nat_lt, nat_le, Option, Some, None, if◌then◌else◌, is_some, codes}
+use Rattle.std.specs.Prelude.{ℕ, Bool, ◌||◌, List, [], ◌∷◌, ◌++◌, length, drop, nat_le, Option, Some, None, if◌then◌else◌, is_some, codes}
 use Rattle.std.specs.Option.{option_and_then}
 use Rattle.std.specs.Str.{bytes_eq}
 use Rattle.rc_openings.specs.Values.{address_of}
-use Rattle.rc_openings.specs.Part.{Part, and_then, part_map, before}
+use Rattle.rc_openings.specs.Part.{Part, and_then, part_map, before, each_value}
 use Rattle.rc_config.specs.AccessList.{has_ports}
+use Rattle.rc_config.specs.PortLists.{ports_of}
 use Rattle.rc_config.specs.declared.access_list.AddressTest.{AddressTest}
 use Rattle.rc_config.specs.declared.access_list.PortTest.{PortTest}
 use Rattle.rc_config.specs.declared.access_list.PortTest.TheVariants as test
@@ -40,19 +41,23 @@ abbrev pub ends_ports : Side → List ℕ → Bool
 ends_ports Source w = begins_address w
 ends_ports Destination w = is_log w
 
--- at most ten ports
-abbrev pub with_port : List ℕ → ℕ → Option (List ℕ)
-with_port ports p = if nat_lt (length ports) 10 then Some (ports ++ p ∷ []) else None
+-- the words up to one that ends the ports
+abbrev pub until_end : Side → List (List ℕ) → List (List ℕ)
+until_end side [] = []
+until_end side (w ∷ rest) = if ends_ports side w then [] else w ∷ until_end side rest
 
--- these ports and all that follow them
-abbrev pub ports_from : Side → List ℕ → List (List ℕ) → Part (List ℕ)
-ports_from side ports [] = Some (ports, [])
-ports_from side ports (w ∷ rest) = if ends_ports side w then Some (ports, w ∷ rest) else option_and_then (λ more. ports_from side more rest) (option_and_then (with_port ports) (port_of w))
+-- the words that stand for ports behind `eq` and `neq`: the first, whatever it is, and those up to one that ends them
+abbrev pub listed : Side → List (List ℕ) → List (List ℕ)
+listed side [] = []
+listed side (w ∷ rest) = w ∷ until_end side rest
 
--- one to ten ports
+-- these words are one to ten ports, and the others are left
 abbrev pub port_list : Side → List (List ℕ) → Part (List ℕ)
-port_list side [] = None
-port_list side (w ∷ rest) = option_and_then (λ p. ports_from side (p ∷ []) rest) (port_of w)
+port_list side words = before (drop (length (listed side words)) words) (option_and_then ports_of (each_value port_of (listed side words)))
+
+-- these ports and those behind them, up to the end
+abbrev pub more_ports : Side → List ℕ → List (List ℕ) → Part (List ℕ)
+more_ports side ports rest = before (drop (length (until_end side rest)) rest) (option_and_then (λ more. ports_of (ports ++ more)) (each_value port_of (until_end side rest)))
 
 -- the port behind `lt` and `gt`
 abbrev pub one_port : List (List ℕ) → Part ℕ

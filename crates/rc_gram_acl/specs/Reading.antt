@@ -1,43 +1,59 @@
--- What a line of an access list says, by its words from `permit` or `deny` on.
-use Rattle.std.specs.Prelude.{ℕ, List, [], ◌∷◌, Option, Some, None, Result, Ok, Err, if◌then◌else◌, codes}
-use Rattle.std.specs.Str.{bytes_eq}
-use Rattle.rc_openings.specs.Reading.{judged}
-use Rattle.rc_openings.specs.declared.reading.LineRefusal.{LineRefusal}
-use Rattle.rc_openings.specs.declared.reading.LineRefusal.TheVariants.{Unsupported, BadValue}
-use Rattle.rc_config.specs.ActionWord.{action_of}
-use Rattle.rc_config.specs.declared.access_list.Action.{Action}
-use Rattle.rc_config.specs.declared.access_list.AccessListKind.{AccessListKind}
+-- What a line of an access list says where it stands.
+use Rattle.std.specs.Prelude.{ℕ, List, [], Option, None, Ok, Err}
+use Rattle.rc_openings.specs.Reading.{FormRows, SaysBy, said_by, judged, number_in_front}
+use Rattle.rc_openings.specs.declared.form.Form.{Form}
+use Rattle.rc_openings.specs.declared.form.Form.TheVariants as form
+use Rattle.rc_openings.specs.declared.reading.LineRefusal.TheVariants.{BadValue}
+use Rattle.rc_config.specs.OpenBlock.{block_at}
 use Rattle.rc_config.specs.declared.access_list.AccessListKind.TheVariants.{Standard, Extended}
-use Rattle.rc_config.specs.declared.access_list.AccessListLine.{AccessListLine}
-use Rattle.rc_gram_acl.specs.Lines.{standard, extended}
-use Rattle.rc_gram_acl.specs.Refused.{has_refused_place, refused_words}
+use Rattle.rc_config.specs.declared.access_list.Action.TheVariants.{Permit, Deny}
+use Rattle.rc_config.specs.declared.command.Command.{Command}
+use Rattle.rc_config.specs.declared.command.Command.TheVariants.{Passed, Remark}
+use Rattle.rc_config.specs.declared.context.OpenBlock.{OpenBlock}
+use Rattle.rc_config.specs.declared.context.OpenBlock.TheVariants as place
+use Rattle.rc_config.specs.declared.router_text.RouterText.{RouterText}
+use Rattle.rc_gram_acl.specs.Lists.{Answer, line_of, numbered, opened}
+use Rattle.rc_gram_acl.specs.Refused.{refused_words}
 
-abbrev pub Answer : Type 0
-Answer = Result AccessListLine LineRefusal
+-- the row of a form, where this sequence number is written in front of the line; forms of other grammars have none here
+abbrev pub row : Form → OpenBlock → RouterText → Option ℕ → List (List ℕ) → Answer
+row form.AccessList block file written behind = numbered file behind
+row form.StandardAccessList block file written behind = opened file Standard behind
+row form.ExtendedAccessList block file written behind = opened file Extended behind
+row form.Permit (place.AccessList list kind) file written behind = line_of file list kind written Permit behind
+row form.Deny (place.AccessList list kind) file written behind = line_of file list kind written Deny behind
+row form.Remark block file written behind = Ok Remark
+row _ block file written behind = Err BadValue
 
--- the line where it fits
-abbrev pub fit : LineRefusal → Option AccessListLine → Answer
-fit refusal (Some line) = Ok line
-fit refusal None = Err refusal
+-- The words that make a line of a form one that isn't modelled, where it fits no row, also where one stands in the place of a list's
+-- number.
+abbrev pub refused_behind : Form → List (List ℕ)
+refused_behind form.AccessList = refused_words
+refused_behind form.Permit = refused_words
+refused_behind form.Deny = refused_words
+refused_behind _ = []
 
--- why an extended line that fits no row is refused
-abbrev pub refusal_of : List (List ℕ) → LineRefusal
-refusal_of words = if has_refused_place words then Unsupported else BadValue
+-- what a line of a form says by its words behind the opening
+abbrev pub row_answer : OpenBlock → RouterText → Option ℕ → Form → List (List ℕ) → Answer
+row_answer block file written f behind = judged (refused_behind f) behind (row f block file written behind)
 
--- behind `permit` or `deny`; standard lists have no words of protocols and ports
-abbrev pub test_row : AccessListKind → ℕ → Action → List (List ℕ) → Answer
-test_row Standard n a words = fit BadValue (standard n a words)
-test_row Extended n a words = fit (refusal_of words) (extended n a words)
+-- the sequence number that is written in front of a line in the block of an access list
+abbrev pub written_at : OpenBlock → List (List ℕ) → Option ℕ
+written_at (place.AccessList list kind) line = number_in_front line
+written_at place.Closed line = None
+written_at place.Global line = None
+written_at (place.Interface name) line = None
+written_at (place.Map map n) line = None
+written_at place.Ignored line = None
 
-abbrev pub row_by : Option Action → AccessListKind → ℕ → List (List ℕ) → Answer
-row_by (Some a) kind n rest = test_row kind n a rest
-row_by None kind n rest = Err BadValue
+-- the rows for a line at a place
+abbrev pub rows_at : OpenBlock → RouterText → List (List ℕ) → FormRows Command
+rows_at block file line = record { answer = row_answer block file (written_at block line); passed = Passed }
 
--- the row of a line of a list of this kind
-abbrev pub line_row : AccessListKind → ℕ → List (List ℕ) → Answer
-line_row kind n [] = Err BadValue
-line_row kind n (w ∷ rest) = row_by (action_of w) kind n rest
+-- the line says this where it stands: the opening with most words decides
+abbrev pub Says : OpenBlock → RouterText → List (List ℕ) → Answer → Type 0
+Says block file line answer = SaysBy (rows_at block file line) (block_at block) line answer
 
--- a line that fits no row and has a refused word anywhere isn't modelled
-abbrev pub line_answer : AccessListKind → ℕ → List (List ℕ) → Answer
-line_answer kind n words = judged refused_words words (line_row kind n words)
+-- the same, computed
+abbrev pub says : OpenBlock → RouterText → List (List ℕ) → Answer
+says block file line = said_by (rows_at block file line) (block_at block) line

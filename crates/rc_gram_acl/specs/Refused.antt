@@ -13,22 +13,12 @@ use Rattle.rc_gram_acl.specs.declared.ports.Operator.TheVariants.{Equal, NotEqua
 use Rattle.rc_gram_acl.specs.declared.ports.Side.{Side}
 use Rattle.rc_gram_acl.specs.declared.ports.Side.TheVariants.{Source, Destination}
 use Rattle.rc_gram_acl.specs.Address.{address}
-use Rattle.rc_gram_acl.specs.Port.{operator_of, ends_ports, end_point}
+use Rattle.rc_gram_acl.specs.Port.{operator_of, listed, end_point}
 use Rattle.rc_gram_acl.specs.Values.{begins_with_letter, is_unknown_port, protocol_of}
 
 -- these words anywhere behind the opening
 unfoldable pub refused_words : List (List ℕ)
 refused_words = words_of (codes "established fragments dscp tos precedence time-range object-group ttl option reflect dynamic match-any match-all ack rst syn fin psh urg")
-
--- the words up to one that ends the ports
-abbrev pub until_end : Side → List (List ℕ) → List (List ℕ)
-until_end side [] = []
-until_end side (w ∷ rest) = if ends_ports side w then [] else w ∷ until_end side rest
-
--- the words that stand for ports behind `eq` and `neq`: the first, and those up to one that ends them
-abbrev pub listed : Side → List (List ℕ) → List (List ℕ)
-listed side [] = []
-listed side (w ∷ rest) = w ∷ until_end side rest
 
 -- the words that stand for ports behind an operator
 abbrev pub port_words : Operator → Side → List (List ℕ) → List (List ℕ)

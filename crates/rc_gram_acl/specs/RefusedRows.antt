@@ -3,14 +3,13 @@ use Rattle.std.specs.Prelude.{◌≡◌, refl, [], ◌∷◌, map, replicate, Er
 use Rattle.rc_openings.specs.Words.{words_of}
 use Rattle.rc_openings.specs.declared.reading.LineRefusal.TheVariants.{Unsupported, BadValue}
 use Rattle.rc_config.specs.declared.access_list.AccessListKind.TheVariants.{Standard}
-use Rattle.rc_gram_acl.specs.LineRows.{SaysExtended}
+use Rattle.rc_gram_acl.specs.LineRows.{SaysExtended, line_answer}
 use Rattle.rc_gram_acl.specs.NumberName.{protocol_names, port_names}
-use Rattle.rc_gram_acl.specs.Reading.{line_answer}
 use Rattle.rc_gram_acl.specs.Refused.{refused_words}
 
 -- each of the words that make a line one that isn't modelled wherever they stand
 pub anywhere :
-    map (λ w. line_answer Standard 10 (codes "permit" ∷ codes "any" ∷ w ∷ [])) (words_of (codes "ack dscp dynamic established fin fragments match-all match-any object-group option precedence psh reflect rst syn time-range tos ttl urg"))
+    map (λ w. line_answer Standard (codes "permit" ∷ codes "any" ∷ w ∷ [])) (words_of (codes "ack dscp dynamic established fin fragments match-all match-any object-group option precedence psh reflect rst syn time-range tos ttl urg"))
     ≡ replicate 19 (Err Unsupported)
 unfolding words_of refused_words
 anywhere = refl

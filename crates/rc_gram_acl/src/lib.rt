@@ -1,12 +1,14 @@
-//! The grammar of access lists: which list a number is, and what a line of a list says of itself.
+//! The grammar of access lists: the lines that open a list, and those that are one of its lines.
 //!
-//! It stands on the words of lines and on the model. The layer above knows that the words of each line are one line of a
-//! list of its kind, or have one refusal, as the rows say, and that each line is lawful.
+//! It stands on the openings of lines, the lines of a file and the model. The layer above knows that each such line is one
+//! command, or has one refusal, as the rows say, and that the lists stay lawful with each line.
 #![tactic(auto)]
 
 mod addresses;
+mod entry;
 mod lines;
 mod list_number;
+mod lists;
 mod number_name;
 mod ports;
 mod reading;
@@ -14,10 +16,4 @@ mod refused;
 mod sequence;
 mod values;
 
-pub use list_number::kind_of_number;
-pub use reading::read_access_list_line;
-pub use refused::refused_words;
-pub use sequence::sequence_for;
-
-#[cfg(test)]
-mod tests;
+pub use reading::{read_form, read_line};

@@ -8,7 +8,7 @@ ghost use Rattle.rc_gram_acl.specs.Lines as lines;
 use crate::addresses::read_source;
 use crate::ports::{EndPoint, Side, is_log, read_end_point};
 use crate::values::word_protocol;
-use rc_config::{Action, AccessListKind, AccessListLine, PortTest, ProtocolTest};
+use rc_config::{AccessListKind, AccessListLine, Action, PortTest, ProtocolTest};
 use rc_openings::Words;
 
 /// Whether a standard line ends here, or with `log`.

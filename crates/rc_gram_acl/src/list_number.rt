@@ -6,7 +6,7 @@ use rc_config::AccessListKind;
 
 /// The kind of the list of this number: 1 to 99 and 1300 to 1999 are standard, 100 to 199 and 2000 to 2699 extended.
 /// `None` exactly where the number is none of these.
-pub fn kind_of_number(number: u32) -> Option<AccessListKind>
+pub(crate) fn kind_of_number(number: u32) -> Option<AccessListKind>
     ensures { result ≡ numbers.kind_of_number number }
 {
     match number {

@@ -1,9 +1,10 @@
 //! Tests of ports, as words write them, and of an address with the ports there.
-ghost use Rattle.std.specs.Prelude.{◌≡◌, ◌≤◌, false, IfSome};
+ghost use Rattle.std.specs.Prelude.{◌≡◌, ◌≤◌, ◌++◌, ◌∷◌, [], true, false, IfSome};
 ghost use Rattle.std.specs.Option.{option_and_then};
 ghost use Rattle.rc_openings.specs.Words.{words_left};
 ghost use Rattle.rc_openings.specs.Part.{IsPart};
 ghost use Rattle.rc_config.specs.AccessList.{IsPortTest, has_ports as protocol_has_ports};
+ghost use Rattle.rc_config.specs.PortLists.{are_ports, ports_of};
 ghost use Rattle.rc_gram_acl.specs.Port as tests;
 ghost use Rattle.rc_gram_acl.specs.Values.{port_of};
 
@@ -88,9 +89,10 @@ impl Side {
     }
 }
 
-/// The ports with the one that a word is.
+/// The ports with the one that a word is, or `None` exactly where it is none or there are ten already.
 fn with_port(ports: Ports, word: &[u8]) -> Option<Ports>
-    ensures { result ≡ option_and_then (tests.with_port ports) (port_of word.now) }
+    requires { are_ports ports ≡ true }
+    ensures { result ≡ option_and_then (λ p. ports_of (ports ++ p ∷ [])) (port_of word.now) }
 {
     match word_port(word) {
         Some(port) => ports.with_port(port),
@@ -100,7 +102,8 @@ fn with_port(ports: Ports, word: &[u8]) -> Option<Ports>
 
 /// These ports with all that follow them.
 fn ports_from(side: Side, first: Ports, words: Words) -> Option<(Ports, Words)>
-    ensures { IsPart (tests.ports_from side first (words_left words.entry)) result }
+    requires { are_ports first ≡ true }
+    ensures { IsPart (tests.more_ports side first (words_left words.entry)) result }
 {
     let mut ports = first;
     let mut rest = words;

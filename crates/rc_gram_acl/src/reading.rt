@@ -1,82 +1,162 @@
-//! One line of an access list.
-ghost use Rattle.std.specs.Prelude.{◌≡◌, ◌≤◌, IfOk};
-ghost use Rattle.rc_openings.specs.Words.{words_left};
-ghost use Rattle.rc_config.specs.AccessList.{IsLawfulLine, IsSequence};
+//! One line of an access list where it stands.
+ghost use Rattle.std.specs.Prelude.{◌≡◌, ◌≢◌, Err, IfOk};
+ghost use Rattle.rc_openings.specs.Reading.{Gives, IfAnswered};
+ghost use Rattle.rc_openings.specs.Words.{words_left, words_of};
+ghost use Rattle.rc_config.specs.Lawful.{FitsFile, HasLawfulLists, IsInRange};
 ghost use Rattle.rc_gram_acl.specs.Reading as reading;
 
-use crate::lines::{extended, standard};
-use crate::refused::{has_refused_place, refused_words};
-use rc_config::{Action, AccessListKind, AccessListLine, PortTest, action_of};
-use rc_openings::{LineRefusal, Words, judged};
+use crate::lists::{line_of, numbered, opened};
+use crate::refused::refused_words;
+use rc_config::{AccessListKind, Action, Command, Context, OpenBlock, PortTest, RouterText};
+use rc_lines::Line;
+use rc_openings::{Decision, Form, LineError, LineRefusal, Words, judged, number_in_front};
 
-/// Why an extended line that fits no row is refused.
-fn refusal_of(words: Words) -> LineRefusal
-    ensures { result ≡ reading.refusal_of (words_left words.entry) }
+/// The row of a form, where this sequence number is written in front of the line.
+fn row(
+    form: Form,
+    block: &OpenBlock,
+    file: &RouterText,
+    written: Option<u32>,
+    behind: Words,
+) -> Result<Command, LineRefusal>
+    requires { HasLawfulLists file.now }
+    ensures row { result ≡ reading.row form block.now file.now written (words_left behind.entry) }
+    ensures in_range { IfOk result IsInRange }
+    ensures fits { IfOk result (FitsFile file.now) }
 {
-    if has_refused_place(words) {
-        LineRefusal::Unsupported
-    } else {
-        LineRefusal::BadValue
+    match (form, *block) {
+        (Form::AccessList, _) => numbered(file, behind),
+        (Form::StandardAccessList, _) => opened(file, AccessListKind::Standard, behind),
+        (Form::ExtendedAccessList, _) => opened(file, AccessListKind::Extended, behind),
+        (Form::Permit, OpenBlock::AccessList(list, kind)) => {
+            line_of(file, list, kind, written, Action::Permit, behind)
+        }
+        (Form::Deny, OpenBlock::AccessList(list, kind)) => {
+            line_of(file, list, kind, written, Action::Deny, behind)
+        }
+        (Form::Remark, _) => Ok(Command::Remark),
+        _ => Err(LineRefusal::BadValue),
     }
 }
 
-/// The line of these tests, where the words behind `permit` or `deny` fit a row of the list's kind.
-fn read_tests(
-    kind: AccessListKind,
-    sequence: u32,
-    action: Action,
-    words: Words,
-) -> Result<AccessListLine, LineRefusal>
-    ensures row { result ≡ reading.test_row kind sequence action (words_left words.entry) }
-    ensures numbered { IfOk result (λ l. l.sequence ≡ sequence) }
-    ensures lawful { IfOk result (λ l. IsSequence sequence → IsLawfulLine kind l) }
+/// The words that make a line of a form one that isn't modelled, where it fits no row.
+#[tactic(auto, unfolding(rc_openings::specs::Words::words_of))]
+fn refused_behind(form: Form) -> Words<'static>
+    ensures { words_left result ≡ reading.refused_behind form }
 {
-    match kind {
-        AccessListKind::Standard => match standard(sequence, action, words) {
-            Some(line) => Ok(line),
-            None => Err(LineRefusal::BadValue),
-        },
-        AccessListKind::Extended => match extended(sequence, action, words) {
-            Some(line) => Ok(line),
-            None => Err(refusal_of(words)),
-        },
+    match form {
+        Form::AccessList => refused_words(),
+        Form::Permit => refused_words(),
+        Form::Deny => refused_words(),
+        _ => Words::new(b""),
     }
 }
 
-/// The line that the words from `permit` or `deny` on are, where they fit a row. Words that are refused wherever they
-/// stand are not looked for here.
-fn read_row(kind: AccessListKind, sequence: u32, words: Words) -> Result<AccessListLine, LineRefusal>
-    ensures row { result ≡ reading.line_row kind sequence (words_left words.entry) }
-    ensures numbered { IfOk result (λ l. l.sequence ≡ sequence) }
-    ensures lawful { IfOk result (λ l. IsSequence sequence → IsLawfulLine kind l) }
+/// The sequence number that is written in front of a line.
+fn written_at(block: &OpenBlock, line: Words) -> Option<u32>
+    ensures { result ≡ reading.written_at block.now (words_left line.entry) }
 {
-    let mut rest = words;
-    match rest.next_word() {
-        Some(word) => match action_of(word) {
-            Some(action) => read_tests(kind, sequence, action, rest),
-            None => Err(LineRefusal::BadValue),
-        },
-        None => Err(LineRefusal::BadValue),
+    match block {
+        OpenBlock::AccessList(_, _) => number_in_front(line),
+        OpenBlock::Closed => None,
+        OpenBlock::Global => None,
+        OpenBlock::Interface(_) => None,
+        OpenBlock::Map(_, _) => None,
+        OpenBlock::Ignored => None,
     }
 }
 
-/// The line of a list of this kind that these words say, from `permit` or `deny` on: `permit|deny SRC [log]` in a
-/// standard list, `permit|deny PROTO ADDR [PORT] ADDR [PORT] [log|log-input]` in an extended one. The line gets this
-/// sequence number, from 1 to 2147483647.
-///
-/// It errs exactly where the words fit no row: as unsupported where a word is one whose meaning isn't modelled, and as a
-/// bad value else. It takes no memory.
-pub fn read_access_list_line(
-    kind: AccessListKind,
-    sequence: u32,
-    words: Words,
-) -> Result<AccessListLine, LineRefusal>
-    ensures row { result ≡ reading.line_answer kind sequence (words_left words.entry) }
-    ensures numbered { IfOk result (λ l. l.sequence ≡ sequence) }
-    // A line of a standard list tests its source alone, and ports are tested only where the protocol has them.
-    ensures lawful { IfOk result (λ l. IsSequence sequence → IsLawfulLine kind l) }
+/// What a line of a form says by its words behind the opening.
+fn row_answer(
+    form: Form,
+    block: &OpenBlock,
+    file: &RouterText,
+    written: Option<u32>,
+    behind: Words,
+) -> Result<Command, LineRefusal>
+    requires { HasLawfulLists file.now }
+    ensures row { result ≡ reading.row_answer block.now file.now written form (words_left behind.entry) }
+    ensures in_range { IfOk result IsInRange }
+    ensures fits { IfOk result (FitsFile file.now) }
 {
     // The generated proof of a generic call wants each enum within its type named in the function.
     let _test: PortTest = PortTest::Any;
-    judged(read_row(kind, sequence, words), words, refused_words())
+    judged(
+        row(form, block, file, written, behind),
+        behind,
+        refused_behind(form),
+    )
+}
+
+/// The same where the line stands.
+fn answer(
+    form: Form,
+    behind: Words,
+    line: &Line,
+    block: &OpenBlock,
+    file: &RouterText,
+) -> Result<Command, LineError>
+    requires { HasLawfulLists file.now }
+    ensures row { Gives result (reading.row_answer block.now file.now (reading.written_at block.now (words_of line.now.text)) form (words_left behind.entry)) }
+    ensures takes_no_memory { result ≢ Err LineError.Memory }
+    ensures in_range { IfOk result IsInRange }
+    ensures fits { IfOk result (FitsFile file.now) }
+{
+    let written = written_at(block, line.words());
+    match row_answer(form, block, file, written, behind) {
+        Ok(command) => Ok(command),
+        Err(refusal) => Err(LineError::Refused(refusal)),
+    }
+}
+
+/// What a line of this form says where it stands, by its words behind the opening that decides it. Forms of other grammars
+/// are a bad value.
+pub fn read_form(
+    form: Form,
+    behind: Words,
+    line: &Line,
+    context: Context,
+) -> Result<Command, LineError>
+    requires { HasLawfulLists context.file.now }
+    ensures row { Gives result (reading.row_answer context.entry.block context.entry.file.now (reading.written_at context.entry.block (words_of line.now.text)) form (words_left behind.entry)) }
+    ensures takes_no_memory { result ≢ Err LineError.Memory }
+    ensures in_range { IfOk result IsInRange }
+    ensures fits { IfOk result (FitsFile context.entry.file.now) }
+{
+    let Context { block, file } = context;
+    answer(form, behind, line, &block, file)
+}
+
+/// What a line says in this block, where its form is one of access lists.
+fn read_in(line: &Line, block: &OpenBlock, file: &RouterText) -> Result<Command, LineError>
+    requires { HasLawfulLists file.now }
+    ensures exact { Gives result (reading.says block.now file.now (words_of line.now.text)) }
+    ensures takes_no_memory { result ≢ Err LineError.Memory }
+    ensures in_range { IfOk result IsInRange }
+    ensures fits { IfOk result (FitsFile file.now) }
+{
+    match block.kind().decided(line.words()) {
+        Decision::Passed => Ok(Command::Passed),
+        Decision::Refused(refusal) => Err(LineError::Refused(refusal)),
+        Decision::Form(form, behind) => answer(form, behind, line, block, file),
+    }
+}
+
+/// What a line says where it stands, where its form is one of access lists: a command, or why it is refused.
+///
+/// It errs exactly where the definition of its openings and rows does, and takes no memory.
+pub fn read_line(line: &Line, context: Context) -> Result<Command, LineError>
+    requires { HasLawfulLists context.file.now }
+    // One opening decides, that with most words, and the row of its form is the meaning.
+    ensures decided { IfAnswered result (reading.Says context.entry.block context.entry.file.now (words_of line.now.text)) }
+    // So each line says one thing.
+    ensures exact { Gives result (reading.says context.entry.block context.entry.file.now (words_of line.now.text)) }
+    ensures takes_no_memory { result ≢ Err LineError.Memory }
+    // Values are in their ranges, and a line of a list is one of a list of its kind.
+    ensures in_range { IfOk result IsInRange }
+    // The list that a line opens or goes to is of its kind, where it is there, and no line of it has the line's number.
+    ensures fits { IfOk result (FitsFile context.entry.file.now) }
+{
+    let Context { block, file } = context;
+    read_in(line, &block, file)
 }

@@ -3,7 +3,7 @@ ghost use Rattle.std.specs.Prelude.{◌≡◌, take};
 ghost use Rattle.std.specs.List.{list_any};
 ghost use Rattle.rc_openings.specs.Words.{words_left};
 ghost use Rattle.rc_gram_acl.specs.Address.{address};
-ghost use Rattle.rc_gram_acl.specs.Port.{end_point};
+ghost use Rattle.rc_gram_acl.specs.Port.{end_point, listed, until_end};
 ghost use Rattle.rc_gram_acl.specs.Refused as refused;
 ghost use Rattle.rc_gram_acl.specs.Values.{is_unknown_port as is_unknown};
 
@@ -16,7 +16,7 @@ use rc_openings::Words;
 /// The words that make a line of an access list one that isn't modelled, wherever they stand behind its opening, where it fits no
 /// row.
 #[tactic(auto, unfolding(crate::specs::Refused::refused_words))]
-pub fn refused_words() -> Words<'static>
+pub(crate) fn refused_words() -> Words<'static>
     ensures { words_left result ≡ refused.refused_words }
 {
     Words::new(
@@ -26,7 +26,7 @@ pub fn refused_words() -> Words<'static>
 
 /// Whether one of the words up to one that ends the ports is a name of no port.
 fn has_unknown_listed(side: Side, words: Words) -> bool
-    ensures { result ≡ list_any is_unknown (refused.until_end side (words_left words.entry)) }
+    ensures { result ≡ list_any is_unknown (until_end side (words_left words.entry)) }
 {
     let mut rest = words;
     while let Some(word) = rest.next_word() {
@@ -63,7 +63,7 @@ fn is_one_of_two_unknown(words: Words) -> bool
 
 /// Whether the first word, or one behind it up to one that ends the ports, is a name of no port.
 fn is_one_listed_unknown(side: Side, words: Words) -> bool
-    ensures { result ≡ list_any is_unknown (refused.listed side (words_left words.entry)) }
+    ensures { result ≡ list_any is_unknown (listed side (words_left words.entry)) }
 {
     let mut rest = words;
     match rest.next_word() {

@@ -35,7 +35,7 @@ fn number_behind(list: &AccessList) -> u64
 /// The sequence number of one more line of a list whose lines are in order: the one that is written in front of it, else
 /// 10 above the greatest, and 10 in a list without lines. `None` exactly where the number would be over 2147483647 (or 0),
 /// or where a line has it already.
-pub fn sequence_for(list: &AccessList, written: Option<u32>) -> Option<u32>
+pub(crate) fn sequence_for(list: &AccessList, written: Option<u32>) -> Option<u32>
     ensures value { AreLinesInOrder list.now.lines → result ≡ sequence.sequence_for list.now.lines written }
     ensures within { IfSome result IsSequence }
     // So the list stays lawful with a lawful line of this number.

@@ -1,6 +1,6 @@
 -- A command of this grammar is in range, and fits each file.
 use Rattle.std.specs.Prelude.{Result, Ok, Err, IfOk}
-use Rattle.rc_openings.specs.declared.reading.LineRefusal.{LineRefusal}
+use Rattle.rc_openings.specs.declared.reading.LineError.{LineError}
 use Rattle.rc_config.specs.declared.command.Command.{Command}
 use Rattle.rc_config.specs.declared.command.Command.TheVariants.{Passed, Remark, Hostname, Interface, Address, Shutdown, Bandwidth, StaticRoute, AccessListOpened, AccessListLine, AccessGroup, PrefixLine, CommunityLine, MapOpened, MapLine}
 use Rattle.rc_config.specs.declared.router_text.RouterText.{RouterText}
@@ -41,10 +41,10 @@ fits-of file (CommunityLine list line) h = absurd h
 fits-of file (MapOpened map n action) h = absurd h
 fits-of file (MapLine map n line) h = absurd h
 
-pub own-range : (r : Result Command LineRefusal) → IfOk r IsOwn → IfOk r IsInRange
+pub own-range : (r : Result Command LineError) → IfOk r IsOwn → IfOk r IsInRange
 own-range (Ok c) h = range-of c h
 own-range (Err e) h = h
 
-pub own-fits : (file : RouterText) (r : Result Command LineRefusal) → IfOk r IsOwn → IfOk r (FitsFile file)
+pub own-fits : (file : RouterText) (r : Result Command LineError) → IfOk r IsOwn → IfOk r (FitsFile file)
 own-fits file (Ok c) h = fits-of file c h
 own-fits file (Err e) h = h

@@ -2,7 +2,7 @@
 use Rattle.std.specs.Prelude.{◌≡◌, ◌++◌, refl, ℕ, List, Ok, Err, codes, replicate}
 use Rattle.rc_openings.specs.InterfaceOpenings.{interface, interface_forms, interface_refused, interface_ignored}
 use Rattle.rc_openings.specs.Opening.{decisive_row}
-use Rattle.rc_openings.specs.Reading.{said_by}
+use Rattle.rc_openings.specs.Reading.{decided}
 use Rattle.rc_openings.specs.Words.{words_of}
 use Rattle.rc_openings.specs.declared.reading.LineRefusal.TheVariants.{BadValue}
 use Rattle.rc_config.specs.Update.{empty}
@@ -21,7 +21,7 @@ pub groups :
     Says (codes " ip access-group WEB in") (Ok (command.AccessGroup (codes "Serial0") (codes "WEB") In))
     × Says (codes " ip access-group 101 out") (Ok (command.AccessGroup (codes "Serial0") (codes "101") Out))
     × Says (codes " ip access-group 005 in") (Ok (command.AccessGroup (codes "Serial0") (codes "005") In))
-unfolding said_by decisive_row interface interface_forms interface_refused interface_ignored words_of
+unfolding decided decisive_row interface interface_forms interface_refused interface_ignored words_of
 groups = (refl, refl, refl)
 
 -- a name and a direction, and no word more
@@ -32,5 +32,5 @@ pub wrong_groups :
     × Says (codes " ip access-group WEB In") (Err BadValue)
     × Says (codes " ip access-group WEB in out") (Err BadValue)
     × Says (codes " ip access-group " ++ (replicate 64 65 ++ codes " in")) (Err BadValue)
-unfolding said_by decisive_row interface interface_forms interface_refused interface_ignored words_of
+unfolding decided decisive_row interface interface_forms interface_refused interface_ignored words_of
 wrong_groups = (refl, refl, refl, refl, refl, refl)

@@ -9,7 +9,4 @@ mod reading;
 mod route_options;
 mod rows;
 
-pub use reading::read_line;
-
-#[cfg(test)]
-mod tests;
+pub use reading::{read_form, read_line};

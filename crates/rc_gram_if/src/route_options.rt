@@ -1,18 +1,11 @@
 //! What may stand behind the target of a static route.
-ghost use Rattle.std.specs.Prelude.{◌≡◌, IfSome};
+ghost use Rattle.std.specs.Prelude.{◌≡◌, ◌≤◌, ◌∷◌, List, Option, Some, IfSome, length, option_map};
+ghost use Rattle.rc_openings.specs.Values.{number_of};
 ghost use Rattle.rc_openings.specs.Words.{words_left};
 ghost use Rattle.rc_config.specs.Lawful.{IsDistance};
 ghost use Rattle.rc_gram_if.specs.RouteOptions as options;
 
 use rc_openings::{Words, number_in, word_u32};
-
-/// The option whose value comes next.
-#[derive(Clone, Copy)]
-enum Awaiting {
-    Nothing,
-    Name,
-    Tag,
-}
 
 /// The options so far. A name and a tag have no effect, so it is kept only that they were there.
 #[derive(Clone, Copy)]
@@ -20,13 +13,12 @@ struct RouteOptions {
     distance: Option<u8>,
     named: bool,
     tagged: bool,
-    awaiting: Awaiting,
 }
 
 impl RouteOptions {
-    /// The options with the distance that a word is.
+    /// The options with the distance that a word is, or `None` exactly where it is none or one stands there already.
     fn with_distance(self, word: &[u8]) -> Option<RouteOptions>
-        ensures value { result ≡ options.with_distance self word.now }
+        ensures value { (os : Option (List options.RouteOption)) → options.distance_after result os ≡ options.distance_with self (options.followed (options.distance_word word.now) os) }
         ensures within { IfSome result (λ o. IfSome o.distance IsDistance) }
     {
         if self.distance.is_some() {
@@ -41,104 +33,96 @@ impl RouteOptions {
         }
     }
 
-    /// The options with the first word of one more.
-    fn with_first(self, word: &[u8]) -> Option<RouteOptions>
+    /// The options with a name, or `None` exactly where one stands there already.
+    fn with_name(self, name: &[u8]) -> Option<RouteOptions>
         requires { IfSome self.distance IsDistance }
-        ensures value { result ≡ options.with_first self word.now }
+        ensures value { (os : Option (List options.RouteOption)) → options.distance_after result os ≡ options.distance_with self (options.followed (Some (options.Name name.now)) os) }
         ensures within { IfSome result (λ o. IfSome o.distance IsDistance) }
     {
-        if word == b"name".as_slice() {
-            if self.named {
-                return None;
-            }
-            return Some(RouteOptions {
-                awaiting: Awaiting::Name,
-                ..self
-            });
+        if self.named {
+            return None;
         }
-        if word == b"tag".as_slice() {
-            if self.tagged {
-                return None;
-            }
-            return Some(RouteOptions {
-                awaiting: Awaiting::Tag,
-                ..self
-            });
-        }
-        self.with_distance(word)
+        Some(RouteOptions {
+            named: true,
+            ..self
+        })
     }
 
-    /// The options with one word more.
-    fn with_word(self, word: &[u8]) -> Option<RouteOptions>
+    /// The options with the tag that a word is, or `None` exactly where it is none or one stands there already.
+    fn with_tag(self, word: &[u8]) -> Option<RouteOptions>
         requires { IfSome self.distance IsDistance }
-        ensures value { result ≡ options.with_word self.awaiting self word.now }
+        ensures value { (os : Option (List options.RouteOption)) → options.distance_after result os ≡ options.distance_with self (options.followed (option_map options.Tag (number_of word.now)) os) }
         ensures within { IfSome result (λ o. IfSome o.distance IsDistance) }
     {
-        match self.awaiting {
-            Awaiting::Nothing => self.with_first(word),
-            Awaiting::Name => Some(RouteOptions {
-                named: true,
-                awaiting: Awaiting::Nothing,
+        if self.tagged {
+            return None;
+        }
+        match word_u32(word) {
+            Some(_) => Some(RouteOptions {
+                tagged: true,
                 ..self
             }),
-            Awaiting::Tag => match word_u32(word) {
-                Some(_) => Some(RouteOptions {
-                    tagged: true,
-                    awaiting: Awaiting::Nothing,
-                    ..self
-                }),
-                None => None,
-            },
+            None => None,
         }
     }
 
-    /// Whether no value is missing.
-    fn is_whole(&self) -> bool
-        ensures { result ≡ options.is_whole self.now.awaiting }
+    /// The options with the one that begins with a word, and the words behind it.
+    fn with_option<'a>(self, word: &[u8], behind: Words<'a>) -> Option<(RouteOptions, Words<'a>)>
+        requires { IfSome self.distance IsDistance }
+        ensures value { options.distance_behind result ≡ options.distance_with self (options.options_of (word.now ∷ words_left behind.entry)) }
+        ensures within { IfSome result (λ p. IfSome p.0.distance IsDistance) }
+        ensures shorter { IfSome result (λ p. length (words_left p.1) ≤ length (words_left behind.entry)) }
     {
-        match self.awaiting {
-            Awaiting::Nothing => true,
-            Awaiting::Name => false,
-            Awaiting::Tag => false,
+        let mut rest = behind;
+        let Some(value) = rest.next_word() else {
+            let more = self.with_distance(word);
+            return with_rest(more, behind);
+        };
+        if word == b"name".as_slice() {
+            return with_rest(self.with_name(value), rest);
         }
+        if word == b"tag".as_slice() {
+            return with_rest(self.with_tag(value), rest);
+        }
+        with_rest(self.with_distance(word), behind)
     }
 }
 
-/// The options that words are, in any order, each at most once.
-fn read_options(mut words: Words) -> Option<RouteOptions>
-    ensures value { result ≡ options.with_words options.no_options (words_left words.entry) }
-    ensures within { IfSome result (λ o. IfSome o.distance IsDistance) }
+/// The options, if there are any, with the words behind them.
+fn with_rest<'a>(
+    so_far: Option<RouteOptions>,
+    rest: Words<'a>,
+) -> Option<(RouteOptions, Words<'a>)>
+    requires { IfSome so_far (λ o. IfSome o.distance IsDistance) }
+    ensures value { options.distance_behind result ≡ options.distance_after so_far (options.options_of (words_left rest.entry)) }
+    ensures within { IfSome result (λ p. IfSome p.0.distance IsDistance) }
+    ensures rest { IfSome result (λ p. words_left p.1 ≡ words_left rest.entry) }
 {
-    let mut options = RouteOptions {
-        distance: None,
-        named: false,
-        tagged: false,
-        awaiting: Awaiting::Nothing,
-    };
-    while let Some(word) = words.next_word() {
-        match options.with_word(word) {
-            Some(more) => options = more,
-            None => return None,
-        }
-    }
-    if options.is_whole() {
-        Some(options)
-    } else {
-        None
+    match so_far {
+        Some(more) => Some((more, rest)),
+        None => None,
     }
 }
 
 /// The administrative distance that the words behind a target give, 1 where they give none, or `None` exactly where they
-/// aren't options.
-pub(crate) fn read_distance(words: Words) -> Option<u8>
+/// aren't options in any order, each at most once.
+pub(crate) fn read_distance(mut words: Words) -> Option<u8>
     ensures value { result ≡ options.distance_of (words_left words.entry) }
     ensures within { IfSome result IsDistance }
 {
-    match read_options(words) {
-        None => None,
-        Some(options) => match options.distance {
-            Some(distance) => Some(distance),
-            None => Some(1),
-        },
+    let mut so_far = RouteOptions {
+        distance: None,
+        named: false,
+        tagged: false,
+    };
+    while let Some(word) = words.next_word() {
+        match so_far.with_option(word, words) {
+            Some((more, rest)) => {
+                so_far = more;
+                words = rest;
+            }
+            None => return None,
+        }
     }
+    Some(so_far.distance.unwrap_or(1))
 }

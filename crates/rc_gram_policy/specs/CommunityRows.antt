@@ -6,7 +6,7 @@ use Rattle.rc_openings.specs.declared.reading.LineRefusal.TheVariants.{Unsupport
 use Rattle.rc_config.specs.declared.community_list.CommunityLine.{CommunityLine}
 use Rattle.rc_config.specs.declared.access_list.Action.{Action}
 use Rattle.rc_config.specs.declared.access_list.Action.TheVariants.{Permit, Deny}
-use Rattle.rc_gram_policy.specs.Reading.{Answer, numbered_answer, standard_answer}
+use Rattle.rc_gram_policy.specs.Lines.{Answer, numbered_answer, standard_answer}
 use Rattle.rc_gram_policy.specs.Refused.{refused_words}
 
 abbrev SaysNumbered : List ℕ → Answer (List ℕ × CommunityLine) → Type 0

@@ -1,10 +1,11 @@
 pub mod Values
 pub mod Parts
-pub mod Error
 pub mod PrefixLines
 pub mod CommunityLines
 pub mod MapLines
 pub mod Refused
+pub mod Lines
+pub mod Rows
 pub mod Reading
 pub mod ValueRows
 pub mod PrefixRows

@@ -14,7 +14,7 @@ use Rattle.rc_config.specs.declared.map_line.SetLine.{SetLine}
 use Rattle.rc_config.specs.declared.map_line.SetLine.TheVariants as set
 use Rattle.rc_config.specs.declared.sets.MetricType.TheVariants.{Type1, Type2}
 use Rattle.rc_gram_policy.specs.declared.map_opening.OpenedEntry.{OpenedEntry}
-use Rattle.rc_gram_policy.specs.Reading.{Answer, map_answer, opening_answer}
+use Rattle.rc_gram_policy.specs.Lines.{Answer, map_answer, opening_answer}
 use Rattle.rc_gram_policy.specs.Refused.{refused_words}
 
 abbrev Opens : List ℕ → Answer OpenedEntry → Type 0

@@ -8,7 +8,7 @@ use Rattle.rc_config.specs.declared.access_list.Action.TheVariants.{Permit, Deny
 use Rattle.rc_config.specs.declared.prefix_list.PrefixLine.{PrefixLine}
 use Rattle.rc_config.specs.declared.prefix_list.PrefixList.{PrefixList}
 use Rattle.rc_gram_policy.specs.PrefixLines.{sequence_for}
-use Rattle.rc_gram_policy.specs.Reading.{Answer, prefix_answer}
+use Rattle.rc_gram_policy.specs.Lines.{Answer, prefix_answer}
 
 abbrev line : ℕ → Action → Cidr → Option ℕ → Option ℕ → PrefixLine
 line n action prefix ge le = record { sequence = n; action = action; prefix = prefix; ge = ge; le = le }

@@ -1,48 +1,22 @@
--- What a line of a prefix list, a community list or a route map says, by its words behind the opening.
-use Rattle.std.specs.Prelude.{ℕ, List, Option, Some, None, Result, Ok, Err}
-use Rattle.rc_openings.specs.Reading.{judged}
-use Rattle.rc_openings.specs.declared.form.Form.{Form}
-use Rattle.rc_openings.specs.declared.form.Form.TheVariants as form
+-- What a line of a policy says where it stands.
+use Rattle.std.specs.Prelude.{ℕ, List, Result}
+use Rattle.rc_openings.specs.Reading.{FormRows, SaysBy, said_by}
 use Rattle.rc_openings.specs.declared.reading.LineRefusal.{LineRefusal}
-use Rattle.rc_openings.specs.declared.reading.LineRefusal.TheVariants.{BadValue}
-use Rattle.rc_config.specs.declared.community_list.CommunityLine.{CommunityLine}
-use Rattle.rc_config.specs.declared.map_line.MapLine.{MapLine}
-use Rattle.rc_config.specs.declared.prefix_list.PrefixLine.{PrefixLine}
-use Rattle.rc_config.specs.declared.prefix_list.PrefixList.{PrefixList}
-use Rattle.rc_gram_policy.specs.declared.map_opening.OpenedEntry.{OpenedEntry}
-use Rattle.rc_gram_policy.specs.CommunityLines.{numbered_row, standard_row}
-use Rattle.rc_gram_policy.specs.MapLines.{map_row, opening_row}
-use Rattle.rc_gram_policy.specs.PrefixLines.{prefix_row}
-use Rattle.rc_gram_policy.specs.Refused.{refused_words}
+use Rattle.rc_config.specs.OpenBlock.{block_at}
+use Rattle.rc_config.specs.declared.command.Command.{Command}
+use Rattle.rc_config.specs.declared.command.Command.TheVariants.{Passed}
+use Rattle.rc_config.specs.declared.context.OpenBlock.{OpenBlock}
+use Rattle.rc_config.specs.declared.router_text.RouterText.{RouterText}
+use Rattle.rc_gram_policy.specs.Rows.{row_answer}
 
-abbrev pub Answer : Type 0 → Type 0
-Answer A = Result A LineRefusal
+-- the rows for the line of this number at a place
+abbrev pub rows_at : OpenBlock → RouterText → ℕ → FormRows Command
+rows_at block file number = record { answer = row_answer block file number; passed = Passed }
 
--- the line where it fits a row
-abbrev pub fitted : {A : Type 0} → Option A → Answer A
-fitted (Some line) = Ok line
-fitted None = Err BadValue
+-- the line says this where it stands: the opening with most words decides
+abbrev pub Says : OpenBlock → RouterText → ℕ → List (List ℕ) → Result Command LineRefusal → Type 0
+Says block file number line answer = SaysBy (rows_at block file number) (block_at block) line answer
 
--- a line of a form that fits no row and has one of the form's refused words isn't modelled
-abbrev pub answer_of : {A : Type 0} → Form → List (List ℕ) → Option A → Answer A
-answer_of f words row = judged (refused_words f) words (fitted row)
-
--- `ip prefix-list NAME [seq N] permit|deny P/L [ge G] [le E]`
-abbrev pub prefix_answer : List (List ℕ × PrefixList) → List (List ℕ) → Answer (List ℕ × PrefixLine)
-prefix_answer lists words = fitted (prefix_row lists words)
-
--- `ip community-list N permit|deny COMM..`
-abbrev pub numbered_answer : List (List ℕ) → Answer (List ℕ × CommunityLine)
-numbered_answer words = answer_of form.CommunityList words (numbered_row words)
-
--- `ip community-list standard NAME permit|deny COMM..`
-abbrev pub standard_answer : List (List ℕ) → Answer (List ℕ × CommunityLine)
-standard_answer words = answer_of form.StandardCommunityList words (standard_row words)
-
--- `route-map NAME permit|deny N`
-abbrev pub opening_answer : List (List ℕ) → Answer OpenedEntry
-opening_answer words = fitted (opening_row words)
-
--- a line in the block of a route map
-abbrev pub map_answer : ℕ → Form → List (List ℕ) → Answer MapLine
-map_answer line f words = answer_of f words (map_row line f words)
+-- the same, computed
+abbrev pub says : OpenBlock → RouterText → ℕ → List (List ℕ) → Result Command LineRefusal
+says block file number line = said_by (rows_at block file number) (block_at block) line

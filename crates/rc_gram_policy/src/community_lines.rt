@@ -3,15 +3,14 @@ ghost use Rattle.std.specs.Prelude.{◌≡◌, IfOk};
 ghost use Rattle.rc_openings.specs.Values.{number_within};
 ghost use Rattle.rc_openings.specs.Words.{words_left};
 ghost use Rattle.rc_gram_policy.specs.CommunityLines as lines;
-ghost use Rattle.rc_gram_policy.specs.Error.{Gives};
-ghost use Rattle.rc_gram_policy.specs.Reading.{numbered_answer, standard_answer};
+ghost use Rattle.rc_openings.specs.Reading.{Gives};
+ghost use Rattle.rc_gram_policy.specs.Lines.{numbered_answer, standard_answer};
 
-use crate::LineError;
 use crate::communities::read_communities;
 use crate::refused::refusal_of;
 use rc_base::{Communities, Name};
 use rc_config::{Action, CommunityLine, action_of};
-use rc_openings::{Form, Words, number_in};
+use rc_openings::{Form, LineError, Words, number_in};
 use std::alloc::{AllocError, Global};
 
 /// The line of an action and the communities behind it.
@@ -103,7 +102,7 @@ fn standard_row(
 ///
 /// It is refused exactly where the words don't fit: as unsupported where a word is one whose meaning isn't modelled, and as
 /// a bad value else.
-pub fn read_numbered_community_line(
+pub(crate) fn read_numbered_community_line(
     alloc: Global,
     words: Words,
 ) -> Result<(Name, CommunityLine), LineError>
@@ -117,7 +116,7 @@ pub fn read_numbered_community_line(
 }
 
 /// The same by name, behind `ip community-list standard`: `NAME permit|deny COMM..`.
-pub fn read_standard_community_line(
+pub(crate) fn read_standard_community_line(
     alloc: Global,
     words: Words,
 ) -> Result<(Name, CommunityLine), LineError>

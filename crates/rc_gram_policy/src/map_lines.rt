@@ -3,18 +3,17 @@ ghost use Rattle.std.specs.Prelude.{◌≡◌, ◌≤◌, IfOk, IfSome};
 ghost use Rattle.rc_openings.specs.Words.{words_left};
 ghost use Rattle.rc_config.specs.RouteMap.{IsLawfulMapLine};
 ghost use Rattle.rc_config.specs.Sets.{IsLawfulSet};
-ghost use Rattle.rc_gram_policy.specs.Error.{Gives};
+ghost use Rattle.rc_openings.specs.Reading.{Gives};
 ghost use Rattle.rc_gram_policy.specs.MapLines as lines;
-ghost use Rattle.rc_gram_policy.specs.Reading.{map_answer};
+ghost use Rattle.rc_gram_policy.specs.Lines.{map_answer};
 
-use crate::LineError;
 use crate::as_path::read_prepended;
 use crate::communities::read_communities;
 use crate::names::read_names;
 use crate::refused::refusal_of;
 use rc_base::{Communities, Origin};
 use rc_config::{MapLine, MatchKind, MetricType, SetLine};
-use rc_openings::{Form, Words, number_in};
+use rc_openings::{Form, LineError, Words, number_in};
 use std::alloc::{AllocError, Global};
 
 /// `NAME..`
@@ -216,7 +215,7 @@ fn map_row(
 ///
 /// It is refused exactly where the words don't fit, which those of other forms never do: as unsupported where a word is one
 /// whose meaning isn't modelled, and as a bad value else.
-pub fn read_map_line(
+pub(crate) fn read_map_line(
     alloc: Global,
     form: Form,
     line: u64,

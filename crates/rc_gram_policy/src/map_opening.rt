@@ -2,7 +2,7 @@
 ghost use Rattle.std.specs.Prelude.{◌≡◌, ◌≤◌, IfOk};
 ghost use Rattle.rc_openings.specs.Words.{words_left};
 ghost use Rattle.rc_gram_policy.specs.MapLines as lines;
-ghost use Rattle.rc_gram_policy.specs.Reading.{fitted, opening_answer};
+ghost use Rattle.rc_gram_policy.specs.Lines.{fitted, opening_answer};
 
 use rc_base::Name;
 use rc_config::{Action, action_of};
@@ -10,7 +10,7 @@ use rc_openings::{LineRefusal, Words, number_in};
 
 /// The entry of a route map that a line opens.
 #[derive(Clone, Copy, PartialEq, Eq)]
-pub struct OpenedEntry {
+pub(crate) struct OpenedEntry {
     pub map: Name,
     /// The entry's number, from 0 to 65535.
     pub number: u32,
@@ -38,7 +38,7 @@ fn entry_of(
 /// The entry that the words behind `route-map` open: `NAME permit|deny N`, N from 0 to 65535.
 ///
 /// It errs, as a bad value, exactly where the words don't fit. It takes no memory.
-pub fn read_map_opening(mut words: Words) -> Result<OpenedEntry, LineRefusal>
+pub(crate) fn read_map_opening(mut words: Words) -> Result<OpenedEntry, LineRefusal>
     ensures row { result ≡ opening_answer (words_left words.entry) }
     ensures lawful { IfOk result (λ e. e.number ≤ 65535) }
 {

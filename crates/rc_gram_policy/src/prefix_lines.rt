@@ -5,7 +5,7 @@ ghost use Rattle.rc_openings.specs.Words.{words_left};
 ghost use Rattle.rc_config.specs.Named.{named};
 ghost use Rattle.rc_config.specs.PrefixList.{IsLawfulLine, greatest_sequence, has_sequence};
 ghost use Rattle.rc_gram_policy.specs.PrefixLines as lines;
-ghost use Rattle.rc_gram_policy.specs.Reading.{fitted, prefix_answer};
+ghost use Rattle.rc_gram_policy.specs.Lines.{fitted, prefix_answer};
 
 use crate::optional::{read_bound, read_optional};
 use rc_base::{Name, Prefix};
@@ -132,7 +132,7 @@ fn line_of(
 ///
 /// It errs, as a bad value, exactly where the words don't fit: G and E are over L and at most 32, G is at most E, no line
 /// of the list has the number, and a number that isn't written is at most 4294967295. It takes no memory.
-pub fn read_prefix_line(
+pub(crate) fn read_prefix_line(
     lists: &Named<PrefixList>,
     mut words: Words,
 ) -> Result<(Name, PrefixLine), LineRefusal>

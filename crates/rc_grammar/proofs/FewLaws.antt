@@ -23,8 +23,8 @@ length-with_value {V} (e ∷ es) name v n new few = by (same_name name e.0) refl
         let made : length (with_value es name v) ≤ n - 1 = rest room short in
         omega arith
 
-new_is_few : {V : Type 0} (es : List (List ℕ × V)) (name : List ℕ) → (is_none (named es name) && nat_le 256 (length es)) ≡ false → named es name ≡ None → length es < 256
-new_is_few es name room none = let test : nat_le 256 (length es) ≡ false = rw none at room in grind (arith, nat_tests)
+new_is_few : {V : Type 0} (es : List (List ℕ × V)) (name : List ℕ) → (nat_le 256 (length es) && is_none (named es name)) ≡ false → named es name ≡ None → length es < 256
+new_is_few es name room none = let test : (nat_le 256 (length es) && true) ≡ false = rw none at room in grind (arith, nat_tests)
 
 few-after : (r : RouterText) (c : Command) → is_one_too_many r (interface_of c) ≡ false → length r.interfaces ≤ 256 → length (after r c).interfaces ≤ 256
 few-after r command.Passed room few = few

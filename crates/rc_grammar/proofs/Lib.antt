@@ -4,3 +4,4 @@ mod GrammarLaws
 mod AccessListRoom
 mod PolicyLaws
 mod TextLaws
+mod FirstRefusal

@@ -1,27 +1,26 @@
--- A line that is not passed over does what its answer says.
-use Rattle.std.proofs.Common.{◌≡◌, List, ℕ, false, Err, sym, subst, ap}
+-- A line does what its answer says.
+use Rattle.std.proofs.Common.{◌≡◌, Ok, ap, sym, subst}
 use Rattle.std.specs.Prelude.{Result}
-use Rattle.rc_openings.specs.Words.{words_of}
+use Rattle.rc_openings.specs.Reading.{Fails as LineFails}
+use Rattle.rc_openings.specs.declared.reading.LineError.{LineError}
+use Rattle.rc_openings.specs.declared.reading.LineError.TheVariants as error
 use Rattle.rc_openings.specs.declared.reading.LineRefusal.{LineRefusal}
 use Rattle.rc_lines.specs.Lines.{TextLine}
 use Rattle.rc_config.specs.declared.command.Command.{Command}
-use Rattle.rc_config.specs.declared.context.OpenBlock.{OpenBlock}
-use Rattle.rc_gram_policy.specs.declared.error.LineError.{LineError}
-use Rattle.rc_gram_policy.specs.declared.error.LineError.TheVariants as error
-use Rattle.rc_grammar.specs.Answers.{IfAnswered, failed_at}
-use Rattle.rc_grammar.specs.File.{is_passed, place_at, with_answer, with_text, Fails}
-use Rattle.rc_grammar.specs.Grammars.{says}
+use Rattle.rc_config.specs.declared.command.Command.TheVariants as command
+use Rattle.rc_grammar.specs.File.{failed_at, open_after, said, with_answer, with_command, with_said, Fails, Leaves}
 use Rattle.rc_grammar.specs.declared.reading.Reading.{Reading}
+use Rattle.rc_grammar.specs.declared.refusal.ReadError.{ReadError}
 
-pub text-answer : (r : Reading) (l : TextLine) (at : OpenBlock) (answer : Result Command LineRefusal) → is_passed (words_of l.text) ≡ false → at ≡ place_at r.place l.text
-    → answer ≡ says at r.file l.number (words_of l.text) → with_text r l ≡ with_answer l.number r at answer
-text-answer r l at answer plain is said =
-    let same : with_answer l.number r (place_at r.place l.text) (says (place_at r.place l.text) r.file l.number (words_of l.text)) ≡ with_answer l.number r at answer =
-    subst (λ (p : OpenBlock). with_answer l.number r p (says p r.file l.number (words_of l.text)) ≡ with_answer l.number r at answer) is (ap (λ (a : Result Command LineRefusal). with_answer l.number r at a) (sym said)) in
-    rw plain same
+-- it is passed over
+pub said-passed : (r : Reading) (l : TextLine) → said r l ≡ Ok command.Passed → with_said r l ≡ Ok (record r { block = open_after r.block command.Passed })
+said-passed r l is = ap (with_answer l.number r) is
 
--- where it was answered by no command, the file has no model
-pub text-fails : (r : Reading) (l : TextLine) (at : OpenBlock) (e : LineError) → is_passed (words_of l.text) ≡ false → at ≡ place_at r.place l.text
-    → IfAnswered {C = Command} (Err e) (λ answer. answer ≡ says at r.file l.number (words_of l.text)) → Fails (failed_at l.number e) (with_text r l)
-text-fails r l at (error.Refused refusal) plain is said = text-answer r l at (Err refusal) plain is said
-text-fails r l at error.Memory plain is said = tt
+-- a command changes the model
+pub said-command : {T : Type 0} (result : Result T ReadError) (r made : Reading) (l : TextLine) (m : Command) → said r l ≡ Ok m → Leaves result made (with_command l.number r m) → Leaves result made (with_said r l)
+said-command result r made l m is h = subst (λ (a : Result Command LineRefusal). Leaves result made (with_answer l.number r a)) (sym is) h
+
+-- and where it gives none the file has no model
+pub said-fails : (r : Reading) (l : TextLine) (e : LineError) → LineFails e (said r l) → Fails (failed_at l.number e) (with_said r l)
+said-fails r l (error.Refused refusal) is = ap (with_answer l.number r) is
+said-fails r l error.Memory is = tt

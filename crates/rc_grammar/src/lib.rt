@@ -10,10 +10,5 @@ mod policies;
 mod reading;
 mod refusal;
 
-pub use reading::read_file;
+pub use reading::{first_refusal, read_file};
 pub use refusal::{FileCause, FileRefusal, ReadError};
-
-#[cfg(test)]
-mod policy_tests;
-#[cfg(test)]
-mod tests;

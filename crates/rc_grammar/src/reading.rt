@@ -1,19 +1,20 @@
 //! The lines of a file, one by one.
-ghost use Rattle.std.specs.Prelude.{◌≡◌, ◌≤◌, List, ℕ, [], ◌∷◌, length, Some, None, Ok, Err, IfOk};
+//!
+//! What the lines so far have said is changed where it stands, so that a line that is passed over, as most are, costs no more
+//! than a look at its words.
+ghost use Rattle.std.specs.Prelude.{◌≡◌, IfOk, OnOk, Some, None, Ok, Err};
+ghost use Rattle.std.specs.Option.{option_copied};
 ghost use Rattle.rc_openings.specs.Words.{words_of};
 ghost use Rattle.rc_lines.specs.Lines.{TextLine, lines_of};
-ghost use Rattle.rc_config.specs.Lawful.{FitsFile, HasLawfulLists, HasLawfulInterfaces, HasLawfulRoutes, IsInRange, IsLawfulFile};
-ghost use Rattle.rc_grammar.specs.Answers.{failed_at};
-ghost use Rattle.rc_grammar.specs.Grammars.{says};
-ghost use Rattle.rc_grammar.specs.File.{is_passed, place_at, open_after, interface_of, is_one_too_many, with_command, with_answer, with_text, by_part, step, start, with_lines, with_host, file_of, Gives};
+ghost use Rattle.rc_config.specs.Lawful.{FitsFile, IsInRange, IsLawfulFile};
+ghost use Rattle.rc_grammar.specs.File.{at_line, failed_at, file_of, interface_of, is_one_too_many, is_passed, open_after, start, step, with_command, with_host, with_lines, with_said, with_text, Gives, IsFit, Leaves, RefusesTheFirst};
 
 use crate::grammars::read_line;
 use crate::{FileCause, FileRefusal, ReadError};
 use rc_base::Name;
-use rc_config::{Command, OpenBlock, RouterText};
-use rc_gram_policy::LineError;
+use rc_config::{Command, Context, OpenBlock, RouterText};
 use rc_lines::{Line, Lines, Part};
-use rc_openings::LineRefusal;
+use rc_openings::{LineError, LineRefusal};
 use std::alloc::Global;
 
 /// The most interfaces of a file.
@@ -36,20 +37,10 @@ fn is_passed_over(line: &Line) -> bool
     }
 }
 
-fn place_of(open_block: &OpenBlock, line: &Line) -> OpenBlock
-    ensures { result ≡ place_at open_block.now line.now.text }
+fn block_after(block: &OpenBlock, command: &Command) -> OpenBlock
+    ensures { result ≡ open_after block.now command.now }
 {
-    if line.is_flush() {
-        OpenBlock::Global
-    } else {
-        *open_block
-    }
-}
-
-fn place_after(at: &OpenBlock, command: &Command) -> OpenBlock
-    ensures { result ≡ open_after at.now command.now }
-{
-    match at {
+    match block {
         OpenBlock::Global => match command {
             Command::Interface { name, line: _ } => OpenBlock::Interface(*name),
             Command::AccessListOpened { list, kind } => OpenBlock::AccessList(*list, *kind),
@@ -57,25 +48,25 @@ fn place_after(at: &OpenBlock, command: &Command) -> OpenBlock
             Command::Passed => OpenBlock::Ignored,
             _ => OpenBlock::Closed,
         },
-        _ => *at,
+        _ => *block,
     }
 }
 
-fn interface_named(command: &Command) -> Option<Name>
-    ensures { result ≡ interface_of command.now }
+fn interface_named(command: &Command) -> Option<&Name>
+    ensures { option_copied result ≡ interface_of command.now }
 {
     match command {
         Command::Passed => None,
         Command::Remark => None,
         Command::Hostname { .. } => None,
-        Command::Interface { name, .. } => Some(*name),
-        Command::Address { interface, .. } => Some(*interface),
-        Command::Shutdown { interface, .. } => Some(*interface),
-        Command::Bandwidth { interface, .. } => Some(*interface),
+        Command::Interface { name, .. } => Some(name),
+        Command::Address { interface, .. } => Some(interface),
+        Command::Shutdown { interface, .. } => Some(interface),
+        Command::Bandwidth { interface, .. } => Some(interface),
         Command::StaticRoute { .. } => None,
         Command::AccessListOpened { .. } => None,
         Command::AccessListLine { .. } => None,
-        Command::AccessGroup { interface, .. } => Some(*interface),
+        Command::AccessGroup { interface, .. } => Some(interface),
         Command::PrefixLine { .. } => None,
         Command::CommunityLine { .. } => None,
         Command::MapOpened { .. } => None,
@@ -83,13 +74,14 @@ fn interface_named(command: &Command) -> Option<Name>
     }
 }
 
-fn is_too_many(file: &RouterText, interface: &Option<Name>) -> bool
-    ensures { result ≡ is_one_too_many file.now interface.now }
+/// Whether the command names an interface that is one too many.
+fn is_too_many(file: &RouterText, command: &Command) -> bool
+    ensures { result ≡ is_one_too_many file.now (interface_of command.now) }
 {
-    match interface {
+    match interface_named(command) {
         None => false,
         Some(name) => {
-            file.interfaces.get(name).is_none() && file.interfaces.len() >= MOST_INTERFACES
+            file.interfaces.len() >= MOST_INTERFACES && file.interfaces.get(name).is_none()
         }
     }
 }
@@ -114,134 +106,159 @@ fn unread(line: &Line, error: LineError) -> ReadError
 }
 
 impl Reading {
-    fn with_command(self, line: &Line, at: &OpenBlock, command: Command) -> Result<Reading, ReadError>
-        requires in_range { IsInRange command }
-        requires fits { FitsFile self.file command }
-        requires lists { HasLawfulLists self.file }
-        ensures step { Gives result (with_command line.now.number self at.now command) }
-        ensures lawful { IfOk result (λ r. HasLawfulInterfaces self.file → HasLawfulInterfaces r.file) }
-        ensures routes { IfOk result (λ r. HasLawfulRoutes self.file → HasLawfulRoutes r.file) }
-        ensures lists { IfOk result (λ r. HasLawfulLists r.file) }
-        ensures few { IfOk result (λ r. length self.file.interfaces ≤ 256 → length r.file.interfaces ≤ 256) }
+    /// Before the first line.
+    fn new(alloc: Global) -> Reading
+        ensures start { result ≡ start }
+        ensures fit { IsFit result.file }
     {
-        if is_too_many(&self.file, &interface_named(&command)) {
+        Reading {
+            file: RouterText::new(alloc),
+            block: OpenBlock::Closed,
+        }
+    }
+
+    /// Puts what a command says.
+    fn put_command(&mut self, line: &Line, command: Command) -> Result<(), ReadError>
+        requires in_range { IsInRange command }
+        requires fits { FitsFile self.old.file command }
+        requires fit { IsFit self.old.file }
+        ensures step { Leaves result self.new (with_command line.now.number self.old command) }
+        ensures fit { OnOk result (IsFit self.new.file) }
+    {
+        if is_too_many(&self.file, &command) {
             return Err(refused(line, FileCause::TooManyInterfaces));
         }
-        let place = place_after(at, &command);
-        let Reading { file, place: _ } = self;
-        match file.put(command) {
-            Ok(file) => Ok(Reading { file, place }),
+        self.block = block_after(&self.block, &command);
+        match self.file.apply(command) {
+            Ok(()) => Ok(()),
             Err(_) => Err(ReadError::Memory),
         }
     }
 
-    /// After a line whose opening is passed over: no more than the open block changes. Most lines are such, and the model
-    /// is not touched for them.
-    fn passed(self, at: &OpenBlock) -> Reading
-        ensures { result ≡ record self { place = open_after at.now Command.Passed } }
+    /// Passes over a line by its opening: no more than the open block changes.
+    fn pass(&mut self)
+        ensures { self.new ≡ record self.old { block = open_after self.old.block Command.Passed } }
     {
-        let Reading { file, place: _ } = self;
-        Reading {
-            file,
-            place: place_after(at, &Command::Passed),
-        }
+        self.block = block_after(&self.block, &Command::Passed);
     }
 
-    fn with_text(self, alloc: Global, line: &Line) -> Result<Reading, ReadError>
-        requires { HasLawfulLists self.file }
-        ensures step { Gives result (with_text self line.now) }
-        ensures lawful { IfOk result (λ r. HasLawfulInterfaces self.file → HasLawfulInterfaces r.file) }
-        ensures routes { IfOk result (λ r. HasLawfulRoutes self.file → HasLawfulRoutes r.file) }
-        ensures lists { IfOk result (λ r. HasLawfulLists r.file) }
-        ensures few { IfOk result (λ r. length self.file.interfaces ≤ 256 → length r.file.interfaces ≤ 256) }
+    /// Puts what a line says in the block where it stands.
+    fn put_said(&mut self, line: &Line) -> Result<(), ReadError>
+        requires { IsFit self.old.file }
+        ensures step { Leaves result self.new (with_said self.old line.now) }
+        ensures fit { OnOk result (IsFit self.new.file) }
     {
-        if is_passed_over(line) {
-            return Ok(self);
-        }
-        let at = place_of(&self.place, line);
-        let said = read_line(alloc, line, &at, &self.file);
+        let context = Context {
+            block: self.block,
+            file: &self.file,
+        };
+        let said = read_line(line, context);
         match said {
-            Ok(Command::Passed) => Ok(self.passed(&at)),
-            Ok(command) => self.with_command(line, &at, command),
+            Ok(Command::Passed) => {
+                self.pass();
+                Ok(())
+            }
+            Ok(command) => self.put_command(line, command),
             Err(error) => Err(unread(line, error)),
         }
     }
 
-    fn closed(self) -> Reading
-        ensures { result ≡ record self { place = OpenBlock.Closed } }
+    /// Goes to the block where a line stands.
+    fn go_to(&mut self, line: &Line)
+        ensures { self.new ≡ at_line self.old line.now.text }
     {
-        let Reading { file, place: _ } = self;
-        Reading {
-            file,
-            place: OpenBlock::Closed,
+        if line.is_flush() {
+            self.block = OpenBlock::Global;
         }
     }
 
-    /// One line more.
+    /// Puts what a line outside banners says.
+    fn put_text(&mut self, line: &Line) -> Result<(), ReadError>
+        requires { IsFit self.old.file }
+        ensures step { Leaves result self.new (with_text self.old line.now) }
+        ensures fit { OnOk result (IsFit self.new.file) }
+    {
+        if is_passed_over(line) {
+            return Ok(());
+        }
+        self.go_to(line);
+        self.put_said(line)
+    }
+
+    /// Puts one line more.
     #[tactic(auto, unfolding(crate::specs::File::step))]
-    fn with_line(self, alloc: Global, line: &Line) -> Result<Reading, ReadError>
-        requires { HasLawfulLists self.file }
-        ensures step { Gives result (step self line.now) }
-        ensures lawful { IfOk result (λ r. HasLawfulInterfaces self.file → HasLawfulInterfaces r.file) }
-        ensures routes { IfOk result (λ r. HasLawfulRoutes self.file → HasLawfulRoutes r.file) }
-        ensures lists { IfOk result (λ r. HasLawfulLists r.file) }
-        ensures few { IfOk result (λ r. length self.file.interfaces ≤ 256 → length r.file.interfaces ≤ 256) }
+    fn put_line(&mut self, line: &Line) -> Result<(), ReadError>
+        requires { IsFit self.old.file }
+        ensures step { Leaves result self.new (step self.old line.now) }
+        ensures fit { OnOk result (IsFit self.new.file) }
     {
         if line.is_too_long() {
             return Err(refused(line, FileCause::LineTooLong));
         }
         match line.part() {
-            Part::Plain => self.with_text(alloc, line),
-            Part::InBanner => Ok(self),
-            Part::Banner => Ok(self.closed()),
+            Part::Plain => self.put_text(line),
+            Part::InBanner => Ok(()),
+            Part::Banner => {
+                self.block = OpenBlock::Closed;
+                Ok(())
+            }
             Part::ShortBanner => Err(refused(line, FileCause::Line(LineRefusal::BadValue))),
             Part::OpenBanner => Err(refused(line, FileCause::OpenBanner)),
         }
     }
-}
 
-fn read_lines(alloc: Global, bytes: &[u8]) -> Result<Reading, ReadError>
-    ensures lines { Gives result (with_lines (Ok start) (lines_of bytes.now)) }
-    ensures lawful { IfOk result (λ r. HasLawfulInterfaces r.file) }
-    ensures routes { IfOk result (λ r. HasLawfulRoutes r.file) }
-    ensures lists { IfOk result (λ r. HasLawfulLists r.file) }
-    ensures few { IfOk result (λ r. length r.file.interfaces ≤ 256) }
-{
-    let mut lines = Lines::new(bytes);
-    let mut reading = Reading {
-        file: RouterText::new(alloc),
-        place: OpenBlock::Closed,
-    };
-    while let Some(line) = lines.next() {
-        match reading.with_line(alloc, &line) {
-            Ok(next) => reading = next,
-            Err(error) => return Err(error),
+    /// Puts all lines of a file.
+    fn put_lines(&mut self, bytes: &[u8]) -> Result<(), ReadError>
+        requires { IsFit self.old.file }
+        ensures lines { Leaves result self.new (with_lines (Ok self.old) (lines_of bytes.now)) }
+        ensures fit { OnOk result (IsFit self.new.file) }
+    {
+        let mut lines = Lines::new(bytes);
+        while let Some(line) = lines.next() {
+            match self.put_line(&line) {
+                Ok(()) => {}
+                Err(error) => return Err(error),
+            }
+        }
+        Ok(())
+    }
+
+    /// The model, where a line gives the host name.
+    fn finished(self) -> Result<RouterText, ReadError>
+        requires { IsFit self.file }
+        ensures file { Gives result (with_host (Ok self)) }
+        ensures lawful { IfOk result IsLawfulFile }
+    {
+        let Reading { file, block: _ } = self;
+        if file.host.is_some() {
+            Ok(file)
+        } else {
+            Err(ReadError::Refused(FileRefusal {
+                line: 0,
+                cause: FileCause::NoHostName,
+            }))
         }
     }
-    Ok(reading)
 }
 
 /// The model of a file's bytes.
 ///
 /// It errs exactly where the file is refused, with the least line that is and its cause, or 0 where no line gives the
-/// host name; and where memory runs out.
+/// host name (`first_refusal`); and where memory runs out.
 #[tactic(auto, unfolding(crate::specs::File::file_of))]
 pub fn read_file(alloc: Global, bytes: &[u8]) -> Result<RouterText, ReadError>
     ensures file { Gives result (file_of bytes.now) }
     ensures lawful { IfOk result IsLawfulFile }
 {
-    match read_lines(alloc, bytes) {
+    let mut reading = Reading::new(alloc);
+    match reading.put_lines(bytes) {
+        Ok(()) => reading.finished(),
         Err(error) => Err(error),
-        Ok(reading) => {
-            let Reading { file, place: _ } = reading;
-            if file.host.is_some() {
-                Ok(file)
-            } else {
-                Err(ReadError::Refused(FileRefusal {
-                    line: 0,
-                    cause: FileCause::NoHostName,
-                }))
-            }
-        }
     }
 }
+
+/// The refusal of a file is that of the least line that is refused, where every line before it is taken; and that of the host
+/// name where all lines are taken.
+pub fn first_refusal()
+    ensures { RefusesTheFirst }
+{}

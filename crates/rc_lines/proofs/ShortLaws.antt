@@ -1,10 +1,10 @@
 -- A banner line is short exactly where it has fewer than three words.
-use Rattle.std.proofs.Common.{refl, ◌≡◌, ◌∙◌, ◌↔◌, sym, ap, subst, ℕ, suc, ◌+◌, ◌≤◌, ◌==◌, ◌&&◌, Bool, true, false, cond, List, [], ◌∷◌, length, drop, Option, Some, None, arith}
+use Rattle.std.proofs.Common.{refl, ◌≡◌, ◌∙◌, sym, ap, ℕ, suc, ◌≤◌, ◌==◌, ◌&&◌, Bool, true, false, cond, List, [], ◌∷◌, length, drop, Some, None, arith}
 use Rattle.std.specs.List.{slice_split, filter, onto_first}
 use Rattle.std.proofs.lemmas.Option.{none-some}
 use Rattle.rc_lines.specs.declared.banner.Delimiter.TheVariants.{Byte, ControlC}
 use Rattle.rc_openings.specs.Words.{is_blank, has_bytes, words_of}
-use Rattle.rc_lines.specs.Banners.{from_word, behind_word, third_word_on, Opened, opened_at, opened, ShortBannersHaveTwoWords}
+use Rattle.rc_lines.specs.Banners.{from_word, behind_word, third_word_on, Opened, opened_at, ShortBannersHaveTwoWords}
 
 -- leading blanks are no word
 from_word-words : (text : List ℕ) → words_of (from_word text) ≡ words_of text

@@ -2,8 +2,8 @@
 --
 -- A banner begins with a line without indent whose first word is `banner` and which has at least three words. The
 -- delimiter is `^C` where the third word begins with these two bytes, else the third word's first byte. The banner ends
--- with the first place after it, on that line or a later one, that holds the delimiter again.
-use Rattle.std.specs.Prelude.{◌≡◌, ◌≤◌, ℕ, ◌==◌, Bool, true, false, ◌&&◌, ◌||◌, if◌then◌else◌, List, [], ◌∷◌, length, take_while, codes, Option, Some, None}
+-- where the delimiter comes again first, behind it on that line or on a later one.
+use Rattle.std.specs.Prelude.{◌≡◌, ◌≤◌, ℕ, ◌==◌, Bool, false, ◌&&◌, ◌||◌, if◌then◌else◌, List, [], ◌∷◌, length, take_while, codes, Option, Some, None}
 use Rattle.std.specs.List.{list_any}
 use Rattle.std.specs.Str.{bytes_eq}
 use Rattle.rc_openings.specs.Words.{is_blank, words_of}

@@ -26,7 +26,7 @@ pub enum Part {
 }
 
 /// What ends a banner.
-#[derive(Clone, Copy, PartialEq, Eq)]
+#[derive(Clone, Copy)]
 pub enum Delimiter {
     Byte(u8),
     /// The two bytes `^C`.

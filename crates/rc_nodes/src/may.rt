@@ -10,6 +10,7 @@ pub trait May {
 }
 
 /// The trees of the destinations under some prefixes: the nodes of each prefix's chain.
+#[derive(Drop)]
 pub struct Chains<'a> {
     pub prefixes: &'a [Prefix],
 }

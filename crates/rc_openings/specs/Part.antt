@@ -1,5 +1,6 @@
 -- The parts of a line: each is read from the words in front of it, and leaves the words behind it.
-use Rattle.std.specs.Prelude.{◌≡◌, ℕ, List, Option, Some, None}
+use Rattle.std.specs.Prelude.{◌≡◌, ℕ, List, [], ◌∷◌, Option, Some, None, option_map}
+use Rattle.std.specs.Option.{option_and_then}
 use Rattle.rc_openings.specs.declared.words.Words.{Words}
 use Rattle.rc_openings.specs.Words.{words_left}
 
@@ -26,3 +27,8 @@ before rest (Some value) = Some (value, rest)
 abbrev pub IsPart : {T : Type 0} → Part T → Option (T × Words) → Type 0
 IsPart part None = part ≡ None
 IsPart part (Some p) = part ≡ Some (p.0, words_left p.1)
+
+-- the values of words, where each has one
+abbrev pub each_value : {T : Type 0} → (List ℕ → Option T) → List (List ℕ) → Option (List T)
+each_value value_of [] = Some []
+each_value value_of (w ∷ ws) = option_and_then (λ x. option_map (λ xs. x ∷ xs) (each_value value_of ws)) (value_of w)

@@ -19,8 +19,6 @@ mod ospf;
 mod reading;
 mod route_map;
 mod table;
-#[cfg(test)]
-mod tests;
 mod values;
 mod words;
 

@@ -11,8 +11,6 @@ mod conditions;
 mod prefix_lists;
 mod route_maps;
 mod setting;
-#[cfg(test)]
-mod tests;
 
 pub use attrs::Attrs;
 pub use community_lists::community_list_permits;

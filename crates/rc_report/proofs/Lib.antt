@@ -1,1 +1,1 @@
-pub mod InHandLaws
+mod LineLaws

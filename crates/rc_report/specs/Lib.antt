@@ -1,4 +1,3 @@
-pub mod InHand
 pub mod Parts
 pub mod RouteText
 pub mod WalkText

@@ -16,6 +16,3 @@ pub use part::Part;
 pub use put::{SinkFault, end_line, put_line, put_parts};
 pub use routes::put_routes;
 pub use walks::put_walk;
-
-#[cfg(test)]
-mod tests;

@@ -5,7 +5,7 @@ ghost use Rattle.rc_report.specs.RouteText.{interface_name, router_name};
 use rc_base::{IfId, RouterId};
 use rc_config::Network;
 
-/// The host name of a router, empty where the network has none of this place.
+/// The host name of a router, empty where the network has none of this index.
 pub(crate) fn router_name(net: &Network, router: RouterId) -> &[u8]
     ensures { result.now ≡ router_name net.now router }
 {
@@ -16,7 +16,7 @@ pub(crate) fn router_name(net: &Network, router: RouterId) -> &[u8]
     }
 }
 
-/// The name of an interface, empty where the network has none of this place.
+/// The name of an interface, empty where the network has none of this index.
 pub(crate) fn interface_name(net: &Network, interface: IfId) -> &[u8]
     ensures { result.now ≡ interface_name net.now interface }
 {

@@ -1,8 +1,6 @@
 //! The routes of a router, as lines.
-ghost use Rattle.std.specs.Prelude.{◌≡◌, ◌≤◌, ◌++◌, codes, flat_map, OnOk, OnErr};
-ghost use Rattle.rc_outside.specs.Causes.{Rose};
-ghost use Rattle.rc_outside.specs.Sink.{appended, AppendsFront};
-ghost use Rattle.rc_report.specs.InHand.{HasPut};
+ghost use Rattle.std.specs.Prelude.{◌≡◌, ◌++◌, codes, flat_map};
+ghost use Rattle.rc_outside.specs.Put.{IsPut, IsPutByHand};
 ghost use Rattle.rc_report.specs.Parts.{part_text};
 ghost use Rattle.rc_report.specs.RouteText.{hop_text, interface_name, route_head, route_line, router_line, router_name, routes_text, source_text};
 
@@ -93,18 +91,11 @@ fn put_hops<S: Sink>(
     net: &Network,
     hops: &[Hop],
 ) -> Result<(), SinkFault>
-    ensures ok { OnOk result (HasPut (S.told out.old) (S.told out.new) (line.old ++ flat_map (hop_text net.now) hops.now) line.new) }
-    ensures err { OnErr result (AppendsFront (S.told out.old) (S.told out.new) (line.old ++ flat_map (hop_text net.now) hops.now)) }
-    ensures left { OnOk result (S.faults out.new ≡ S.faults out.old) }
-    ensures later { S.faults out.old ≤ S.faults out.new }
-    ensures cause { OnErr result (Rose (S.faults out.old) (S.faults out.new)) }
+    ensures { IsPutByHand S.Sink out.old out.new result (line.old ++ flat_map (hop_text net.now) hops.now) line.new }
 {
     for hop in hops {
         let parts = hop_parts(net, hop);
-        match put_parts(out, line, &parts) {
-            Ok(()) => {}
-            Err(fault) => return Err(fault),
-        }
+        put_parts(out, line, &parts)?;
     }
     Ok(())
 }
@@ -116,31 +107,19 @@ fn put_open_route<S: Sink>(
     net: &Network,
     route: &Route,
 ) -> Result<(), SinkFault>
-    ensures ok { OnOk result (HasPut (S.told out.old) (S.told out.new) (line.old ++ (route_head route.now ++ flat_map (hop_text net.now) route.now.hops)) line.new) }
-    ensures err { OnErr result (AppendsFront (S.told out.old) (S.told out.new) (line.old ++ (route_head route.now ++ flat_map (hop_text net.now) route.now.hops))) }
-    ensures left { OnOk result (S.faults out.new ≡ S.faults out.old) }
-    ensures later { S.faults out.old ≤ S.faults out.new }
-    ensures cause { OnErr result (Rose (S.faults out.old) (S.faults out.new)) }
+    ensures { IsPutByHand S.Sink out.old out.new result (line.old ++ (route_head route.now ++ flat_map (hop_text net.now) route.now.hops)) line.new }
 {
     let parts = head_parts(route);
-    match put_parts(out, line, &parts) {
-        Ok(()) => put_hops(out, line, net, route.hops.as_slice()),
-        Err(fault) => Err(fault),
-    }
+    put_parts(out, line, &parts)?;
+    put_hops(out, line, net, route.hops.as_slice())
 }
 
 /// Ends a line by a line feed.
 fn close_line<S: Sink>(out: &mut S, line: &mut Buffer) -> Result<(), SinkFault>
-    ensures ok { OnOk result (S.told out.new ≡ appended (S.told out.old) (line.old ++ codes "\n")) }
-    ensures err { OnErr result (AppendsFront (S.told out.old) (S.told out.new) (line.old ++ codes "\n")) }
-    ensures left { OnOk result (S.faults out.new ≡ S.faults out.old) }
-    ensures later { S.faults out.old ≤ S.faults out.new }
-    ensures cause { OnErr result (Rose (S.faults out.old) (S.faults out.new)) }
+    ensures { IsPut S.Sink out.old out.new result (line.old ++ codes "\n") }
 {
-    match put_parts(out, line, &[Part::Text(b"\n")]) {
-        Ok(()) => end_line(out, line),
-        Err(fault) => Err(fault),
-    }
+    put_parts(out, line, &[Part::Text(b"\n")])?;
+    end_line(out, line)
 }
 
 fn put_route<S: Sink>(
@@ -149,17 +128,11 @@ fn put_route<S: Sink>(
     net: &Network,
     route: &Route,
 ) -> Result<(), SinkFault>
-    ensures ok { OnOk result (S.told out.new ≡ appended (S.told out.old) (route_line net.now route.now)) }
-    ensures err { OnErr result (AppendsFront (S.told out.old) (S.told out.new) (route_line net.now route.now)) }
-    ensures left { OnOk result (S.faults out.new ≡ S.faults out.old) }
-    ensures later { S.faults out.old ≤ S.faults out.new }
-    ensures cause { OnErr result (Rose (S.faults out.old) (S.faults out.new)) }
+    ensures { IsPut S.Sink out.old out.new result (route_line net.now route.now) }
 {
     line.clear();
-    match put_open_route(out, line, net, route) {
-        Ok(()) => close_line(out, line),
-        Err(fault) => Err(fault),
-    }
+    put_open_route(out, line, net, route)?;
+    close_line(out, line)
 }
 
 fn put_table<S: Sink>(
@@ -168,17 +141,10 @@ fn put_table<S: Sink>(
     net: &Network,
     routes: &[Route],
 ) -> Result<(), SinkFault>
-    ensures ok { OnOk result (S.told out.new ≡ appended (S.told out.old) (flat_map (route_line net.now) routes.now)) }
-    ensures err { OnErr result (AppendsFront (S.told out.old) (S.told out.new) (flat_map (route_line net.now) routes.now)) }
-    ensures left { OnOk result (S.faults out.new ≡ S.faults out.old) }
-    ensures later { S.faults out.old ≤ S.faults out.new }
-    ensures cause { OnErr result (Rose (S.faults out.old) (S.faults out.new)) }
+    ensures { IsPut S.Sink out.old out.new result (flat_map (route_line net.now) routes.now) }
 {
     for route in routes {
-        match put_route(out, line, net, route) {
-            Ok(()) => {}
-            Err(fault) => return Err(fault),
-        }
+        put_route(out, line, net, route)?;
     }
     Ok(())
 }
@@ -189,11 +155,7 @@ fn put_router<S: Sink>(
     net: &Network,
     router: RouterId,
 ) -> Result<(), SinkFault>
-    ensures ok { OnOk result (S.told out.new ≡ appended (S.told out.old) (router_line (router_name net.now router))) }
-    ensures err { OnErr result (AppendsFront (S.told out.old) (S.told out.new) (router_line (router_name net.now router))) }
-    ensures left { OnOk result (S.faults out.new ≡ S.faults out.old) }
-    ensures later { S.faults out.old ≤ S.faults out.new }
-    ensures cause { OnErr result (Rose (S.faults out.old) (S.faults out.new)) }
+    ensures { IsPut S.Sink out.old out.new result (router_line (router_name net.now router)) }
 {
     let parts = router_parts(net, router);
     put_line(out, line, &parts)
@@ -220,14 +182,8 @@ pub fn put_routes<S: Sink>(
     router: RouterId,
     table: &Table,
 ) -> Result<(), SinkFault>
-    ensures ok { OnOk result (S.told out.new ≡ appended (S.told out.old) (routes_text net.now router table.now)) }
-    ensures err { OnErr result (AppendsFront (S.told out.old) (S.told out.new) (routes_text net.now router table.now)) }
-    ensures left { OnOk result (S.faults out.new ≡ S.faults out.old) }
-    ensures later { S.faults out.old ≤ S.faults out.new }
-    ensures cause { OnErr result (Rose (S.faults out.old) (S.faults out.new)) }
+    ensures { IsPut S.Sink out.old out.new result (routes_text net.now router table.now) }
 {
-    match put_router(out, line, net, router) {
-        Ok(()) => put_table(out, line, net, table.as_slice()),
-        Err(fault) => Err(fault),
-    }
+    put_router(out, line, net, router)?;
+    put_table(out, line, net, table.as_slice())
 }

@@ -1,7 +1,6 @@
 //! The walk of a packet, as lines.
-ghost use Rattle.std.specs.Prelude.{◌≡◌, ◌≤◌, flat_map, OnOk, OnErr};
-ghost use Rattle.rc_outside.specs.Causes.{Rose};
-ghost use Rattle.rc_outside.specs.Sink.{appended, AppendsFront};
+ghost use Rattle.std.specs.Prelude.{◌≡◌, flat_map};
+ghost use Rattle.rc_outside.specs.Put.{IsPut};
 ghost use Rattle.rc_report.specs.Parts.{part_text};
 ghost use Rattle.rc_report.specs.WalkText.{kind_text, position_line, stop_line, walk_text};
 
@@ -71,17 +70,10 @@ fn put_positions<S: Sink>(
     net: &Network,
     positions: &[Pos],
 ) -> Result<(), SinkFault>
-    ensures ok { OnOk result (S.told out.new ≡ appended (S.told out.old) (flat_map (position_line net.now) positions.now)) }
-    ensures err { OnErr result (AppendsFront (S.told out.old) (S.told out.new) (flat_map (position_line net.now) positions.now)) }
-    ensures left { OnOk result (S.faults out.new ≡ S.faults out.old) }
-    ensures later { S.faults out.old ≤ S.faults out.new }
-    ensures cause { OnErr result (Rose (S.faults out.old) (S.faults out.new)) }
+    ensures { IsPut S.Sink out.old out.new result (flat_map (position_line net.now) positions.now) }
 {
     for position in positions {
-        match put_position(out, line, net, position) {
-            Ok(()) => {}
-            Err(fault) => return Err(fault),
-        }
+        put_position(out, line, net, position)?;
     }
     Ok(())
 }
@@ -92,22 +84,14 @@ fn put_position<S: Sink>(
     net: &Network,
     position: &Pos,
 ) -> Result<(), SinkFault>
-    ensures ok { OnOk result (S.told out.new ≡ appended (S.told out.old) (position_line net.now position.now)) }
-    ensures err { OnErr result (AppendsFront (S.told out.old) (S.told out.new) (position_line net.now position.now)) }
-    ensures left { OnOk result (S.faults out.new ≡ S.faults out.old) }
-    ensures later { S.faults out.old ≤ S.faults out.new }
-    ensures cause { OnErr result (Rose (S.faults out.old) (S.faults out.new)) }
+    ensures { IsPut S.Sink out.old out.new result (position_line net.now position.now) }
 {
     let parts = position_parts(net, position);
     put_line(out, line, &parts)
 }
 
 fn put_stop<S: Sink>(out: &mut S, line: &mut Buffer, stop: Stop) -> Result<(), SinkFault>
-    ensures ok { OnOk result (S.told out.new ≡ appended (S.told out.old) (stop_line stop)) }
-    ensures err { OnErr result (AppendsFront (S.told out.old) (S.told out.new) (stop_line stop)) }
-    ensures left { OnOk result (S.faults out.new ≡ S.faults out.old) }
-    ensures later { S.faults out.old ≤ S.faults out.new }
-    ensures cause { OnErr result (Rose (S.faults out.old) (S.faults out.new)) }
+    ensures { IsPut S.Sink out.old out.new result (stop_line stop) }
 {
     let parts = stop_parts(stop);
     put_line(out, line, &parts)
@@ -121,14 +105,8 @@ pub fn put_walk<S: Sink>(
     net: &Network,
     walk: &Walk,
 ) -> Result<(), SinkFault>
-    ensures ok { OnOk result (S.told out.new ≡ appended (S.told out.old) (walk_text net.now walk.now)) }
-    ensures err { OnErr result (AppendsFront (S.told out.old) (S.told out.new) (walk_text net.now walk.now)) }
-    ensures left { OnOk result (S.faults out.new ≡ S.faults out.old) }
-    ensures later { S.faults out.old ≤ S.faults out.new }
-    ensures cause { OnErr result (Rose (S.faults out.old) (S.faults out.new)) }
+    ensures { IsPut S.Sink out.old out.new result (walk_text net.now walk.now) }
 {
-    match put_positions(out, line, net, walk.positions.as_slice()) {
-        Ok(()) => put_stop(out, line, walk.stop),
-        Err(fault) => Err(fault),
-    }
+    put_positions(out, line, net, walk.positions.as_slice())?;
+    put_stop(out, line, walk.stop)
 }

@@ -3,8 +3,8 @@ use Rattle.std.specs.Prelude.{◌≡◌, ℕ, ◌+◌, ◌*◌, true, List, [], 
 use Rattle.rc_base.specs.Prefix.{Cidr, prefix_at}
 use Rattle.rc_base.specs.declared.position.IfId.{IfId}
 use Rattle.rc_config.specs.Down.{Entries}
-use Rattle.rc_config.specs.Lists.{no_lists}
 use Rattle.rc_config.specs.Interface.{fresh}
+use Rattle.rc_config.specs.Update.{empty}
 use Rattle.rc_config.specs.declared.router_text.RouterText.{RouterText}
 use Rattle.rc_config.specs.declared.static_route.StaticRoute.{StaticRoute}
 use Rattle.rc_config.specs.declared.static_route.Target.{Target}
@@ -37,7 +37,7 @@ abbrev interfaces : Entries
 interfaces = (first, record fresh { primary = Some (record { addr = address 1 1; len = 24 }) }) ∷ (second, record fresh { primary = Some (record { addr = address 2 1; len = 24 }) }) ∷ []
 
 abbrev file : List StaticRoute → RouterText
-file lines = record { host = None; interfaces = interfaces; static_routes = lines; lists = no_lists; route_maps = [] }
+file lines = record empty { interfaces = interfaces; static_routes = lines }
 
 abbrev line : Cidr → Target → ℕ → StaticRoute
 line p t d = record { prefix = p; target = t; distance = d }
@@ -115,12 +115,12 @@ undeclared = refl
 abbrev shut : Entries
 shut = (first, record fresh { shutdown = true }) ∷ (codes "Gi0/0.7", fresh) ∷ []
 
-pub over_shut : table_after 7 (record { host = None; interfaces = shut; static_routes = line (subnet 9) (target.Dev first) 1 ∷ line (subnet 8) (target.Dev (codes "Gi0/0.7")) 1 ∷ []; lists = no_lists; route_maps = [] }) [] ≡ []
+pub over_shut : table_after 7 (record empty { interfaces = shut; static_routes = line (subnet 9) (target.Dev first) 1 ∷ line (subnet 8) (target.Dev (codes "Gi0/0.7")) 1 ∷ [] }) [] ≡ []
 unfolding connected static_routes best_routes hops_within
 over_shut = refl
 
 -- an interface needs no address
-pub over_unnumbered : table_after 7 (record { host = None; interfaces = (first, fresh) ∷ []; static_routes = line (subnet 9) (target.Dev first) 1 ∷ []; lists = no_lists; route_maps = [] }) [] ≡ static (subnet 9) 1 (Dev (interface 0) ∷ []) ∷ []
+pub over_unnumbered : table_after 7 (record empty { interfaces = (first, fresh) ∷ []; static_routes = line (subnet 9) (target.Dev first) 1 ∷ [] }) [] ≡ static (subnet 9) 1 (Dev (interface 0) ∷ []) ∷ []
 unfolding connected static_routes best_routes hops_within
 over_unnumbered = refl
 

@@ -11,6 +11,3 @@ mod rounds;
 
 pub use outcome::Outcome;
 pub use rounds::{one_outcome, run_rounds};
-
-#[cfg(test)]
-mod tests;

@@ -9,8 +9,6 @@ mod hops;
 mod path;
 mod route;
 mod state;
-#[cfg(test)]
-mod tests;
 
 pub use hops::Hops;
 pub use path::{BgpPath, PathSource, compare_path_sources};

@@ -12,8 +12,6 @@ mod port;
 mod ports;
 mod prefix_set;
 mod takers;
-#[cfg(test)]
-mod tests;
 
 pub use linked::Linked;
 pub use links::Links;

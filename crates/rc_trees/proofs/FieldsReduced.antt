@@ -18,7 +18,7 @@ module _ (last : ℕ) (bit : last < 104) where
   not_never v false t other = λ e. absurd (cc)
 
   -- a tree of k bits tests none before the first of them
-  abbrev IsOfBits : ℕ → Tree → Type 0
+  abbrev pub IsOfBits : ℕ → Tree → Type 0
   IsOfBits k t = Starts (last + 1 - k) t × (t ≢ never)
 
   step : (k : ℕ) (skip one : Bool) (t : Tree) → k < last + 1 → IsOfBits k t → IsOfBits (suc k) (with_bit skip one (last - k) t)
@@ -30,7 +30,7 @@ module _ (last : ℕ) (bit : last < 104) where
       let start = ok.0.1 in
       ((((let x : last - k < top t = omega arith in x), (let x : last - k < top never = omega arith in x), ok.1, ok.0.0, tt), (let x : last + 1 - suc k ≤ last - k = omega arith in x)), λ e. absurd (cc))
 
-  masked-bits : (count w n : ℕ) → count ≤ last + 1 → IsOfBits count (masked last count w n)
+  pub masked-bits : (count w n : ℕ) → count ≤ last + 1 → IsOfBits count (masked last count w n)
   unfolding masked
   masked-bits zero w n le = ((tt, (let x : last + 1 - zero ≤ top always = omega arith in x)), λ e. absurd (cc))
   masked-bits (suc k) w n le = step k (is_set w k) (is_set n k) (masked last k w n) (omega arith) (masked-bits k w n (omega arith))

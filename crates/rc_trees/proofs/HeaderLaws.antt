@@ -7,7 +7,8 @@ use Rattle.std.proofs.lemmas.Nat.{pow-add}
 use Rattle.rc_base.specs.declared.header.Header.{Header}
 use Rattle.rc_trees.specs.Trees.{Tree, holds, IsReduced}
 use Rattle.rc_trees.proofs.OneTree.{by_bits, one_tree}
-use Rattle.rc_trees.specs.Headers.{IsHeader, bit, is_set}
+use Rattle.rc_base.specs.Header.{IsHeader}
+use Rattle.rc_trees.specs.Headers.{bit, is_set}
 use Rattle.rc_trees.proofs.FieldLaws.{reads_dport, reads_dst, reads_proto, reads_sport, reads_src}
 
 -- ---- a number from its bits

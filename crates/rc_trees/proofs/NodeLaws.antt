@@ -1,5 +1,7 @@
 -- Which trees a list has.
-use Rattle.std.proofs.Common.{refl, inl, inr, List}
+use Rattle.std.proofs.Common.{refl, inl, inr, List, [], ◌∷◌, ◌++◌}
+use Rattle.rc_base.specs.Prefix.{Cidr}
+use Rattle.rc_trees.specs.Fields.{chain, chain_nodes}
 use Rattle.rc_trees.specs.Trees.{Tree, never, always, node, IsAmong, HasNodes, HasNodesOf}
 use Rattle.rc_trees.specs.Parts.{subtrees}
 use Rattle.rc_trees.specs.Recipes.{Recipe, tree, nodes, parts}
@@ -29,3 +31,8 @@ module _ (may : List Tree) where
 -- a recipe's nodes have those of its tree
 pub nodes_have_tree : (r : Recipe) → HasNodesOf (nodes r) (tree r)
 nodes_have_tree r = has_recipe (nodes r) r (nodes_of_parts r)
+
+-- the nodes of the chains of some prefixes have those of each one's chain
+pub chains_have : (ps : List Cidr) (p : Cidr) (qs : List Cidr) → HasNodesOf (chain_nodes (ps ++ p ∷ qs)) (tree (chain p))
+chains_have [] p qs = has-more (nodes (chain p)) (chain_nodes (p ∷ qs)) (λ u there. in-left u (nodes (chain p)) (chain_nodes qs) there) (tree (chain p)) (nodes_have_tree (chain p))
+chains_have (q ∷ ps) p qs = has-more (chain_nodes (ps ++ p ∷ qs)) (chain_nodes (q ∷ ps ++ p ∷ qs)) (λ u there. in-right u (nodes (chain q)) (chain_nodes (ps ++ p ∷ qs)) there) (tree (chain p)) (chains_have ps p qs)

@@ -1,15 +1,7 @@
 -- The 104 bits of a packet header.
-use Rattle.std.specs.Prelude.{ℕ, ◌-◌, ◌^◌, ◌<◌, ◌==◌, Bool, nat_lt, if◌then◌else◌}
+use Rattle.std.specs.Prelude.{ℕ, ◌-◌, ◌==◌, Bool, nat_lt, if◌then◌else◌}
 use Rattle.std.specs.Int.{bit_at}
 use Rattle.rc_base.specs.declared.header.Header.{Header}
-
--- each field fits its bits: two addresses of 32, a protocol of 8, two ports of 16
-pub record IsHeader (h : Header) : Type 0 where
-  pub dst : h.dst < 2 ^ 32
-  pub src : h.src < 2 ^ 32
-  pub proto : h.proto < 2 ^ 8
-  pub sport : h.sport < 2 ^ 16
-  pub dport : h.dport < 2 ^ 16
 
 -- the bit of weight 2 ^ k of a number is 1
 abbrev pub is_set : ℕ → ℕ → Bool

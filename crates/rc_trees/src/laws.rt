@@ -1,10 +1,10 @@
 //! What decision trees say of headers (Bryant 1986).
 ghost use Rattle.std.specs.Prelude.{◌≡◌, ◌↔◌, ◌<◌, ◌≤◌, Bool, not, ◌&&◌, ◌||◌};
+ghost use Rattle.rc_base.specs.Header.{IsHeader};
 ghost use Rattle.rc_base.specs.Prefix.{Cidr, contains};
 ghost use Rattle.rc_base.specs.declared.header.Header.{Header};
 ghost use Rattle.rc_trees.specs.Combine.{joined, combined, and, or, minus};
 ghost use Rattle.rc_trees.specs.Fields.{chain};
-ghost use Rattle.rc_trees.specs.Headers.{IsHeader};
 ghost use Rattle.rc_trees.specs.Parts.{parts, subtrees};
 ghost use Rattle.rc_trees.specs.Recipes.{has};
 ghost use Rattle.rc_trees.specs.Trees.{Tree, IsAmong, IsReduced, first_of, high_side, holds, low_side};

@@ -7,6 +7,7 @@ use Rattle.rc_base.specs.declared.position.IfId.{IfId}
 use Rattle.rc_config.specs.AccessList.{any_address, host_address, no_lines, standard_line, with_line}
 use Rattle.rc_config.specs.Interface.{fresh}
 use Rattle.rc_config.specs.Lists.{no_lists}
+use Rattle.rc_config.specs.Update.{empty as empty_file}
 use Rattle.rc_config.specs.declared.access_list.Action.TheVariants.{Deny, Permit}
 use Rattle.rc_config.specs.declared.access_list.AccessList.{AccessList}
 use Rattle.rc_config.specs.declared.access_list.AccessListKind.TheVariants.{Standard}
@@ -51,7 +52,7 @@ lo0 = codes "Loopback0"
 
 -- the network of routers RA, RB and so on with these interfaces
 abbrev pub network : List (List (List ℕ × Interface)) → Network
-network routers = record { routers = map (λ e. (82 ∷ (e.0 + 65) ∷ [], record { host = None; interfaces = e.1; static_routes = []; lists = no_lists; route_maps = [] })) (enumerate_from 0 routers) }
+network routers = record { routers = map (λ e. (82 ∷ (e.0 + 65) ∷ [], record empty_file { interfaces = e.1 })) (enumerate_from 0 routers) }
 
 -- ---- access lists
 

@@ -9,8 +9,6 @@ mod laws;
 mod plane;
 mod sending;
 mod steps;
-#[cfg(test)]
-mod tests;
 mod walk;
 mod walked;
 mod walking;

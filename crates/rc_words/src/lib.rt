@@ -10,8 +10,6 @@ mod app;
 mod laws;
 mod reading;
 mod request;
-#[cfg(test)]
-mod tests;
 
 pub use laws::{
     first_word_is_a_command, numbers_are_in_range, plain_words_are_taken, refused_as_by_clap,

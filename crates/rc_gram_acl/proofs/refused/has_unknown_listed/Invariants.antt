@@ -1,7 +1,7 @@
 use Rattle.std.proofs.Common.{◌≡◌, length}
 use Rattle.std.specs.List.{list_any}
 use Rattle.rc_openings.specs.Words.{words_left}
-use Rattle.rc_gram_acl.specs.Refused.{until_end}
+use Rattle.rc_gram_acl.specs.Port.{until_end}
 use Rattle.rc_gram_acl.specs.Values.{is_unknown_port}
 use Rattle.rc_gram_acl.proofs.refused.has_unknown_listed.Given as goal
 

@@ -1,13 +1,14 @@
-use Rattle.std.proofs.Common.{◌∙◌, refl, arith}
+use Rattle.std.proofs.Common.{refl, arith}
+use Rattle.rc_outside.proofs.PutLaws.{each_hand, each_hand_stopped}
 use Rattle.rc_report.specs.Parts.{part_text}
-use Rattle.rc_report.proofs.InHandLaws.{put-each, put-each-failed}
 use Rattle.rc_report.proofs.put.put_parts.Goals as goal
 
-pub returns-in-Err-clause-err : goal.returns-in-Err-clause-err
-returns-in-Err-clause-err g c = put-each-failed part_text c.args.parts.now c.loop-part.part-index c.part-item.result (part_text c.part-item.result) c.args.line.now (omega arith) c.part-item.is refl c.loop-part.invariant.put c.in-Err.ensures.err
+pub returns-in_err-put_part : goal.returns-in_err-put_part
+returns-in_err-put_part g c =
+    let part = c.part-item.result in
+    each_hand_stopped part_text c.args.parts.now c.loop-part.part-index part c.args.line.now (part_text part) _ c.from_residual.ensures.0 (omega arith) c.part-item.is refl c.loop-part.invariant c.in_err-put_part.ensures
 
 pub loop-part-preserved : goal.loop-part-preserved
-loop-part-preserved g c = record {
-  put = put-each part_text c.args.parts.now c.loop-part.part-index c.part-item.result (part_text c.part-item.result) c.args.line.now (omega arith) c.part-item.is refl c.loop-part.invariant.put c.in-Ok.ensures.ok;
-  same_faults = c.in-Ok.ensures.left ∙ c.loop-part.invariant.same_faults;
-}
+loop-part-preserved g c =
+    let part = c.part-item.result in
+    each_hand part_text c.args.parts.now c.loop-part.part-index part c.args.line.now (part_text part) (omega arith) c.part-item.is refl c.loop-part.invariant c.in_ok-put_part.ensures

@@ -1,7 +1,6 @@
-use Rattle.std.proofs.Common.{◌≡◌, List, ap, sym, ◌∙◌}
+use Rattle.std.proofs.Common.{◌≡◌, ap, ◌∙◌}
 use Rattle.rc_config.specs.ByNumber.{placed}
 use Rattle.rc_config.specs.RouteMap.{number_of}
-use Rattle.rc_config.specs.declared.route_map.MapEntry.{MapEntry}
 use Rattle.rc_config.proofs.PolicyLaws.{opened_over}
 use Rattle.rc_config.proofs.route_map.RouteMap.with_opened.Goals as goal
 

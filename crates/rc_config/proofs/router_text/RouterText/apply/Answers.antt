@@ -1,0 +1,11 @@
+use Rattle.rc_config.proofs.LawfulLaws.{put-lawful, put-routes, put-lists}
+use Rattle.rc_config.proofs.router_text.RouterText.apply.Goals as goal
+
+pub returns-clause-lawful : goal.returns-clause-lawful
+returns-clause-lawful c = put-lawful _ c.args.self.now c.put_into.new.self c.args.command c.put_into.ensures
+
+pub returns-clause-routes : goal.returns-clause-routes
+returns-clause-routes c = put-routes _ c.args.self.now c.put_into.new.self c.args.command c.put_into.ensures
+
+pub returns-clause-lists : goal.returns-clause-lists
+returns-clause-lists c = put-lists _ c.args.self.now c.put_into.new.self c.args.command c.put_into.ensures

@@ -1,0 +1,27 @@
+-- What a line of an access list tests, by its words behind `permit` or `deny`.
+use Rattle.std.specs.Prelude.{ℕ, List, Option, Some, None, Result, Ok, Err, if◌then◌else◌}
+use Rattle.rc_openings.specs.declared.reading.LineRefusal.{LineRefusal}
+use Rattle.rc_openings.specs.declared.reading.LineRefusal.TheVariants.{Unsupported, BadValue}
+use Rattle.rc_config.specs.declared.access_list.Action.{Action}
+use Rattle.rc_config.specs.declared.access_list.AccessListKind.{AccessListKind}
+use Rattle.rc_config.specs.declared.access_list.AccessListKind.TheVariants.{Standard, Extended}
+use Rattle.rc_config.specs.declared.access_list.AccessListLine.{AccessListLine}
+use Rattle.rc_gram_acl.specs.Lines.{standard, extended}
+use Rattle.rc_gram_acl.specs.Refused.{has_refused_place}
+
+abbrev pub Entry : Type 0
+Entry = Result AccessListLine LineRefusal
+
+-- the line where it fits
+abbrev pub fit : LineRefusal → Option AccessListLine → Entry
+fit refusal (Some line) = Ok line
+fit refusal None = Err refusal
+
+-- why an extended line that fits no row is refused
+abbrev pub refusal_of : List (List ℕ) → LineRefusal
+refusal_of words = if has_refused_place words then Unsupported else BadValue
+
+-- the line of a list of this kind and of this number; standard lists have no words of protocols and ports
+abbrev pub entry : AccessListKind → ℕ → Action → List (List ℕ) → Entry
+entry Standard n action words = fit BadValue (standard n action words)
+entry Extended n action words = fit (refusal_of words) (extended n action words)

@@ -1,0 +1,194 @@
+//! Access lists, from files to walks.
+use crate::answers::{BASE, Host, check_all_refused, check_line};
+use rc_analyse::Status;
+use std::test::Fail;
+
+/// A place in words and as it is printed.
+type Place = (&'static str, &'static str);
+
+const HOME: Place = ("R1", "R1 self");
+
+const LAN: Place = ("R1:GigabitEthernet0/0", "R1 GigabitEthernet0/0");
+
+/// Asserts how the walk of a packet ends at the place where it starts, at a router with these lines behind those of its first
+/// interface.
+fn check_end(
+    rt: &impl Host,
+    lines: &str,
+    place: Place,
+    packet: &str,
+    ending: &str,
+) -> Result<(), Fail> {
+    let alloc = rt.alloc();
+    let (from, at) = place;
+    let config = format!(in alloc; "{BASE}{lines}")?;
+    let line = format!(in alloc; "trace d --from {from} {packet}")?;
+    let text = format!(in alloc; "outcome fixed 2\nat {at}\nend {ending}\n")?;
+    let files = [("a.cfg", config.as_str())];
+    check_line(rt, &files, line.as_str(), Status::Done, text.as_str())
+}
+
+/// A wildcard that leaves the third octet out.
+const STANDARD: &str = " ip access-group 5 in\naccess-list 5 permit 10.0.0.1 0.0.255.0\n";
+
+/// Lines by number, and not as written.
+const EXTENDED: &str =
+    " ip access-group E in\nip access-list extended E\n 20 permit ip any any\n 10 deny tcp any any eq 23\n";
+
+/// Lines that are numbered as they come.
+const AS_WRITTEN: &str =
+    " ip access-group 101 in\naccess-list 101 permit udp any gt 1023 host 10.0.0.9 range 53 54\naccess-list 101 deny udp any any log\naccess-list 101 permit ip any any\n";
+
+#[test]
+fn the_first_line_that_matches_decides(rt: HostRuntime) -> Result<(), Fail> {
+    for (lines, packet, ending) in [
+        (STANDARD, "--dst 10.0.0.9 --src 10.0.7.1", "delivered"),
+        (STANDARD, "--dst 10.0.0.9 --src 10.0.7.2", "denied-in"),
+        (EXTENDED, "--dst 10.0.0.9 --proto 6 --dport 23", "denied-in"),
+        (EXTENDED, "--dst 10.0.0.9 --proto 6 --sport 23", "delivered"),
+        (
+            EXTENDED,
+            "--dst 10.0.0.9 --proto 17 --dport 23",
+            "delivered",
+        ),
+        (
+            AS_WRITTEN,
+            "--dst 10.0.0.9 --proto 17 --sport 1024 --dport 54",
+            "delivered",
+        ),
+        (
+            AS_WRITTEN,
+            "--dst 10.0.0.9 --proto 17 --sport 1023 --dport 54",
+            "denied-in",
+        ),
+        (
+            AS_WRITTEN,
+            "--dst 10.0.0.9 --proto 17 --sport 1024 --dport 55",
+            "denied-in",
+        ),
+        (
+            AS_WRITTEN,
+            "--dst 10.0.0.8 --proto 17 --sport 1024 --dport 54",
+            "denied-in",
+        ),
+        (
+            AS_WRITTEN,
+            "--dst 10.0.0.8 --proto 6 --sport 1024 --dport 54",
+            "delivered",
+        ),
+    ] {
+        check_end(&rt, lines, LAN, packet, ending)?;
+    }
+    Ok(())
+}
+
+const CLOSED_IN: &str = " ip access-group 1 in\naccess-list 1 deny any\n";
+
+const CLOSED_OUT: &str = " ip access-group 1 out\naccess-list 1 deny any\n";
+
+/// An interface that is down, with an inbound list.
+const CLOSED_DOWN: &str =
+    "interface Serial0/0\n ip address 10.0.9.1 255.255.255.0\n shutdown\n ip access-group 1 in\naccess-list 1 deny any\n";
+
+/// A loopback with an outbound list, and a route to nowhere.
+const CLOSED_LOOPBACK: &str =
+    "interface Loopback0\n ip address 1.1.1.1 255.255.255.0\n ip access-group 1 out\naccess-list 1 deny any\nip route 9.0.0.0 255.0.0.0 Null0\n";
+
+#[test]
+fn where_lists_are_asked(rt: HostRuntime) -> Result<(), Fail> {
+    let down = ("R1:Serial0/0", "R1 Serial0/0");
+    for (lines, place, destination, ending) in [
+        (CLOSED_OUT, HOME, "10.0.0.9", "delivered"),
+        (CLOSED_OUT, LAN, "10.0.0.9", "denied-out"),
+        (CLOSED_OUT, LAN, "10.0.0.1", "accepted"),
+        (CLOSED_OUT, LAN, "8.8.8.8", "no-route"),
+        (CLOSED_IN, HOME, "10.0.0.9", "delivered"),
+        (CLOSED_IN, HOME, "10.0.0.1", "accepted"),
+        (CLOSED_IN, LAN, "10.0.0.9", "denied-in"),
+        (CLOSED_IN, LAN, "10.0.0.1", "denied-in"),
+        (CLOSED_IN, LAN, "8.8.8.8", "denied-in"),
+        (CLOSED_DOWN, down, "10.0.0.9", "denied-in"),
+        (CLOSED_DOWN, LAN, "10.0.0.9", "delivered"),
+        (CLOSED_LOOPBACK, LAN, "1.1.1.9", "denied-out"),
+        (CLOSED_LOOPBACK, HOME, "1.1.1.9", "unreachable"),
+        (CLOSED_LOOPBACK, LAN, "1.1.1.1", "accepted"),
+        (CLOSED_LOOPBACK, LAN, "9.9.9.9", "null-routed"),
+    ] {
+        let packet = format!(in rt.alloc(); "--dst {destination}")?;
+        check_end(&rt, lines, place, packet.as_str(), ending)?;
+    }
+    Ok(())
+}
+
+#[test]
+fn groups_without_lines(rt: HostRuntime) -> Result<(), Fail> {
+    for lines in [
+        " ip access-group 7 in\n",
+        " ip access-group 7 in\naccess-list 7 remark nothing yet\n",
+        " ip access-group E in\nip access-list standard E\n",
+        " ip access-group E in\nip access-list extended E\n remark nothing yet\n",
+        " ip access-group 7 in\n ip access-group 8 in\naccess-list 7 deny any\n",
+        " ip access-group 005 in\naccess-list 6 deny any\naccess-list 5 permit any\n",
+    ] {
+        check_end(&rt, lines, LAN, "--dst 10.0.0.9", "delivered")?;
+    }
+    Ok(())
+}
+
+/// The first of two routers.
+const OUTER: &str = "hostname R1
+interface GigabitEthernet0/0
+ ip address 10.0.0.1 255.255.255.0
+ip route 10.0.2.0 255.255.255.0 10.0.0.2
+";
+
+/// The second one. It lets in what comes from a host, and forwards what goes to a port.
+const INNER: &str = "hostname R2
+interface GigabitEthernet0/0
+ ip address 10.0.0.2 255.255.255.0
+ ip access-group FROM in
+interface GigabitEthernet0/1
+ ip address 10.0.2.2 255.255.255.0
+ ip access-group 101 out
+ip access-list standard FROM
+ permit host 10.0.7.1
+access-list 101 permit tcp any any eq www
+";
+
+#[test]
+fn lists_of_the_next_router(rt: HostRuntime) -> Result<(), Fail> {
+    let files = &[("a.cfg", OUTER), ("b.cfg", INNER)];
+    for (packet, ending) in [
+        ("--src 10.0.7.1 --proto 6 --dport 80", "delivered"),
+        ("--src 10.0.7.1 --proto 6 --dport 81", "denied-out"),
+        ("--src 10.0.7.2 --proto 6 --dport 80", "denied-in"),
+    ] {
+        let line = format!(in rt.alloc(); "trace d --from R1 --dst 10.0.2.9 {packet}")?;
+        let text = format!(in rt.alloc();
+            "outcome fixed 3\nat R1 self\nat R2 GigabitEthernet0/0\nend {ending}\n"
+        )?;
+        check_line(&rt, files, line.as_str(), Status::Done, text.as_str())?;
+    }
+    Ok(())
+}
+
+#[test]
+fn lists_that_are_refused(rt: HostRuntime) -> Result<(), Fail> {
+    let rows = [
+        ("access-list 101 permit tcp any any established\n", "4: 2"),
+        ("access-list 101 permit udp any any range 5 4\n", "4: 3"),
+        (
+            "ip access-list extended E\n 10 permit ip any any\n 10 deny ip any any\n",
+            "6: 3",
+        ),
+        (
+            "ip access-list standard E\nip access-list extended E\n",
+            "5: 3",
+        ),
+        (
+            "ip access-list extended 5\naccess-list 5 permit any\n",
+            "5: 3",
+        ),
+    ];
+    check_all_refused(&rt, &rows)
+}

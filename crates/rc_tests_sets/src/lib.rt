@@ -1,0 +1,7 @@
+//! Tests of the node table and of the sets over it.
+#![tactic(auto)]
+
+#[cfg(test)]
+mod chains;
+#[cfg(test)]
+mod operations;

@@ -1,0 +1,98 @@
+//! Prepared tables, asked by examples from outside.
+ghost use Rattle.std.specs.Prelude.{◌≡◌, ◌≤◌, ◌∷◌, ◌++◌, [], IfOk, map};
+ghost use Rattle.rc_base.specs.Prefix.{prefix_at};
+ghost use Rattle.rc_route.specs.declared.route.Route.{Route};
+ghost use Rattle.rc_route.specs.Tables.{IsTable};
+
+use rc_base::{Addr, IfId, Items, Prefix, RouterId};
+use rc_fib::Fib;
+use rc_route::{Hop, Route, Source, Table, push_hop};
+use std::alloc::{AllocError, Global};
+use std::test::Fail;
+
+fn device(index: usize) -> IfId {
+    IfId {
+        router: RouterId::at(0),
+        index,
+    }
+}
+
+/// The table with a route at its end.
+fn with_route(
+    mut table: Table,
+    network: u32,
+    len: u8,
+    hops: Items<Hop>,
+) -> Result<Table, AllocError>
+    requires { len ≤ 32 }
+    ensures { IfOk result (λ made. map (λ (r : Route). r.prefix) made ≡ map (λ (r : Route). r.prefix) table ++ prefix_at network len ∷ []) }
+{
+    table.push(Route {
+        prefix: Prefix::new(Addr::new(network), len).unwrap(),
+        source: Source::Static,
+        distance: 1,
+        metric: 0,
+        hops,
+    })?;
+    Ok(table)
+}
+
+fn one_hop(alloc: Global, hop: &Hop) -> Result<Items<Hop>, AllocError> {
+    let mut hops = Items::new(alloc);
+    push_hop(&mut hops, *hop)?;
+    Ok(hops)
+}
+
+/// A default route by way of 10.0.0.1, a route to nowhere, a connected one, and one by way of the connected one.
+fn example(alloc: Global) -> Result<Table, AllocError>
+    ensures { IfOk result IsTable }
+{
+    let by_default = one_hop(alloc, &Hop::Via(Addr::new(0x0a00_0001), None))?;
+    let nowhere = one_hop(alloc, &Hop::Null)?;
+    let connected = one_hop(alloc, &Hop::Dev(device(2)))?;
+    let by_way = one_hop(alloc, &Hop::Via(Addr::new(0x0a00_0009), None))?;
+    let table = with_route(Items::new(alloc), 0, 0, by_default)?;
+    let table = with_route(table, 0x0a00_0000, 8, nowhere)?;
+    let table = with_route(table, 0x0a00_0000, 24, connected)?;
+    let table = with_route(table, 0x0a00_0100, 24, by_way)?;
+    Ok(table)
+}
+
+/// That table, prepared.
+fn prepared(alloc: Global) -> Result<Fib, AllocError> {
+    Fib::of(alloc, &example(alloc)?)
+}
+
+#[test]
+fn a_prepared_table_has_hops(rt: HostRuntime) -> Result<(), Fail> {
+    let fib = prepared(rt.alloc())?;
+    let through = [Hop::Via(Addr::new(0x0a00_0009), Some(device(2)))];
+    assert!(rt; fib.hops(Addr::new(0x0a00_0105)) == through.as_slice());
+    assert!(rt; fib.hops(Addr::new(0x0a00_0205)) == [Hop::Null].as_slice());
+    let longest = fib.longest(Addr::new(0x0a00_0205));
+    assert!(rt; longest == Prefix::new(Addr::new(0x0a00_0000), 8));
+    Ok(())
+}
+
+#[test]
+fn a_prepared_table_resolves(rt: HostRuntime) -> Result<(), Fail> {
+    let fib = prepared(rt.alloc())?;
+    assert!(rt; fib.resolves(Addr::new(0xc0a8_0001)));
+    assert!(rt; !fib.resolves(Addr::new(0x0aff_0001)));
+    Ok(())
+}
+
+#[test]
+fn a_prepared_table_has_routes_by_index(rt: HostRuntime) -> Result<(), Fail> {
+    let fib = prepared(rt.alloc())?;
+    let through = [Hop::Via(Addr::new(0x0a00_0009), Some(device(2)))];
+    match fib.route(3) {
+        Some((prefix, hops)) => {
+            assert!(rt; Some(prefix) == Prefix::new(Addr::new(0x0a00_0100), 24));
+            assert!(rt; hops == through.as_slice());
+        }
+        None => assert!(rt; false, "no route"),
+    }
+    assert!(rt; fib.route(4).is_none());
+    Ok(())
+}

@@ -1,0 +1,312 @@
+//! What is printed of lines, tables and walks, and sinks that fail.
+use rc_base::{Addr, IfId, Items, Kind, Name, Pos, Prefix, RouterId};
+use rc_config::{Command, Named, Network, RouterText};
+use rc_outside::MemSink;
+use rc_report::{Buffer, Part, SinkFault, end_line, put_line, put_parts, put_routes, put_walk};
+use rc_route::{Hop, Route, Source, Table};
+use rc_walk::{Stop, Walk};
+use std::alloc::{AllocError, Global};
+use std::process::Abort;
+use std::test::Fail;
+
+/// 1025 bytes of which no two pieces are alike.
+fn long_text() -> [u8; 1025] {
+    let mut text = [0; 1025];
+    for (place, byte) in text.iter_mut().enumerate() {
+        *byte = (place % 251) as u8;
+    }
+    text
+}
+
+/// Asserts that a text goes out in so many calls.
+fn check_pieces(
+    rt: &impl Abort,
+    alloc: Global,
+    line: &mut Buffer,
+    text: &[u8],
+    calls: u64,
+) -> Result<(), AllocError> {
+    let mut sink = MemSink::new(alloc, 1025, Vec::new(alloc))?;
+    let said = put_line(&mut sink, line, &[Part::Text(text)]);
+    assert!(rt; said == Ok(()), "{calls} calls");
+    assert!(rt; sink.calls == calls, "{calls} calls");
+    assert!(rt; sink.bytes.as_slice() == text, "{calls} calls");
+    Ok(())
+}
+
+#[test]
+fn pieces_have_512_bytes_and_the_rest_is_last(rt: HostRuntime) -> Result<(), Fail> {
+    let all = long_text();
+    let mut line = Buffer::new(rt.alloc())?;
+    for (length, calls) in [
+        (0, 0),
+        (1, 1),
+        (511, 1),
+        (512, 1),
+        (513, 2),
+        (1024, 2),
+        (1025, 3),
+    ] {
+        let (text, _) = all.split_at(length.min(1025));
+        check_pieces(&rt, rt.alloc(), &mut line, text, calls)?;
+    }
+    Ok(())
+}
+
+/// Asserts what a sink holds that fails in one call, and that the next line goes out whole.
+fn check_failing(
+    rt: &impl Abort,
+    line: &mut Buffer,
+    sink: &mut MemSink,
+    text: &[u8],
+    call: u64,
+    written: usize,
+) {
+    let said = put_line(sink, line, &[Part::Text(text)]);
+    assert!(rt; said == Err(SinkFault), "at call {call}");
+    assert!(rt; sink.calls == call, "at call {call}");
+    assert!(rt; sink.bytes.len() == written, "at call {call}");
+    assert!(rt; text.starts_with(sink.bytes.as_slice()), "at call {call}");
+    let said = put_line(sink, line, &[Part::Text(b"next\n")]);
+    assert!(rt; said == Ok(()), "after call {call}");
+    assert!(rt;
+        sink.bytes.len() == written.saturating_add(5),
+        "after call {call}"
+    );
+    assert!(rt;
+        sink.bytes.as_slice().ends_with(b"next\n"),
+        "after call {call}"
+    );
+}
+
+/// A sink that takes five bytes of the call of this number, and fails.
+fn failing_sink(alloc: Global, call: u64) -> Result<MemSink, AllocError> {
+    let failures = Vec::from_slice(alloc, &[(call, 5usize)])?;
+    MemSink::new(alloc, 2048, failures)
+}
+
+#[test]
+fn a_failing_sink_is_not_called_again(rt: HostRuntime) -> Result<(), Fail> {
+    let text = long_text();
+    let mut line = Buffer::new(rt.alloc())?;
+    for (call, written) in [(1u64, 5), (2, 517), (3, 1025)] {
+        let mut sink = failing_sink(rt.alloc(), call)?;
+        check_failing(&rt, &mut line, &mut sink, &text, call, written);
+    }
+    Ok(())
+}
+
+#[test]
+fn a_line_has_each_kind_of_part(rt: HostRuntime) -> Result<(), Fail> {
+    let alloc = rt.alloc();
+    let addr = Addr::new(0x01ff_0a00);
+    let prefix = Prefix::new(addr, 8).ok_or("a prefix")?;
+    let mut line = Buffer::new(alloc)?;
+    let mut sink = MemSink::new(alloc, 99, Vec::new(alloc))?;
+    let numbers = [Part::Number(0), Part::Text(b" "), Part::Number(u64::MAX)];
+    assert!(rt; put_parts(&mut sink, &mut line, &numbers) == Ok(()));
+    let addresses = [Part::Address(addr), Part::Text(b" "), Part::Prefix(prefix)];
+    assert!(rt; put_parts(&mut sink, &mut line, &addresses) == Ok(()));
+    assert!(rt; sink.calls == 0);
+    assert!(rt; end_line(&mut sink, &mut line) == Ok(()));
+    assert!(rt; sink.calls == 1);
+    let text = b"0 184467440737095516151.255.10.0 1.0.0.0/8";
+    assert!(rt; sink.bytes.as_slice() == text.as_slice());
+    Ok(())
+}
+
+/// A router with the interfaces Ethernet0 and Loopback0.
+fn router(alloc: Global, ethernet: Name, loopback: Name) -> Result<RouterText, AllocError> {
+    let text = RouterText::new(alloc);
+    let text = text.put(Command::Interface {
+        name: ethernet,
+        line: 1,
+    })?;
+    text.put(Command::Interface {
+        name: loopback,
+        line: 2,
+    })
+}
+
+/// A network of that router, R1.
+fn network(alloc: Global) -> Result<Network, Fail> {
+    let host = Name::new(b"R1").ok_or("R1")?;
+    let ethernet = Name::new(b"Ethernet0").ok_or("Ethernet0")?;
+    let loopback = Name::new(b"Loopback0").ok_or("Loopback0")?;
+    let text = router(alloc, ethernet, loopback)?;
+    let mut routers = Named::new(alloc);
+    let _ = routers.insert(host, text)?;
+    Ok(Network { routers })
+}
+
+fn listed(alloc: Global, hops: &[Hop]) -> Result<Items<Hop>, AllocError> {
+    let mut all = Items::new(alloc);
+    for hop in hops {
+        all.push(*hop)?;
+    }
+    Ok(all)
+}
+
+/// A route to the network 10.0.N.0/24.
+fn route(alloc: Global, n: u8, source: Source, hops: &[Hop]) -> Result<Route, Fail> {
+    let prefix = Prefix::new(Addr::new(0x0a00_0000 + 256 * u32::from(n)), 24).ok_or("a prefix")?;
+    Ok(Route {
+        prefix,
+        source,
+        distance: 200 + n % 50,
+        metric: 4_294_967_295 - u32::from(n),
+        hops: listed(alloc, hops)?,
+    })
+}
+
+/// Asserts what is printed of a table, in how many calls.
+fn check_routes(
+    rt: &impl Abort,
+    alloc: Global,
+    router: RouterId,
+    table: &Table,
+    text: &[u8],
+    calls: u64,
+) -> Result<(), Fail> {
+    let net = network(alloc)?;
+    let mut line = Buffer::new(alloc)?;
+    let mut sink = MemSink::new(alloc, 2048, Vec::new(alloc))?;
+    let said = put_routes(&mut sink, &mut line, &net, router, table);
+    assert!(rt; said == Ok(()));
+    assert!(rt; sink.calls == calls);
+    assert!(rt; sink.bytes.as_slice() == text);
+    Ok(())
+}
+
+const SOURCES: &str = "router R1
+10.0.0.0/24 connected 200/4294967295 null
+10.0.1.0/24 static 201/4294967294 null
+10.0.2.0/24 ebgp 202/4294967293 null
+10.0.3.0/24 ibgp 203/4294967292 null
+10.0.4.0/24 ospf 204/4294967291 null
+10.0.5.0/24 ospf-ia 205/4294967290 null
+10.0.6.0/24 ospf-e1 206/4294967289 null
+10.0.7.0/24 ospf-e2 207/4294967288 null
+";
+
+/// A table with a route of each source.
+fn each_source(alloc: Global) -> Result<Table, Fail> {
+    let mut table = Table::new(alloc);
+    for (n, source) in [
+        (0, Source::Connected),
+        (1, Source::Static),
+        (2, Source::Ebgp),
+        (3, Source::Ibgp),
+        (4, Source::Ospf),
+        (5, Source::OspfIa),
+        (6, Source::OspfE1),
+        (7, Source::OspfE2),
+    ] {
+        table.push(route(alloc, n, source, &[Hop::Null])?)?;
+    }
+    Ok(table)
+}
+
+#[test]
+fn a_table_has_each_source(rt: HostRuntime) -> Result<(), Fail> {
+    let table = each_source(rt.alloc())?;
+    check_routes(
+        &rt,
+        rt.alloc(),
+        RouterId::at(0),
+        &table,
+        SOURCES.as_bytes(),
+        9,
+    )
+}
+
+/// A table with one route.
+fn one_route(alloc: Global, n: u8, source: Source, hops: &[Hop]) -> Result<Table, Fail> {
+    let mut table = Table::new(alloc);
+    table.push(route(alloc, n, source, hops)?)?;
+    Ok(table)
+}
+
+const HOPS: &str = "router R1
+10.0.9.0/24 static 209/4294967286 null dev Ethernet0 via 10.0.0.2 via 10.0.0.3 dev Loopback0 dev \n";
+
+#[test]
+fn a_route_has_each_kind_of_hop(rt: HostRuntime) -> Result<(), Fail> {
+    let router = RouterId::at(0);
+    let hops = [
+        Hop::Null,
+        Hop::Dev(IfId { router, index: 0 }),
+        Hop::Via(Addr::new(0x0a00_0002), None),
+        Hop::Via(Addr::new(0x0a00_0003), Some(IfId { router, index: 1 })),
+        Hop::Dev(IfId { router, index: 2 }),
+    ];
+    let table = one_route(rt.alloc(), 9, Source::Static, &hops)?;
+    check_routes(&rt, rt.alloc(), router, &table, HOPS.as_bytes(), 2)
+}
+
+/// A route with 300 hops as it is printed, of a router without a name.
+fn text_of_300(alloc: Global) -> Result<Vec<u8>, AllocError> {
+    let mut text = Vec::from_slice(alloc, b"router \n10.0.1.0/24 ebgp 201/4294967294")?;
+    for _ in 0..300 {
+        text.extend_from_slice(b" null")?;
+    }
+    text.extend_from_slice(b"\n")?;
+    Ok(text)
+}
+
+#[test]
+fn a_route_may_have_300_hops(rt: HostRuntime) -> Result<(), Fail> {
+    let text = text_of_300(rt.alloc())?;
+    let table = one_route(rt.alloc(), 1, Source::Ebgp, &[Hop::Null; 300])?;
+    check_routes(&rt, rt.alloc(), RouterId::at(1), &table, text.as_slice(), 4)
+}
+
+/// The walk from the router R1 over its interfaces in turn.
+fn walk(alloc: Global, stop: Stop) -> Result<Walk, AllocError> {
+    let router = RouterId::at(0);
+    let mut positions = Items::new(alloc);
+    positions.push(Pos::Own(router))?;
+    positions.push(Pos::Entering(IfId { router, index: 1 }))?;
+    positions.push(Pos::Entering(IfId { router, index: 0 }))?;
+    Ok(Walk { positions, stop })
+}
+
+const POSITIONS: &str = "at R1 self\nat R1 Loopback0\nat R1 Ethernet0\n";
+
+/// Asserts that a walk is printed as its positions and this last line.
+fn check_walk(
+    rt: &impl Abort,
+    alloc: Global,
+    net: &Network,
+    walk: &Walk,
+    last: &str,
+) -> Result<(), AllocError> {
+    let text = format!(in alloc; "{POSITIONS}{last}")?;
+    let mut line = Buffer::new(alloc)?;
+    let mut sink = MemSink::new(alloc, 128, Vec::new(alloc))?;
+    let said = put_walk(&mut sink, &mut line, net, walk);
+    assert!(rt; said == Ok(()), "before {last}");
+    assert!(rt; sink.calls == 4, "before {last}");
+    assert!(rt; sink.bytes.as_slice() == text.as_bytes(), "before {last}");
+    Ok(())
+}
+
+#[test]
+fn a_walk_has_its_positions_and_each_way_to_stop(rt: HostRuntime) -> Result<(), Fail> {
+    let net = network(rt.alloc())?;
+    for (stop, last) in [
+        (Stop::At(Kind::DeniedIn), "end denied-in\n"),
+        (Stop::At(Kind::Accepted), "end accepted\n"),
+        (Stop::At(Kind::NoRoute), "end no-route\n"),
+        (Stop::At(Kind::NullRouted), "end null-routed\n"),
+        (Stop::At(Kind::DeniedOut), "end denied-out\n"),
+        (Stop::At(Kind::Unreachable), "end unreachable\n"),
+        (Stop::At(Kind::Exits), "end exits\n"),
+        (Stop::At(Kind::Delivered), "end delivered\n"),
+        (Stop::Loop, "end loop\n"),
+    ] {
+        let walk = walk(rt.alloc(), stop)?;
+        check_walk(&rt, rt.alloc(), &net, &walk, last)?;
+    }
+    Ok(())
+}

@@ -1,0 +1,250 @@
+//! States that differ in one field, copies, and the orders of hops and sources.
+ghost use Rattle.std.specs.Prelude.{◌≡◌, ◌≤◌, ◌∷◌, ◌++◌, [], IfOk};
+
+use rc_base::{Addr, IfId, Items, Origin, Prefix, RouterId};
+use rc_route::{
+    BgpPath, Hop, PathSource, Route, RouterState, Source, State, Table, compare_hops,
+    compare_sources, copy, equal, push_hop,
+};
+use std::alloc::{AllocError, Global};
+use std::process::Abort;
+use std::test::Fail;
+
+/// How many fields a route and a path have together.
+const FIELDS: usize = 18;
+
+/// 2 at the field that is changed, else 1.
+fn value_at(field: usize, changed: usize) -> u8
+    ensures { result ≤ 2 }
+{
+    if field == changed { 2 } else { 1 }
+}
+
+fn prefix_at(field: usize, changed: usize) -> Result<Prefix, Fail> {
+    let octet = u32::from(value_at(field, changed));
+    Ok(Prefix::new(Addr::new(octet << 24), 8).ok_or("a prefix")?)
+}
+
+fn addr_at(field: usize, changed: usize) -> Addr {
+    Addr::new(u32::from(value_at(field, changed)))
+}
+
+fn numbers_at(alloc: Global, field: usize, changed: usize) -> Result<Items<u32>, AllocError> {
+    let mut numbers = Items::new(alloc);
+    numbers.push(65_000)?;
+    numbers.push(u32::from(value_at(field, changed)))?;
+    Ok(numbers)
+}
+
+fn hops_with(mut hops: Items<Hop>, hop: Hop) -> Result<Items<Hop>, AllocError>
+    ensures { IfOk result (λ made. made ≡ hops ++ hop ∷ []) }
+{
+    push_hop(&mut hops, hop)?;
+    Ok(hops)
+}
+
+fn table_with(mut table: Table, route: Route) -> Result<Table, AllocError>
+    ensures { IfOk result (λ made. made ≡ table ++ route ∷ []) }
+{
+    table.push(route)?;
+    Ok(table)
+}
+
+fn paths_with(mut paths: Items<BgpPath>, path: BgpPath) -> Result<Items<BgpPath>, AllocError>
+    ensures { IfOk result (λ made. made ≡ paths ++ path ∷ []) }
+{
+    paths.push(path)?;
+    Ok(paths)
+}
+
+fn state_with(mut state: State, router: RouterState) -> Result<State, AllocError>
+    ensures { IfOk result (λ made. made ≡ state ++ router ∷ []) }
+{
+    state.push(router)?;
+    Ok(state)
+}
+
+/// A route whose fields are all 1 but the one that is changed, from 0 to 4.
+fn route_at(alloc: Global, changed: usize) -> Result<Route, Fail> {
+    let device = IfId {
+        router: RouterId::at(0),
+        index: 1,
+    };
+    let hops = hops_with(Items::new(alloc), Hop::Dev(device))?;
+    let hops = hops_with(hops, Hop::Via(addr_at(4, changed), Some(device)))?;
+    Ok(Route {
+        prefix: prefix_at(0, changed)?,
+        source: if changed == 1 {
+            Source::Ibgp
+        } else {
+            Source::Static
+        },
+        distance: value_at(2, changed),
+        metric: u32::from(value_at(3, changed)),
+        hops,
+    })
+}
+
+/// A path whose fields are all 1 but the one that is changed, from 5 to 17.
+fn path_at(alloc: Global, changed: usize) -> Result<BgpPath, Fail> {
+    Ok(BgpPath {
+        prefix: prefix_at(5, changed)?,
+        next_hop: addr_at(6, changed),
+        med: u32::from(value_at(7, changed)),
+        local_preference: u32::from(value_at(8, changed)),
+        weight: u32::from(value_at(9, changed)),
+        origin: if changed == 10 {
+            Origin::Egp
+        } else {
+            Origin::Igp
+        },
+        as_path: numbers_at(alloc, 11, changed)?,
+        communities: numbers_at(alloc, 12, changed)?,
+        source: if changed == 13 {
+            PathSource::Internal
+        } else {
+            PathSource::External
+        },
+        sender: RouterId::at(usize::from(value_at(14, changed))),
+        sender_id: addr_at(15, changed),
+        neighbor: addr_at(16, changed),
+        igp_metric: u32::from(value_at(17, changed)),
+    })
+}
+
+/// What a router knows: one route and one path, all 1 but the field that is changed.
+fn router_at(alloc: Global, changed: usize) -> Result<RouterState, Fail> {
+    let table = table_with(Items::new(alloc), route_at(alloc, changed)?)?;
+    let paths = paths_with(Items::new(alloc), path_at(alloc, changed)?)?;
+    Ok(RouterState { table, paths })
+}
+
+fn state_of(alloc: Global, changed: usize) -> Result<State, Fail> {
+    Ok(state_with(Items::new(alloc), router_at(alloc, changed)?)?)
+}
+
+/// Asserts that two states are equal, or that they are not, both ways.
+fn check_equal(rt: &impl Abort, one: &State, other: &State, wanted: bool, field: usize) {
+    assert!(rt; equal(one, other) == wanted, "field {field}");
+    assert!(rt; equal(other, one) == wanted, "field {field}");
+}
+
+/// Asserts that a state with a field changed is another, and equal to one that is made again.
+fn check_field(rt: &impl Abort, alloc: Global, state: &State, changed: usize) -> Result<(), Fail> {
+    let other = state_of(alloc, changed)?;
+    check_equal(rt, state, &other, false, changed);
+    let again = state_of(alloc, changed)?;
+    check_equal(rt, &other, &again, true, changed);
+    Ok(())
+}
+
+#[test]
+fn states_differ_in_each_field(rt: HostRuntime) -> Result<(), Fail> {
+    let state = state_of(rt.alloc(), FIELDS)?;
+    let again = state_of(rt.alloc(), FIELDS)?;
+    check_equal(&rt, &state, &again, true, FIELDS);
+    for changed in 0..FIELDS {
+        check_field(&rt, rt.alloc(), &state, changed)?;
+    }
+    Ok(())
+}
+
+/// A state of one router without its route.
+fn without_route(alloc: Global) -> Result<State, Fail> {
+    let mut router = router_at(alloc, FIELDS)?;
+    router.table = Items::new(alloc);
+    Ok(state_with(Items::new(alloc), router)?)
+}
+
+/// A state of one router without its path.
+fn without_path(alloc: Global) -> Result<State, Fail> {
+    let mut router = router_at(alloc, FIELDS)?;
+    router.paths = Items::new(alloc);
+    Ok(state_with(Items::new(alloc), router)?)
+}
+
+/// A state of two routers.
+fn longer(alloc: Global) -> Result<State, Fail> {
+    let second = router_at(alloc, FIELDS)?;
+    Ok(state_with(state_of(alloc, FIELDS)?, second)?)
+}
+
+#[test]
+fn states_differ_in_what_they_lack(rt: HostRuntime) -> Result<(), Fail> {
+    let alloc = rt.alloc();
+    let state = state_of(alloc, FIELDS)?;
+    for other in [
+        without_route(alloc)?,
+        without_path(alloc)?,
+        Items::new(alloc),
+        longer(alloc)?,
+    ] {
+        check_equal(&rt, &state, &other, false, FIELDS);
+    }
+    Ok(())
+}
+
+#[test]
+fn copies_are_equal(rt: HostRuntime) -> Result<(), Fail> {
+    for changed in [FIELDS, 4, 11, 12] {
+        let router = router_at(rt.alloc(), changed)?;
+        let copied = copy(rt.alloc(), &router)?;
+        assert!(rt; copied == router, "field {changed}");
+        assert!(rt; copied.table.len() == 1, "field {changed}");
+        assert!(rt; copied.paths.len() == 1, "field {changed}");
+    }
+    Ok(())
+}
+
+fn device(index: usize) -> IfId {
+    IfId {
+        router: RouterId::at(0),
+        index,
+    }
+}
+
+#[test]
+fn hops_in_order(rt: HostRuntime) {
+    let hops = [
+        Hop::Null,
+        Hop::Dev(device(0)),
+        Hop::Dev(device(2)),
+        Hop::Via(Addr::new(0x0a00_0001), None),
+        Hop::Via(Addr::new(0x0a00_0001), Some(device(0))),
+        Hop::Via(Addr::new(0x0a00_0001), Some(device(2))),
+        Hop::Via(Addr::new(0xc0a8_0001), None),
+        Hop::Via(Addr::new(0xc0a8_0001), Some(device(1))),
+    ];
+    for (index, hop) in hops.iter().enumerate() {
+        for (other_index, other) in hops.iter().enumerate() {
+            let found = compare_hops(hop, other);
+            assert!(rt;
+                found == index.cmp(&other_index),
+                "{index} and {other_index}"
+            );
+        }
+    }
+}
+
+#[test]
+fn sources_in_order(rt: HostRuntime) {
+    let sources = [
+        Source::Connected,
+        Source::Static,
+        Source::Ebgp,
+        Source::Ospf,
+        Source::OspfIa,
+        Source::OspfE1,
+        Source::OspfE2,
+        Source::Ibgp,
+    ];
+    for (index, source) in sources.iter().enumerate() {
+        for (other_index, other) in sources.iter().enumerate() {
+            let found = compare_sources(*source, *other);
+            assert!(rt;
+                found == index.cmp(&other_index),
+                "{index} and {other_index}"
+            );
+        }
+    }
+}

@@ -1,0 +1,196 @@
+//! Whole files: blocks, banners, long lines and static routes.
+use crate::refused_files::{
+    BAD, OUT_OF_PLACE, UNKNOWN, UNSUPPORTED, check_all_refused, check_refused,
+};
+use rc_base::Name;
+use rc_config::{Interface, RouterText, StaticRoute};
+use rc_grammar::{FileCause, read_file};
+use std::alloc::{AllocError, Global};
+use std::process::Abort;
+use std::test::Fail;
+
+const RUNNING: &[u8] = b"Building configuration...
+
+Current configuration : 1492 bytes
+!
+version 15.7
+no service password-encryption
+!
+hostname R1
+!
+enable secret 5 $1$abcd
+ip cef
+crypto pki certificate chain self
+ certificate self-signed 01
+  30820240 308201A9
+  \tquit
+!
+interface Embedded-Service-Engine0/0
+ no ip address
+ shutdown
+!
+interface GigabitEthernet0/0
+ description LAN
+ ip address 10.0.0.1 255.255.255.0
+ ip address 10.0.0.2 255.255.255.0
+ ip address 10.0.1.1 255.255.255.0 secondary
+ duplex auto
+!
+no ip http server
+banner motd ^C
+interface text in a banner
+^C
+line con 0
+line vty 0 4
+ transport input ssh
+!
+interface GigabitEthernet0/0
+ no shutdown
+!
+end
+";
+
+fn check_interface(rt: &impl Abort, interface: &Interface) {
+    assert!(rt; interface.primary.map(|a| a.addr().bits()) == Some(0x0a00_0002));
+    assert!(rt; interface.secondary.len() == 1);
+    assert!(rt; !interface.shutdown);
+}
+
+fn check_running(rt: &impl Abort, file: &RouterText, name: &Name, host: Name) {
+    assert!(rt; file.host.map(|h| h.name) == Some(host));
+    assert!(rt; file.host.map(|h| h.line) == Some(8));
+    assert!(rt; file.interfaces.len() == 2);
+    match file.interfaces.get(name) {
+        Some(interface) => check_interface(rt, interface),
+        None => assert!(rt; false, "no interface"),
+    }
+}
+
+#[test]
+fn a_running_configuration(rt: HostRuntime) -> Result<(), Fail> {
+    let name = Name::new(b"GigabitEthernet0/0").ok_or("GigabitEthernet0/0")?;
+    let host = Name::new(b"R1").ok_or("R1")?;
+    match &read_file(rt.alloc(), RUNNING) {
+        Ok(file) => check_running(&rt, file, &name, host),
+        Err(_) => assert!(rt; false, "refused"),
+    }
+    Ok(())
+}
+
+#[test]
+fn the_least_line_is_refused(rt: HostRuntime) {
+    let files = [
+        (b"".as_slice(), 0, FileCause::NoHostName),
+        (b"frobnicate\nhostname X\nfrobnicate", 1, UNKNOWN),
+        (b"hostname X\nhostname X", 2, BAD),
+        (b"hostname X\n shutdown", 2, OUT_OF_PLACE),
+        (b"interface Serial0\n!\n\n ip nat inside", 4, UNSUPPORTED),
+        (
+            b"interface Serial0\nip cef\n shutdown\n!",
+            0,
+            FileCause::NoHostName,
+        ),
+        (b"interface Serial0\nhostname X\n shutdown", 3, OUT_OF_PLACE),
+    ];
+    check_all_refused(&rt, rt.alloc(), &files);
+}
+
+#[test]
+fn lines_of_a_banner_are_passed_over(rt: HostRuntime) {
+    let files = [
+        (b"banner motd\n".as_slice(), 1, BAD),
+        (
+            b"hostname X\nbanner motd #\nfrobnicate",
+            2,
+            FileCause::OpenBanner,
+        ),
+        (b"banner motd #\nfrobnicate\n#\n", 0, FileCause::NoHostName),
+        (
+            b"interface Serial0\nbanner exec xax\n shutdown",
+            3,
+            OUT_OF_PLACE,
+        ),
+    ];
+    check_all_refused(&rt, rt.alloc(), &files);
+}
+
+/// A front, and then a piece so many times.
+fn repeated(alloc: Global, front: &[u8], piece: &[u8], times: u32) -> Result<Vec<u8>, AllocError> {
+    let mut text = Vec::from_slice(alloc, front)?;
+    for _ in 0..times {
+        text.extend_from_slice(piece)?;
+    }
+    Ok(text)
+}
+
+#[test]
+fn lines_have_at_most_4096_bytes(rt: HostRuntime) -> Result<(), Fail> {
+    let alloc = rt.alloc();
+    let most = repeated(alloc, b"banner motd #\n", b"!", 4096)?;
+    check_refused(&rt, alloc, most.as_slice(), 1, FileCause::OpenBanner);
+    let over = repeated(alloc, b"banner motd #\n#\n", b"!", 4097)?;
+    check_refused(&rt, alloc, over.as_slice(), 3, FileCause::LineTooLong);
+    let words = repeated(alloc, b"interface Serial0\n description", b" x", 2000)?;
+    check_refused(&rt, alloc, words.as_slice(), 0, FileCause::NoHostName);
+    Ok(())
+}
+
+/// A file with so many interfaces, the first of them opened again at the end.
+fn with_interfaces(alloc: Global, count: u32) -> Result<Vec<u8>, AllocError> {
+    let mut text = Vec::from_slice(alloc, b"hostname X\n")?;
+    for number in 0..count {
+        let line = format!(in alloc; "interface Serial{number}\n")?;
+        text.extend_from_slice(line.as_str().as_bytes())?;
+    }
+    text.extend_from_slice(b"interface Serial0\n")?;
+    Ok(text)
+}
+
+#[test]
+fn a_file_has_at_most_256_interfaces(rt: HostRuntime) -> Result<(), Fail> {
+    let most = with_interfaces(rt.alloc(), 256)?;
+    assert!(rt; read_file(rt.alloc(), most.as_slice()).is_ok());
+    let over = with_interfaces(rt.alloc(), 257)?;
+    let cause = FileCause::TooManyInterfaces;
+    check_refused(&rt, rt.alloc(), over.as_slice(), 258, cause);
+    assert!(rt; cause.code() == 12);
+    Ok(())
+}
+
+const ROUTES: &[u8] = b"interface Serial0
+hostname X
+ip route 10.1.0.0 255.255.0.0 Serial9 200
+ip route 10.1.0.0 255.255.0.0 Null0
+ip route 10.1.0.0 255.255.0.0 Serial9 200 name again
+";
+
+fn check_routes(rt: &impl Abort, routes: &[StaticRoute]) {
+    assert!(rt; routes.len() == 3);
+    for (route, distance) in routes.iter().zip([200, 1, 200]) {
+        assert!(rt; route.distance == distance);
+    }
+}
+
+#[test]
+fn a_file_keeps_its_static_routes(rt: HostRuntime) {
+    match &read_file(rt.alloc(), ROUTES) {
+        Ok(file) => {
+            assert!(rt; file.interfaces.len() == 1);
+            check_routes(&rt, file.static_routes.as_slice());
+        }
+        Err(_) => assert!(rt; false, "refused"),
+    }
+    let files = [
+        (
+            b"interface Serial0\nip route 10.1.0.0 255.255.0.0 Null0\n shutdown".as_slice(),
+            3,
+            OUT_OF_PLACE,
+        ),
+        (
+            b"hostname X\nip route 10.1.0.0 255.255.0.0 Null0 track 1",
+            2,
+            UNSUPPORTED,
+        ),
+    ];
+    check_all_refused(&rt, rt.alloc(), &files);
+}

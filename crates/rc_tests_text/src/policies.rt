@@ -1,0 +1,85 @@
+//! Prefix lists and route maps put together line by line.
+use rc_base::{Addr, Items, Name, Prefix};
+use rc_config::{
+    Action, CommunityChange, MapEntry, MapLine, MatchKind, PrefixLine, PrefixList, RouteMap,
+    SetLine,
+};
+use std::alloc::{AllocError, Global};
+use std::process::Abort;
+use std::test::Fail;
+
+/// A line `permit 10.0.0.0/8 le 24` of this number.
+fn line(sequence: u32, prefix: Prefix) -> PrefixLine {
+    PrefixLine {
+        sequence,
+        action: Action::Permit,
+        prefix,
+        ge: None,
+        le: Some(24),
+    }
+}
+
+/// Two lines, put in as 20, 5.
+fn two_lines(alloc: Global, prefix: Prefix) -> Result<PrefixList, AllocError> {
+    let list = PrefixList::new(alloc).with_line(line(20, prefix))?;
+    list.with_line(line(5, prefix))
+}
+
+#[test]
+fn prefix_lines_by_number(rt: HostRuntime) -> Result<(), Fail> {
+    let prefix = Prefix::new(Addr::new(0x0a00_0000), 8).ok_or("/8")?;
+    let list = two_lines(rt.alloc(), prefix)?;
+    assert!(rt; list.greatest() == Some(20));
+    assert!(rt; list.has_line(5));
+    assert!(rt; !list.has_line(10));
+    assert!(rt; list.lines.get(5).map(|l| l.sequence) == Some(5));
+    Ok(())
+}
+
+/// A line `match ip address prefix-list NAME`.
+fn matching(alloc: Global, name: Name, line: u64) -> Result<MapLine, AllocError> {
+    let mut names = Items::new(alloc);
+    names.push(name)?;
+    Ok(MapLine::Match {
+        kind: MatchKind::PrefixList,
+        names,
+        line,
+    })
+}
+
+/// The map with two lines more in its entry 20.
+fn with_two(map: RouteMap, first: MapLine, metric: u32) -> Result<RouteMap, AllocError> {
+    let map = map.with_line(20, first)?;
+    map.with_line(20, MapLine::Set(SetLine::Metric(metric)))
+}
+
+/// A map whose entry 20 is opened twice, with a condition and a metric each time.
+fn opened_twice(alloc: Global, name: Name) -> Result<RouteMap, AllocError> {
+    let first = matching(alloc, name, 3)?;
+    let second = matching(alloc, name, 7)?;
+    let map = RouteMap::new(alloc).opened(alloc, 20, Action::Permit)?;
+    let map = map.opened(alloc, 10, Action::Permit)?;
+    let map = with_two(map, first, 5)?;
+    let map = map.opened(alloc, 20, Action::Deny)?;
+    with_two(map, second, 6)
+}
+
+fn check_entry(rt: &impl Abort, entry: &MapEntry) {
+    assert!(rt; entry.action == Action::Deny);
+    let second = entry.prefix_lists.as_slice().get(1);
+    assert!(rt; second.map(|m| m.line) == Some(7));
+    assert!(rt; entry.sets.metric == Some(6));
+    assert!(rt; entry.sets.communities == CommunityChange::Keep);
+}
+
+#[test]
+fn entries_opened_again(rt: HostRuntime) -> Result<(), Fail> {
+    let name = Name::new(b"P").ok_or("P")?;
+    let map = opened_twice(rt.alloc(), name)?;
+    assert!(rt; map.entries.len() == 2);
+    match map.entries.get(20) {
+        Some(entry) => check_entry(&rt, entry),
+        None => assert!(rt; false, "no entry"),
+    }
+    Ok(())
+}
