@@ -10,7 +10,6 @@ use rc_grammar::read_file;
 use rc_lines::Lines;
 use rc_openings::{LineError, LineRefusal};
 use std::process::Abort;
-use std::test::Fail;
 
 const BAD: Option<LineError> = Some(LineError::Refused(LineRefusal::BadValue));
 
@@ -53,8 +52,8 @@ fn check_range(rt: &impl Abort, line: &AccessListLine) {
 }
 
 #[test]
-fn a_line_has_its_tests(rt: HostRuntime) -> Result<(), Fail> {
-    let list = Name::new(b"WEB").ok_or("WEB")?;
+fn a_line_has_its_tests(rt: HostRuntime) {
+    let list = Name::new(b"WEB").expect(&rt, "WEB");
     let block = OpenBlock::AccessList(list, AccessListKind::Extended);
     let file = RouterText::new(rt.alloc());
     let text = b"permit tcp any host 10.0.0.1 range 22 telnet log";
@@ -62,12 +61,11 @@ fn a_line_has_its_tests(rt: HostRuntime) -> Result<(), Fail> {
         Some((_, line)) => check_range(&rt, line),
         None => assert!(rt; false, "no line"),
     }
-    Ok(())
 }
 
 #[test]
-fn lines_are_refused(rt: HostRuntime) -> Result<(), Fail> {
-    let list = Name::new(b"WEB").ok_or("WEB")?;
+fn lines_are_refused(rt: HostRuntime) {
+    let list = Name::new(b"WEB").expect(&rt, "WEB");
     let file = RouterText::new(rt.alloc());
     for (kind, text, refusal) in [
         (
@@ -80,7 +78,6 @@ fn lines_are_refused(rt: HostRuntime) -> Result<(), Fail> {
         let block = OpenBlock::AccessList(list, kind);
         assert!(rt; refusal_in(&file, block, text) == refusal, "{text:?}");
     }
-    Ok(())
 }
 
 #[test]
@@ -136,8 +133,8 @@ fn check_next(rt: &impl Abort, file: &RouterText, block: OpenBlock)
 }
 
 #[test]
-fn lines_get_numbers(rt: HostRuntime) -> Result<(), Fail> {
-    let list = Name::new(b"5").ok_or("5")?;
+fn lines_get_numbers(rt: HostRuntime) {
+    let list = Name::new(b"5").expect(&rt, "5");
     let block = OpenBlock::AccessList(list, AccessListKind::Standard);
     let first = line_in(&RouterText::new(rt.alloc()), block, b"deny any");
     assert!(rt; first.map(|l| l.1.sequence) == Some(10));
@@ -145,5 +142,4 @@ fn lines_get_numbers(rt: HostRuntime) -> Result<(), Fail> {
         Ok(file) => check_next(&rt, file, block),
         Err(_) => assert!(rt; false, "refused"),
     }
-    Ok(())
 }

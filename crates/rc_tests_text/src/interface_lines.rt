@@ -3,7 +3,6 @@ use crate::line_answers::check_lines;
 use rc_base::Name;
 use rc_config::OpenBlock;
 use rc_openings::LineRefusal;
-use std::test::Fail;
 
 const BAD: Option<LineRefusal> = Some(LineRefusal::BadValue);
 
@@ -39,8 +38,8 @@ fn a_closed_block_takes_no_form(rt: HostRuntime) {
 }
 
 #[test]
-fn an_interface_takes_addresses_in_range(rt: HostRuntime) -> Result<(), Fail> {
-    let inside = OpenBlock::Interface(Name::new(b"Vlan10").ok_or("Vlan10")?);
+fn an_interface_takes_addresses_in_range(rt: HostRuntime) {
+    let inside = OpenBlock::Interface(Name::new(b"Vlan10").expect(&rt, "Vlan10"));
     let lines = [
         (b"ip address 10.0.0.1 255.0.0.0".as_slice(), None),
         (b"ip address 10.0.0.1 255.0.0.0 secondary", None),
@@ -49,18 +48,17 @@ fn an_interface_takes_addresses_in_range(rt: HostRuntime) -> Result<(), Fail> {
         (b"ip address 10.0.0.1", BAD),
     ];
     check_lines(&rt, rt.alloc(), inside, &lines);
-    let tunnel = OpenBlock::Interface(Name::new(b"Tunnel0").ok_or("Tunnel0")?);
+    let tunnel = OpenBlock::Interface(Name::new(b"Tunnel0").expect(&rt, "Tunnel0"));
     let lines = [
         (b"ip address 10.0.0.1".as_slice(), BAD),
         (b"ip address 10.0.0.1 255.0.0.0", UNSUPPORTED),
     ];
     check_lines(&rt, rt.alloc(), tunnel, &lines);
-    Ok(())
 }
 
 #[test]
-fn an_interface_takes_a_bandwidth_and_is_shut(rt: HostRuntime) -> Result<(), Fail> {
-    let inside = OpenBlock::Interface(Name::new(b"Vlan10").ok_or("Vlan10")?);
+fn an_interface_takes_a_bandwidth_and_is_shut(rt: HostRuntime) {
+    let inside = OpenBlock::Interface(Name::new(b"Vlan10").expect(&rt, "Vlan10"));
     let lines = [
         (b"bandwidth 10000000".as_slice(), None),
         (b"bandwidth 10000001", BAD),
@@ -68,12 +66,11 @@ fn an_interface_takes_a_bandwidth_and_is_shut(rt: HostRuntime) -> Result<(), Fai
         (b"no shutdown now", BAD),
     ];
     check_lines(&rt, rt.alloc(), inside, &lines);
-    Ok(())
 }
 
 #[test]
-fn access_groups_have_a_name_and_a_direction(rt: HostRuntime) -> Result<(), Fail> {
-    let inside = OpenBlock::Interface(Name::new(b"Serial0").ok_or("Serial0")?);
+fn access_groups_have_a_name_and_a_direction(rt: HostRuntime) {
+    let inside = OpenBlock::Interface(Name::new(b"Serial0").expect(&rt, "Serial0"));
     let lines = [
         (b"ip access-group WEB in".as_slice(), None),
         (b"ip access-group 101 out", None),
@@ -82,5 +79,4 @@ fn access_groups_have_a_name_and_a_direction(rt: HostRuntime) -> Result<(), Fail
         (b"ip access-group WEB in log", BAD),
     ];
     check_lines(&rt, rt.alloc(), inside, &lines);
-    Ok(())
 }

@@ -9,7 +9,6 @@ use rc_grammar::read_file;
 use rc_lines::Lines;
 use rc_openings::{LineError, LineRefusal};
 use std::process::Abort;
-use std::test::Fail;
 
 const BAD: LineError = LineError::Refused(LineRefusal::BadValue);
 
@@ -147,20 +146,19 @@ fn check_added(rt: &impl Abort, line: &MapLine, number: u32) {
 }
 
 #[test]
-fn conditions_of_route_maps(rt: HostRuntime) -> Result<(), Fail> {
-    let block = OpenBlock::Map(Name::new(b"M").ok_or("M")?, 10);
+fn conditions_of_route_maps(rt: HostRuntime) {
+    let block = OpenBlock::Map(Name::new(b"M").expect(&rt, "M"), 10);
     let file = RouterText::new(rt.alloc());
     let text = b"!\n!\nmatch ip address prefix-list A 7";
     match &third_in(&file, block, text) {
         Ok(Command::MapLine { line, .. }) => check_match(&rt, line, 2, 3),
         _ => assert!(rt; false, "no line"),
     }
-    Ok(())
 }
 
 #[test]
-fn changes_of_route_maps(rt: HostRuntime) -> Result<(), Fail> {
-    let block = OpenBlock::Map(Name::new(b"M").ok_or("M")?, 10);
+fn changes_of_route_maps(rt: HostRuntime) {
+    let block = OpenBlock::Map(Name::new(b"M").expect(&rt, "M"), 10);
     let file = RouterText::new(rt.alloc());
     match &third_in(&file, block, b"!\n!\nset community 65000:2 additive") {
         Ok(Command::MapLine { line, .. }) => check_added(&rt, line, 4_259_840_002),
@@ -168,5 +166,4 @@ fn changes_of_route_maps(rt: HostRuntime) -> Result<(), Fail> {
     }
     let refused = third_in(&file, block, b"!\n!\nset community additive");
     assert!(rt; refused.err() == Some(BAD));
-    Ok(())
 }

@@ -3,7 +3,6 @@ use crate::line_answers::all_say;
 use rc_base::Name;
 use rc_config::OpenBlock;
 use rc_openings::LineRefusal;
-use std::test::Fail;
 
 /// Lines without indent that are passed over.
 const GLOBAL_IGNORED: &[u8] = b"\
@@ -248,9 +247,9 @@ ip ospf NAME area
 ";
 
 #[test]
-fn every_opening_says_what_its_table_says(rt: HostRuntime) -> Result<(), Fail> {
+fn every_opening_says_what_its_table_says(rt: HostRuntime) {
     let unsupported = Some(LineRefusal::Unsupported);
-    let inside = OpenBlock::Interface(Name::new(b"Serial0").ok_or("Serial0")?);
+    let inside = OpenBlock::Interface(Name::new(b"Serial0").expect(&rt, "Serial0"));
     for (block, text, refusal) in [
         (OpenBlock::Global, GLOBAL_IGNORED, None),
         (OpenBlock::Global, GLOBAL_REFUSED, unsupported),
@@ -260,5 +259,4 @@ fn every_opening_says_what_its_table_says(rt: HostRuntime) -> Result<(), Fail> {
     ] {
         assert!(rt; all_say(rt.alloc(), block, text, refusal), "{text:?}");
     }
-    Ok(())
 }
