@@ -1,7 +1,4 @@
 mod FewLaws
 mod Refused
-mod GrammarLaws
-mod AccessListRoom
-mod PolicyLaws
 mod TextLaws
 mod FirstRefusal

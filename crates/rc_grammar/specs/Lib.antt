@@ -2,7 +2,5 @@ pub mod Answers
 pub mod Codes
 pub mod File
 pub mod Grammars
-pub mod AccessLists
-pub mod Policies
 pub mod PolicyRows
 pub mod ListRows

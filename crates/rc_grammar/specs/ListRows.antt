@@ -7,7 +7,7 @@ use Rattle.rc_openings.specs.GlobalOpenings.{global, global_forms, global_refuse
 use Rattle.rc_openings.specs.InterfaceOpenings.{interface, interface_forms, interface_refused, interface_ignored}
 use Rattle.rc_openings.specs.Opening.{decisive_row}
 use Rattle.rc_openings.specs.OspfOpenings.{ospf, ospf_forms, ospf_refused, ospf_ignored}
-use Rattle.rc_openings.specs.Reading.{said_by}
+use Rattle.rc_openings.specs.Reading.{decided}
 use Rattle.rc_openings.specs.RouteMapOpenings.{route_map, route_map_forms, route_map_refused, route_map_ignored}
 use Rattle.rc_openings.specs.Words.{words_of}
 use Rattle.rc_openings.specs.declared.reading.LineRefusal.{LineRefusal}
@@ -59,7 +59,7 @@ pub unwritten_numbers :
     Makes (block ∷ codes " permit any" ∷ []) (one (codes "A") (10 ∷ []))
     × Makes (block ∷ codes " 50 permit any" ∷ codes " 20 deny any" ∷ codes " permit any" ∷ []) (one (codes "A") (20 ∷ 50 ∷ 60 ∷ []))
     × Makes (codes "access-list 5 permit any" ∷ codes "access-list 5 deny any" ∷ []) (one (codes "5") (10 ∷ 20 ∷ []))
-unfolding step said_by decisive_row global global_forms global_refused global_ignored access_list access_list_forms access_list_refused access_list_ignored words_of refused_words digits
+unfolding step decided decisive_row global global_forms global_refused global_ignored access_list access_list_forms access_list_refused access_list_ignored words_of refused_words digits
 unwritten_numbers = (refl, refl, refl)
 
 -- the number in front of a line of a block is its own, also with zeros in front; one that stands there already is refused
@@ -68,7 +68,7 @@ pub written_numbers :
     × Makes (block ∷ codes " 10 permit any" ∷ codes " 10 permit any" ∷ []) (refused_at 3 BadValue)
     × Makes (block ∷ codes " permit any" ∷ codes " 10 deny any" ∷ []) (refused_at 3 BadValue)
     × Makes (codes "access-list 5 permit any" ∷ codes "ip access-list standard 5" ∷ codes " 10 deny any" ∷ []) (refused_at 3 BadValue)
-unfolding step said_by decisive_row global global_forms global_refused global_ignored access_list access_list_forms access_list_refused access_list_ignored words_of refused_words digits
+unfolding step decided decisive_row global global_forms global_refused global_ignored access_list access_list_forms access_list_refused access_list_ignored words_of refused_words digits
 written_numbers = (refl, refl, refl, refl)
 
 -- numbers end at 2147483647; another number in front of a line is none of its own, and begins no line of a list
@@ -79,14 +79,14 @@ pub greatest_number :
     × Makes (block ∷ codes " 2147483648 permit any" ∷ []) (refused_at 2 Unknown)
     × Makes (block ∷ codes " 0 permit any" ∷ []) (refused_at 2 Unknown)
     × Makes (block ∷ codes " 10" ∷ []) (refused_at 2 Unknown)
-unfolding step said_by decisive_row global global_forms global_refused global_ignored interface interface_forms interface_refused interface_ignored access_list access_list_forms access_list_refused access_list_ignored route_map route_map_forms route_map_refused route_map_ignored ospf ospf_forms ospf_refused ospf_ignored bgp bgp_forms bgp_refused bgp_ignored words_of refused_words digits
+unfolding step decided decisive_row global global_forms global_refused global_ignored interface interface_forms interface_refused interface_ignored access_list access_list_forms access_list_refused access_list_ignored route_map route_map_forms route_map_refused route_map_ignored ospf ospf_forms ospf_refused ospf_ignored bgp bgp_forms bgp_refused bgp_ignored words_of refused_words digits
 greatest_number = (refl, refl, refl, refl, refl, refl)
 
 -- a list by number and one by that number as its name are one; behind `access-list` the number counts, and else the word
 pub numbered_lists :
     Makes (codes "access-list 5 permit any" ∷ codes "ip access-list standard 5" ∷ codes " permit any" ∷ codes "access-list 005 deny any" ∷ []) (one (codes "5") (10 ∷ 20 ∷ 30 ∷ []))
     × Makes (codes "ip access-list standard 005" ∷ codes " permit any" ∷ codes "access-list 005 deny any" ∷ []) (Ok ((codes "005", 10 ∷ []) ∷ (codes "5", 10 ∷ []) ∷ []))
-unfolding step said_by decisive_row global global_forms global_refused global_ignored access_list access_list_forms access_list_refused access_list_ignored words_of refused_words digits
+unfolding step decided decisive_row global global_forms global_refused global_ignored access_list access_list_forms access_list_refused access_list_ignored words_of refused_words digits
 numbered_lists = (refl, refl)
 
 -- a list keeps its kind, also without lines
@@ -95,17 +95,20 @@ pub other_kind :
     × Makes (codes "access-list 5 permit any" ∷ codes "ip access-list extended 5" ∷ []) (refused_at 2 BadValue)
     × Makes (block ∷ codes "ip access-list extended A" ∷ []) (refused_at 2 BadValue)
     × Makes (block ∷ codes " permit any" ∷ block ∷ codes " permit any" ∷ []) (one (codes "A") (10 ∷ 20 ∷ []))
-unfolding step said_by decisive_row global global_forms global_refused global_ignored access_list access_list_forms access_list_refused access_list_ignored words_of refused_words digits
+unfolding step decided decisive_row global global_forms global_refused global_ignored access_list access_list_forms access_list_refused access_list_ignored words_of refused_words digits
 other_kind = (refl, refl, refl, refl)
 
--- a remark of any words makes no line and no list, and opens no block
+-- a remark of any words makes no line and no list, and opens no block; behind `access-list` it takes every number
 pub remarks :
     Makes (block ∷ codes " remark permit any" ∷ codes " 7 remark established" ∷ codes " remark" ∷ codes " permit any" ∷ []) (one (codes "A") (10 ∷ []))
     × Makes (codes "access-list 5 remark x" ∷ codes "access-list 100 remark" ∷ []) (Ok [])
+    × Makes (codes "access-list 700 remark x" ∷ codes "access-list 0 remark" ∷ codes "access-list 4294967295 remark established" ∷ []) (Ok [])
+    × Makes (codes "access-list x remark y" ∷ []) (refused_at 1 BadValue)
+    × Makes (codes "access-list 4294967296 remark y" ∷ []) (refused_at 1 BadValue)
     × Makes (codes "access-list 5 remark x" ∷ codes "ip access-list extended 5" ∷ []) (one (codes "5") [])
     × Makes (codes "access-list 5 remark x" ∷ codes " permit any" ∷ []) (refused_at 2 OutOfPlace)
-unfolding step said_by decisive_row global global_forms global_refused global_ignored interface interface_forms interface_refused interface_ignored access_list access_list_forms access_list_refused access_list_ignored route_map route_map_forms route_map_refused route_map_ignored ospf ospf_forms ospf_refused ospf_ignored bgp bgp_forms bgp_refused bgp_ignored words_of refused_words digits
-remarks = (refl, refl, refl, refl)
+unfolding step decided decisive_row global global_forms global_refused global_ignored interface interface_forms interface_refused interface_ignored access_list access_list_forms access_list_refused access_list_ignored route_map route_map_forms route_map_refused route_map_ignored ospf ospf_forms ospf_refused ospf_ignored bgp bgp_forms bgp_refused bgp_ignored words_of refused_words digits
+remarks = (refl, refl, refl, refl, refl, refl, refl)
 
 -- what isn't modelled and what has no such number is refused, and a word that logs is taken
 pub unsupported :
@@ -115,12 +118,11 @@ pub unsupported :
     × Makes (codes "ip access-list reflexive A" ∷ []) (refused_at 1 Unsupported)
     × Makes (codes "access-list 3000 permit any established" ∷ []) (refused_at 1 Unsupported)
     × Makes (codes "access-list 3000 permit any" ∷ []) (refused_at 1 BadValue)
-    × Makes (codes "access-list 3000 remark x" ∷ []) (refused_at 1 BadValue)
     × Makes (codes "access-list established permit any" ∷ []) (refused_at 1 Unsupported)
     × Makes (codes "access-list x permit any" ∷ []) (refused_at 1 BadValue)
     × Makes (codes "access-list 100 permit icmp any any log" ∷ codes "access-list 5 permit any log" ∷ []) (Ok ((codes "100", 10 ∷ []) ∷ (codes "5", 10 ∷ []) ∷ []))
-unfolding step said_by decisive_row global global_forms global_refused global_ignored access_list access_list_forms access_list_refused access_list_ignored words_of protocol_names port_names refused_words digits
-unsupported = (refl, refl, refl, refl, refl, refl, refl, refl, refl, refl)
+unfolding step decided decisive_row global global_forms global_refused global_ignored access_list access_list_forms access_list_refused access_list_ignored words_of protocol_names port_names refused_words digits
+unsupported = (refl, refl, refl, refl, refl, refl, refl, refl, refl)
 
 -- a line without indent closes the block of a list; `exit` and `!` don't
 pub blocks_end :
@@ -128,5 +130,5 @@ pub blocks_end :
     × Makes (block ∷ codes "line con 0" ∷ codes " permit any" ∷ []) (one (codes "A") [])
     × Makes (block ∷ codes " exit" ∷ codes "!" ∷ codes " permit any" ∷ []) (one (codes "A") (10 ∷ []))
     × Makes (block ∷ codes " hostname X" ∷ []) (refused_at 2 OutOfPlace)
-unfolding step said_by decisive_row global global_forms global_refused global_ignored interface interface_forms interface_refused interface_ignored access_list access_list_forms access_list_refused access_list_ignored route_map route_map_forms route_map_refused route_map_ignored ospf ospf_forms ospf_refused ospf_ignored bgp bgp_forms bgp_refused bgp_ignored words_of refused_words digits
+unfolding step decided decisive_row global global_forms global_refused global_ignored interface interface_forms interface_refused interface_ignored access_list access_list_forms access_list_refused access_list_ignored route_map route_map_forms route_map_refused route_map_ignored ospf ospf_forms ospf_refused ospf_ignored bgp bgp_forms bgp_refused bgp_ignored words_of refused_words digits
 blocks_end = (refl, refl, refl, refl)

@@ -7,7 +7,7 @@ use Rattle.rc_openings.specs.GlobalOpenings.{global, global_forms, global_refuse
 use Rattle.rc_openings.specs.InterfaceOpenings.{interface, interface_forms, interface_refused, interface_ignored}
 use Rattle.rc_openings.specs.Opening.{decisive_row}
 use Rattle.rc_openings.specs.OspfOpenings.{ospf, ospf_forms, ospf_refused, ospf_ignored}
-use Rattle.rc_openings.specs.Reading.{said_by}
+use Rattle.rc_openings.specs.Reading.{decided}
 use Rattle.rc_openings.specs.RouteMapOpenings.{route_map, route_map_forms, route_map_refused, route_map_ignored}
 use Rattle.rc_openings.specs.Words.{words_of}
 use Rattle.rc_openings.specs.declared.reading.LineRefusal.TheVariants.{Unknown, Unsupported, BadValue, OutOfPlace}
@@ -21,8 +21,7 @@ use Rattle.rc_config.specs.declared.map_line.MatchKind.TheVariants as match_kind
 use Rattle.rc_config.specs.declared.map_line.SetLine.TheVariants as set
 use Rattle.rc_gram_policy.specs.Refused.{refused_words}
 use Rattle.rc_grammar.specs.File.{open_after}
-use Rattle.rc_grammar.specs.Grammars.{Answer, grammar_at, says}
-use Rattle.rc_grammar.specs.declared.grammars.Grammar.TheVariants.{AccessLists, Policies, Others}
+use Rattle.rc_grammar.specs.Grammars.{Answer, says}
 
 -- the seventh line of a file that said nothing before
 abbrev pub Says : OpenBlock → List ℕ → Answer → Type 0
@@ -32,17 +31,6 @@ Says at text answer = says at empty 7 (words_of text) ≡ answer
 abbrev pub in_map : OpenBlock
 in_map = place.Map (codes "M") 10
 
--- which grammar reads: without indent two words tell, and in a block all lines are of one
-pub grammars :
-    (grammar_at place.Global (words_of (codes "ip prefix-list P permit 10.0.0.0/8")) ≡ Policies)
-    × (grammar_at place.Global (words_of (codes "ip access-list standard 5")) ≡ AccessLists)
-    × (grammar_at place.Global (words_of (codes "ip route 0.0.0.0 0.0.0.0 Null0")) ≡ Others)
-    × (grammar_at place.Global (words_of (codes "route-map")) ≡ Policies)
-    × (grammar_at in_map (words_of (codes " hostname X")) ≡ Policies)
-    × (grammar_at (place.Interface (codes "Serial0")) (words_of (codes " route-map M permit 10")) ≡ Others)
-unfolding words_of
-grammars = (refl, refl, refl, refl, refl, refl)
-
 -- without indent
 pub lists :
     Says place.Global (codes "ip prefix-list P seq 7 deny 10.1.2.3/8")
@@ -51,7 +39,7 @@ pub lists :
     × Says place.Global (codes "ip community-list standard 7 deny 1:2") (Ok (CommunityLine (codes "7") (record { action = Deny; communities = 65538 ∷ [] })))
     × Says place.Global (codes "ip prefix-list P description of nothing") (Ok Passed)
     × Says place.Global (codes "ip community-list expanded 100 permit 1") (Err Unsupported)
-unfolding access_list access_list_forms access_list_refused access_list_ignored bgp bgp_forms bgp_refused bgp_ignored global global_forms global_refused global_ignored interface interface_forms interface_refused interface_ignored ospf ospf_forms ospf_refused ospf_ignored route_map route_map_forms route_map_refused route_map_ignored decisive_row said_by words_of digits refused_words
+unfolding access_list access_list_forms access_list_refused access_list_ignored bgp bgp_forms bgp_refused bgp_ignored global global_forms global_refused global_ignored interface interface_forms interface_refused interface_ignored ospf ospf_forms ospf_refused ospf_ignored route_map route_map_forms route_map_refused route_map_ignored decisive_row decided words_of digits refused_words
 lists = (refl, refl, refl, refl, refl)
 
 -- an entry, and lines in its block and elsewhere
@@ -64,7 +52,7 @@ pub entries :
     × Says in_map (codes " bandwidth 10") (Err OutOfPlace)
     × Says (place.Interface (codes "Serial0")) (codes " set weight 5") (Err OutOfPlace)
     × Says place.Closed (codes " set weight 5") (Err OutOfPlace)
-unfolding access_list access_list_forms access_list_refused access_list_ignored bgp bgp_forms bgp_refused bgp_ignored global global_forms global_refused global_ignored interface interface_forms interface_refused interface_ignored ospf ospf_forms ospf_refused ospf_ignored route_map route_map_forms route_map_refused route_map_ignored decisive_row said_by words_of digits refused_words
+unfolding access_list access_list_forms access_list_refused access_list_ignored bgp bgp_forms bgp_refused bgp_ignored global global_forms global_refused global_ignored interface interface_forms interface_refused interface_ignored ospf ospf_forms ospf_refused ospf_ignored route_map route_map_forms route_map_refused route_map_ignored decisive_row decided words_of digits refused_words
 entries = (refl, refl, refl, refl, refl, refl, refl, refl)
 
 -- an entry opens its block, and a list none; in the block of an entry its lines leave it open

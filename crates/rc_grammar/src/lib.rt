@@ -4,9 +4,7 @@
 //! bytes, or the least line that is refused and why, and that a model that is given is lawful.
 #![tactic(auto)]
 
-mod access_lists;
 mod grammars;
-mod policies;
 mod reading;
 mod refusal;
 

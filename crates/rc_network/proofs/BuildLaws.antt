@@ -1,6 +1,5 @@
 -- Models that are gathered one by one.
-use Rattle.std.specs.Prelude.{option_copied}
-use Rattle.std.proofs.Common.{◌≡◌, ℕ, ◌≤◌, false, List, [], ◌∷◌, ◌++◌, map, length, Option, Some, None, is_some, Ok, Err, IsSome, refl, sym, ap, ◌∙◌, subst, append_assoc, append-nil, arith, Bor, Bool, true}
+use Rattle.std.proofs.Common.{◌≡◌, ℕ, ◌≤◌, false, List, [], ◌∷◌, ◌++◌, map, length, Option, Some, None, is_some, Result, Ok, Err, IfErr, IfOk, OnOk, IsSome, refl, sym, ap, ◌∙◌, subst, append_assoc, append-nil, arith, true}
 use Rattle.std.specs.Option.{option_map, option_map_or, option_or}
 use Rattle.std.specs.Prelude.{All, IsPermutation, slice_get}
 use Rattle.std.specs.List.{cons_option, filter_map, AllByRecursion}
@@ -12,12 +11,15 @@ use Rattle.rc_config.proofs.NamedLaws.{with_value_new}
 use Rattle.rc_config.specs.Lawful.{IsLawful, IsLawfulFile, IsNamed}
 use Rattle.rc_config.specs.declared.router_text.HostLine.{HostLine}
 use Rattle.rc_config.specs.declared.router_text.RouterText.{RouterText}
-use Rattle.rc_network.specs.Build.{Model, first_refusal, first_undefined, host_of, twice, twice_from, twice_refusal, under_host, undefined_in, IsBuilt}
-use Rattle.rc_network.specs.Step.{gathered_with, Adds, GathersAll}
+use Rattle.rc_network.specs.Build.{Model, first_refusal, first_undefined, host_line, host_of, twice, twice_from, twice_refusal, under_host, undefined_in, IsBuilt}
+use Rattle.rc_network.specs.Step.{gathered_with, nothing, Adds, GathersAll, IsFinished}
 use Rattle.rc_network.specs.declared.building.Gathered.{Gathered}
 use Rattle.rc_network.specs.declared.refusal.BuildError.{BuildError}
 use Rattle.rc_network.specs.declared.refusal.BuildError.TheVariants as error
+use Rattle.rc_network.specs.declared.refusal.NetCause.TheVariants.{TwiceNamed}
 use Rattle.rc_network.specs.declared.refusal.NetRefusal.{NetRefusal}
+use Rattle.rc_network.specs.declared.refusal.NetRefusal.TheVariants.{InFile}
+use Rattle.rc_config.specs.declared.network.Network.{Network}
 
 abbrev Routers : Type 0
 Routers = List (List ℕ × RouterText)
@@ -28,7 +30,7 @@ pub record AreLeft (all left : List Model) (g : Gathered) : Type 0 where
   pub made : g.routers ++ map under_host left ≡ map under_host all
   pub first : option_or g.undefined (first_undefined left) ≡ first_undefined all
 
-pub left-all : (all : List Model) → AreLeft all all (record { routers = []; undefined = None })
+pub left-all : (all : List Model) → AreLeft all all nothing
 left-all all = record { same = refl; made = refl; first = refl }
 
 step-new : (routers : Routers) (m : Model) (rest : List Model) → named routers (host_of m.1) ≡ None → twice_from routers (m ∷ rest) ≡ twice_from (routers ++ under_host m ∷ []) rest
@@ -40,8 +42,8 @@ step-first None (Some r) rest = refl
 step-first None None rest = refl
 
 -- one model more
-pub left-more : (all left rest : List Model) (m : Model) (g more : Gathered) → AreLeft all left g → left ≡ m ∷ rest → Adds g m (Ok more) → AreLeft all rest more
-left-more all left rest m g more h is adds =
+pub left-more : {T : Type 0} (x : T) (all left rest : List Model) (m : Model) (g more : Gathered) → AreLeft all left g → left ≡ m ∷ rest → Adds g m more (Ok x) → AreLeft all rest more
+left-more x all left rest m g more h is adds =
     let here : AreLeft all (m ∷ rest) g = subst (λ (l : List Model). AreLeft all l g) is h in
     let made : (g.routers ++ under_host m ∷ []) ++ map under_host rest ≡ map under_host all = append_assoc g.routers (under_host m ∷ []) (map under_host rest) ∙ here.made in
     let next : AreLeft all rest (gathered_with g m) = record {
@@ -56,9 +58,9 @@ step-twice None routers m rest e some = absurd (cc)
 step-twice (Some x) routers m rest e some = rw e refl
 
 -- a model whose host name is there already
-pub left-failed : (e : BuildError) (all left rest : List Model) (m : Model) (g : Gathered) → AreLeft all left g → left ≡ m ∷ rest → Adds g m (Err e) → GathersAll all (Err e)
-left-failed error.Memory all left rest m g h is adds = tt
-left-failed (error.Refused refusal) all left rest m g h is adds =
+pub left-failed : (T S : Type 0) (e : BuildError) (all left rest : List Model) (m : Model) (g more last : Gathered) → AreLeft all left g → left ≡ m ∷ rest → Adds {T = T} g m more (Err e) → GathersAll {T = S} all last (Err e)
+left-failed T S error.Memory all left rest m g more last h is adds = tt
+left-failed T S (error.Refused refusal) all left rest m g more last h is adds =
     let here : AreLeft all (m ∷ rest) g = subst (λ (l : List Model). AreLeft all l g) is h in
     sym here.same ∙ step-twice (named g.routers (host_of m.1)) g.routers m rest refl adds.0 ∙ ap Some (sym adds.1)
 
@@ -67,56 +69,65 @@ or-none None = refl
 or-none (Some r) = refl
 
 -- none is left
-pub left-none : (all left : List Model) (g : Gathered) → AreLeft all left g → left ≡ [] → GathersAll all (Ok g)
-left-none all left g h is =
+pub left-none : {T : Type 0} (x : T) (all left : List Model) (g : Gathered) → AreLeft all left g → left ≡ [] → GathersAll all g (Ok x)
+left-none x all left g h is =
     let here : AreLeft all [] g = subst (λ (l : List Model). AreLeft all l g) is h in
     let made : g.routers ≡ map under_host all = sym (append-nil g.routers) ∙ here.made in
     let first : g.undefined ≡ first_undefined all = sym (or-none g.undefined) ∙ here.first in
     (sym here.same, λ i. record { routers = made i; undefined = first i })
 
+-- a model whose host name is there already is refused
+pub again : (T : Type 0) (g more : Gathered) (file : List ℕ) (model : RouterText) (host : HostLine) → model.host ≡ Some host → is_some (named g.routers host.name) ≡ true
+    → Adds {T = T} g (file, model) more (Err (error.Refused (InFile file host.line TwiceNamed)))
+again T g more file model host is found =
+    let name : host_of model ≡ host.name = ap (λ (h : Option HostLine). option_map_or (λ h. h.name) h []) is in
+    let line : host_line model ≡ host.line = ap (λ (h : Option HostLine). option_map_or (λ h. h.line) h 0) is in
+    (ap (λ n. is_some (named g.routers n)) name ∙ found, ap (λ n. InFile file n TwiceNamed) (sym line))
+
 not_some : (found : Option RouterText) → is_some found ≡ false → found ≡ None
 not_some None h = refl
 not_some (Some x) h = absurd (cc)
 
--- what is looked up isn't there, seen as the value that is lent
-pub not_there : {A : Type 0} (found : Option (Bor A)) (there : Bool) → there ≡ is_some found → there ≡ false → is_some (option_copied found) ≡ false
-not_there None there is not = refl
-not_there (Some x) there is not = let bad : true ≡ false = sym is ∙ not in absurd (cc)
-
--- a model whose host name is new goes last
-pub added : (g : Gathered) (routers : Routers) (first : Option NetRefusal) (file : List ℕ) (model : RouterText) (host : HostLine) (found : Option RouterText)
-    → model.host ≡ Some host → found ≡ named g.routers host.name → is_some found ≡ false → first ≡ option_or g.undefined (undefined_in (file, model))
-    → routers ≡ with_value g.routers host.name model → Adds g (file, model) (Ok (record { routers = routers; undefined = first }))
-added g routers first file model host found is at new known put =
+-- one whose host name is new goes last
+added : {T : Type 0} (x : T) (g known more : Gathered) (file : List ℕ) (model : RouterText) (host : HostLine) → model.host ≡ Some host → is_some (named g.routers host.name) ≡ false
+    → known ≡ record g { undefined = option_or g.undefined (undefined_in (file, model)) } → more ≡ record known { routers = with_value known.routers host.name model } → Adds g (file, model) more (Ok x)
+added x g known more file model host is new noted put =
     let name : host_of model ≡ host.name = ap (λ (h : Option HostLine). option_map_or (λ h. h.name) h []) is in
-    let none : named g.routers host.name ≡ None = sym at ∙ not_some found new in
-    let last : routers ≡ g.routers ++ (host.name, model) ∷ [] = put ∙ with_value_new g.routers host.name model none in
-    let more : routers ≡ g.routers ++ (host_of model, model) ∷ [] = last ∙ ap (λ n. g.routers ++ (n, model) ∷ []) (sym name) in
-    (ap (λ n. named g.routers n) name ∙ none, λ i. record { routers = more i; undefined = known i })
+    let none : named g.routers host.name ≡ None = not_some (named g.routers host.name) new in
+    let last : with_value g.routers host.name model ≡ g.routers ++ (host_of model, model) ∷ [] =
+    with_value_new g.routers host.name model none ∙ ap (λ n. g.routers ++ (n, model) ∷ []) (sym name) in (
+      ap (λ n. named g.routers n) name ∙ none,
+      put ∙ ap (λ (k : Gathered). record k { routers = with_value k.routers host.name model }) noted ∙ (λ i. record { routers = last i; undefined = option_or g.undefined (undefined_in (file, model)) }),
+    )
+
+pub added-by : {T : Type 0} (r : Result T BuildError) (g known : Gathered) (routers : Routers) (file : List ℕ) (model : RouterText) (host : HostLine) → model.host ≡ Some host
+    → is_some (named g.routers host.name) ≡ false → known ≡ record g { undefined = option_or g.undefined (undefined_in (file, model)) }
+    → OnOk r (routers ≡ with_value known.routers host.name model) → IfErr r (λ e. e ≡ error.Memory) → Adds g (file, model) (record { routers = routers; undefined = known.undefined }) r
+added-by (Ok x) g known routers file model host is new noted put err =
+    added x g known (record { routers = routers; undefined = known.undefined }) file model host is new noted (λ i. record { routers = put i; undefined = known.undefined })
+added-by {T} (Err e) g known routers file model host is new noted put err =
+    subst (λ (e : BuildError). Adds {T = T} g (file, model) (record { routers = routers; undefined = known.undefined }) (Err e)) (sym err) tt
 
 -- a host name that is there already is the first refusal
 pub refused-twice : (models : List Model) (refusal : NetRefusal) → twice models ≡ Some refusal → first_refusal models ≡ Some refusal
 refused-twice models refusal is = ap (λ t. option_or t (first_undefined models)) is
 
 -- where none is, it is that of the first undefined list
-pub first-gathered : (models : List Model) (g : Gathered) → GathersAll models (Ok g) → first_refusal models ≡ g.undefined
-first-gathered models g h = ap (λ t. option_or t (first_undefined models)) h.0 ∙ sym (ap (λ (g : Gathered). g.undefined) h.1)
+first-gathered : {T : Type 0} (x : T) (models : List Model) (g : Gathered) → GathersAll models g (Ok x) → first_refusal models ≡ g.undefined
+first-gathered x models g h = ap (λ t. option_or t (first_undefined models)) h.0 ∙ sym (ap (λ (g : Gathered). g.undefined) h.1)
 
 -- where gathering fails, so does building
-pub failed : (models : List Model) (e : BuildError) → GathersAll models (Err e) → IsBuilt models (Err e)
-failed models error.Memory h = tt
-failed models (error.Refused refusal) h = refused-twice models refusal h
+pub failed : (T : Type 0) (models : List Model) (g : Gathered) (e : BuildError) → GathersAll {T = T} models g (Err e) → IsBuilt models (Err e)
+failed T models g error.Memory h = tt
+failed T models g (error.Refused refusal) h = refused-twice models refusal h
 
--- an undefined list is refused
-pub refused-undefined : (models : List Model) (g : Gathered) (refusal : NetRefusal) → GathersAll models (Ok g) → g.undefined ≡ Some refusal → IsBuilt models (Err (error.Refused refusal))
-refused-undefined models g refusal h is = first-gathered models g h ∙ is
-
--- and where there is none the routers make a network
-pub built : (models : List Model) (g : Gathered) (sorted : Routers) → GathersAll models (Ok g) → g.undefined ≡ None → IsPermutation g.routers sorted → AreNamesInOrder sorted
-    → IsBuilt models (Ok (record { routers = sorted }))
-built models g sorted h none moved in_order =
+-- what is gathered makes the network, or the refusal of the first undefined list
+pub finished : {T : Type 0} (x : T) (models : List Model) (g : Gathered) (r : Result Network BuildError) → GathersAll models g (Ok x) → IsFinished g r → IsBuilt models r
+finished x models g (Err error.Memory) h made = tt
+finished x models g (Err (error.Refused refusal)) h made = first-gathered x models g h ∙ made
+finished x models g (Ok net) h made =
     let same : g.routers ≡ map under_host models = ap (λ (g : Gathered). g.routers) h.1 in
-    (first-gathered models g h ∙ none, record { same = subst (λ (r : Routers). IsPermutation r sorted) same moved; in_order = in_order })
+    (first-gathered x models g h ∙ made.0, record { same = subst (λ (r : Routers). IsPermutation r net.routers) same made.1; in_order = made.2 })
 
 host-named : (h : Option HostLine) → IsSome h → option_map (λ h. h.name) h ≡ Some (option_map_or (λ h. h.name) h [])
 host-named None some = absurd (cc)
@@ -138,7 +149,7 @@ all-routers Q f models sorted lawful same =
     All-permutation Q (map under_host models) sorted same here
 
 -- the network of lawful models is lawful
-pub lawful-built : (models : List Model) (routers sorted : Routers) → length models ≤ 512 → AllLawful models → routers ≡ map under_host models
+lawful-built : (models : List Model) (routers sorted : Routers) → length models ≤ 512 → AllLawful models → routers ≡ map under_host models
     → IsPermutation routers sorted → AreNamesInOrder sorted → IsLawful (record { routers = sorted })
 lawful-built models routers sorted few lawful is moved in_order =
     let same : IsPermutation (map under_host models) sorted = subst (λ (r : Routers). IsPermutation r sorted) is moved in
@@ -154,3 +165,7 @@ rest-lawful m left rest is all =
     let P : Model → Type 0 = λ m. IsSome m.1.host in
     let here : All P (m ∷ rest) = subst (All P) is all in
     All-from_recursion P rest (recursion_from_All P (m ∷ rest) here).1
+
+pub lawful-finished : {T : Type 0} (x : T) (models : List Model) (g : Gathered) (r : Result Network BuildError) → length models ≤ 512 → AllLawful models → GathersAll models g (Ok x) → IsFinished g r → IfOk r IsLawful
+lawful-finished x models g (Err e) few lawful h made = tt
+lawful-finished x models g (Ok net) few lawful h made = lawful-built models g.routers net.routers few lawful (ap (λ (g : Gathered). g.routers) h.1) made.1 made.2

@@ -28,13 +28,13 @@ module _ (l : Lists) where
   pub least_from-append : (known : Option ℕ) (these those : List NamedList) → least_from (least_from known l these) l those ≡ least_from known l (these ++ those)
   least_from-append known these those = sym (ap (fold lower known) (lines-append these those) ∙ fold-append lower known (undefined_lines l these) (undefined_lines l those))
 
-  -- those of the route map at a place, and then those of the maps behind it
-  pub least_from-place : (known : Option ℕ) (maps : Maps) (place : ℕ)
-      → least_from (option_map_or (λ e. least_from known l (named_by_map e.1)) (slice_get maps place) known) l (named_by_maps (drop (suc place) maps)) ≡ least_from known l (named_by_maps (drop place maps))
-  least_from-place known [] zero = refl
-  least_from-place known [] (suc place) = refl
-  least_from-place known (e ∷ maps) zero = least_from-append known (named_by_map e.1) (named_by_maps maps)
-  least_from-place known (e ∷ maps) (suc place) = least_from-place known maps place
+  -- those of the route map at a index, and then those of the maps behind it
+  pub least_from-index : (known : Option ℕ) (maps : Maps) (index : ℕ)
+      → least_from (option_map_or (λ e. least_from known l (named_by_map e.1)) (slice_get maps index) known) l (named_by_maps (drop (suc index) maps)) ≡ least_from known l (named_by_maps (drop index maps))
+  least_from-index known [] zero = refl
+  least_from-index known [] (suc index) = refl
+  least_from-index known (e ∷ maps) zero = least_from-append known (named_by_map e.1) (named_by_maps maps)
+  least_from-index known (e ∷ maps) (suc index) = least_from-index known maps index
 
   -- one entry more: those that are left give the same answer
   pub left-entry : (known more whole : Option ℕ) (left rest : List MapEntry) (e : MapEntry) → left ≡ e ∷ rest → more ≡ least_from known l (named_by_entry e)
@@ -44,11 +44,11 @@ module _ (l : Lists) where
       ∙ ap (λ es. least_from known l (flat_map named_by_entry es)) (sym is) ∙ h
 
   -- and one route map more
-  pub left-map : (known more whole : Option ℕ) (maps : Maps) (place : ℕ) → more ≡ option_map_or (λ e. least_from known l (named_by_map e.1)) (slice_get maps place) known
-      → least_from known l (named_by_maps (drop place maps)) ≡ whole → least_from more l (named_by_maps (drop (place + 1) maps)) ≡ whole
-  left-map known more whole maps place here h =
-      ap (λ n. least_from more l (named_by_maps (drop n maps))) (add-one place) ∙ ap (λ n. least_from n l (named_by_maps (drop (suc place) maps))) here
-      ∙ least_from-place known maps place ∙ h
+  pub left-map : (known more whole : Option ℕ) (maps : Maps) (index : ℕ) → more ≡ option_map_or (λ e. least_from known l (named_by_map e.1)) (slice_get maps index) known
+      → least_from known l (named_by_maps (drop index maps)) ≡ whole → least_from more l (named_by_maps (drop (index + 1) maps)) ≡ whole
+  left-map known more whole maps index here h =
+      ap (λ n. least_from more l (named_by_maps (drop n maps))) (add-one index) ∙ ap (λ n. least_from n l (named_by_maps (drop (suc index) maps))) here
+      ∙ least_from-index known maps index ∙ h
 
 with_known : (known : ℕ) (lines : List ℕ) → fold lower (Some known) lines ≡ Some (fold min known lines)
 with_known known [] = refl

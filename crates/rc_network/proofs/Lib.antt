@@ -1,3 +1,4 @@
 mod BuildLaws
 mod LeastLaws
 pub mod OneNetwork
+mod TwiceLaws

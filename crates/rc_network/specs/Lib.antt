@@ -3,4 +3,5 @@ pub mod Undefined
 pub mod Least
 pub mod Build
 pub mod Step
+pub mod Twice
 pub mod Rows

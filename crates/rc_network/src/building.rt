@@ -1,13 +1,15 @@
 //! Models under their host names.
-ghost use Rattle.std.specs.Prelude.{◌≡◌, ◌≤◌, ◌++◌, ◌∷◌, [], All, IfOk, IsSome, Some, length, map};
+ghost use Rattle.std.specs.Prelude.{◌≡◌, ◌≤◌, All, IfErr, IfOk, IsSome, OnOk, Some, is_some, length};
 ghost use Rattle.std.specs.Option.{option_or};
 ghost use Rattle.rc_config.specs.Lawful.{IsLawful, IsLawfulFile};
+ghost use Rattle.rc_config.specs.Named.{named, with_value};
 ghost use Rattle.rc_network.specs.Build.{undefined_in, HasOneNetwork, IsBuilt};
-ghost use Rattle.rc_network.specs.Step.{Adds, GathersAll};
+ghost use Rattle.rc_network.specs.Step.{nothing, Adds, GathersAll, IsFinished};
+ghost use Rattle.rc_network.specs.Twice.{NamesTheFirstTwice};
 
 use crate::undefined::undefined_line;
 use crate::{BuildError, NetCause, NetRefusal};
-use rc_base::FileName;
+use rc_base::{FileName, Name};
 use rc_config::{HostLine, Named, Network, RouterText};
 use std::alloc::Global;
 use std::collections::VecDeque;
@@ -23,64 +25,120 @@ fn host_of(model: &RouterText) -> HostLine
     }
 }
 
-/// Models under their host names, as far as they have come, and the refusal of the first undefined list among them.
-#[derive(Drop)]
-struct Gathered {
-    routers: Named<RouterText>,
-    undefined: Option<NetRefusal>,
-}
-
-/// The known refusal, or else that of a model's first undefined list.
-fn undefined_or(known: Option<NetRefusal>, file: FileName, model: &RouterText) -> Option<NetRefusal>
-    ensures { result ≡ option_or known (undefined_in (file, model.now)) }
+/// The refusal of a model's first undefined list.
+fn undefined_of(file: FileName, model: &RouterText) -> Option<NetRefusal>
+    ensures { result ≡ undefined_in (file, model.now) }
 {
-    if known.is_some() {
-        return known;
-    }
     match undefined_line(model) {
         Some(line) => Some(NetRefusal::InFile(file, line, NetCause::Undefined)),
         None => None,
     }
 }
 
-/// One more model under its host name.
-fn with_model(gathered: Gathered, file: FileName, model: RouterText) -> Result<Gathered, BuildError>
-    requires { IsSome model.host }
-    ensures { Adds gathered (file, model) result }
-{
-    let Gathered {
-        mut routers,
-        undefined,
-    } = gathered;
-    let host = host_of(&model);
-    if routers.get(&host.name).is_some() {
-        let refusal = NetRefusal::InFile(file, host.line, NetCause::TwiceNamed);
-        return Err(BuildError::Refused(refusal));
+/// Models under their host names, as far as they have come, and the refusal of the first undefined list among them.
+struct Gathered {
+    routers: Named<RouterText>,
+    undefined: Option<NetRefusal>,
+}
+
+/// By a function of its own, so that what holds one drops it by one call.
+impl Drop for Gathered {
+    fn drop(self) {
+        let Gathered {
+            routers: _,
+            undefined: _,
+        } = self;
     }
-    let undefined = undefined_or(undefined, file, &model);
-    match routers.insert(host.name, model) {
-        Ok(_) => Ok(Gathered { routers, undefined }),
+}
+
+/// Puts a model under its host name.
+fn put_router(
+    routers: &mut Named<RouterText>,
+    name: Name,
+    model: RouterText,
+) -> Result<(), BuildError>
+    ensures put { OnOk result (routers.new ≡ with_value routers.old name model) }
+    ensures memory { IfErr result (λ e. e ≡ BuildError.Memory) }
+{
+    match routers.insert(name, model) {
+        Ok(_) => Ok(()),
         Err(_) => Err(BuildError::Memory),
     }
 }
 
-/// All models under their host names, as they come.
-fn gather(alloc: Global, models: Vec<(FileName, RouterText)>) -> Result<Gathered, BuildError>
-    requires { All (λ m. IsSome m.1.host) models.items }
-    ensures { GathersAll models.items result }
-{
-    let mut gathered = Gathered {
-        routers: Named::new(alloc),
-        undefined: None,
-    };
-    let mut left = VecDeque::from(models);
-    while let Some((file, model)) = left.pop_front() {
-        match with_model(gathered, file, model) {
-            Ok(more) => gathered = more,
-            Err(error) => return Err(error),
+impl Gathered {
+    /// No model yet.
+    fn new(alloc: Global) -> Gathered
+        ensures { result ≡ nothing }
+    {
+        Gathered {
+            routers: Named::new(alloc),
+            undefined: None,
         }
     }
-    Ok(gathered)
+
+    /// Whether a model of this host name is there.
+    fn has(&self, name: &Name) -> bool
+        ensures { result ≡ is_some (named self.now.routers name.now) }
+    {
+        self.routers.get(name).is_some()
+    }
+
+    /// Notes the first undefined list of a model, where none is known.
+    fn note_undefined(&mut self, file: FileName, model: &RouterText)
+        ensures { self.new ≡ record self.old { undefined = option_or self.old.undefined (undefined_in (file, model.now)) } }
+    {
+        if self.undefined.is_none() {
+            self.undefined = undefined_of(file, model);
+        }
+    }
+
+    /// Puts one more model under its host name.
+    fn put_model(&mut self, file: FileName, model: RouterText) -> Result<(), BuildError>
+        requires { IsSome model.host }
+        ensures { Adds self.old (file, model) self.new result }
+    {
+        let host = host_of(&model);
+        if self.has(&host.name) {
+            let refusal = NetRefusal::InFile(file, host.line, NetCause::TwiceNamed);
+            return Err(BuildError::Refused(refusal));
+        }
+        self.note_undefined(file, &model);
+        put_router(&mut self.routers, host.name, model)
+    }
+
+    /// Puts all models under their host names, as they come.
+    fn put_models(&mut self, models: Vec<(FileName, RouterText)>) -> Result<(), BuildError>
+        requires empty { self.old ≡ nothing }
+        requires hosts { All (λ m. IsSome m.1.host) models.items }
+        ensures { GathersAll models.items self.new result }
+    {
+        let mut left = VecDeque::from(models);
+        while let Some((file, model)) = left.pop_front() {
+            match self.put_model(file, model) {
+                Ok(()) => {}
+                Err(error) => return Err(error),
+            }
+        }
+        Ok(())
+    }
+
+    /// The network of these models, or the refusal of their first undefined list.
+    fn finished(self) -> Result<Network, BuildError>
+        ensures { IsFinished self result }
+    {
+        let Gathered {
+            mut routers,
+            undefined,
+        } = self;
+        if let Some(refusal) = undefined {
+            return Err(BuildError::Refused(refusal));
+        }
+        match routers.sort_names() {
+            Ok(()) => Ok(Network { routers }),
+            Err(_) => Err(BuildError::Memory),
+        }
+    }
 }
 
 /// The network of the models of files, which stand in the byte order of their files' names.
@@ -94,23 +152,19 @@ pub fn build(alloc: Global, models: Vec<(FileName, RouterText)>) -> Result<Netwo
     ensures built { IsBuilt models.items result }
     ensures lawful { IfOk result IsLawful }
 {
-    let Gathered {
-        mut routers,
-        undefined,
-    } = match gather(alloc, models) {
-        Ok(gathered) => gathered,
-        Err(error) => return Err(error),
-    };
-    if let Some(refusal) = undefined {
-        return Err(BuildError::Refused(refusal));
-    }
-    match routers.sort_names() {
-        Ok(()) => Ok(Network { routers }),
-        Err(_) => Err(BuildError::Memory),
+    let mut gathered = Gathered::new(alloc);
+    match gathered.put_models(models) {
+        Ok(()) => gathered.finished(),
+        Err(error) => Err(error),
     }
 }
 
 /// The models of files have one network.
 pub fn one_network()
     ensures { HasOneNetwork }
+{}
+
+/// The host name that is named twice is that of the first file whose host name an earlier file has.
+pub fn named_twice()
+    ensures { NamesTheFirstTwice }
 {}

@@ -9,5 +9,5 @@ mod building;
 mod refusal;
 mod undefined;
 
-pub use building::{build, one_network};
+pub use building::{build, named_twice, one_network};
 pub use refusal::{BuildError, NetCause, NetRefusal};

@@ -89,11 +89,11 @@ fn least_of_map(lists: &Lists, map: &RouteMap, known: Option<u64>) -> Option<u64
     least
 }
 
-/// The same of the lines of the route map at a place.
-fn least_at(file: &RouterText, place: usize, known: Option<u64>) -> Option<u64>
-    ensures { result ≡ option_map_or (λ e. least_from known file.now.lists (named_by_map e.1)) (slice_get file.now.route_maps place) known }
+/// The same of the lines of the route map at an index.
+fn least_at(file: &RouterText, index: usize, known: Option<u64>) -> Option<u64>
+    ensures { result ≡ option_map_or (λ e. least_from known file.now.lists (named_by_map e.1)) (slice_get file.now.route_maps index) known }
 {
-    match file.route_maps.at(place) {
+    match file.route_maps.at(index) {
         Some((_, map)) => least_of_map(&file.lists, map, known),
         None => known,
     }
@@ -105,8 +105,8 @@ pub(crate) fn undefined_line(file: &RouterText) -> Option<u64>
     ensures { result ≡ undefined_line file.now }
 {
     let mut least = None;
-    for place in 0..file.route_maps.len() {
-        least = least_at(file, place, least);
+    for index in 0..file.route_maps.len() {
+        least = least_at(file, index, least);
     }
     least
 }

@@ -6,7 +6,7 @@ ghost use Rattle.rc_route.specs.Tables.{IsTable};
 
 use rc_base::{Addr, IfId, Items, Prefix, RouterId};
 use rc_fib::Fib;
-use rc_route::{Hop, Route, Source, Table, push_hop};
+use rc_route::{Hop, Hops, Route, Source, Table};
 use std::alloc::{AllocError, Global};
 use std::test::Fail;
 
@@ -18,12 +18,7 @@ fn device(index: usize) -> IfId {
 }
 
 /// The table with a route at its end.
-fn with_route(
-    mut table: Table,
-    network: u32,
-    len: u8,
-    hops: Items<Hop>,
-) -> Result<Table, AllocError>
+fn with_route(mut table: Table, network: u32, len: u8, hop: Hop) -> Result<Table, AllocError>
     requires { len ≤ 32 }
     ensures { IfOk result (λ made. map (λ (r : Route). r.prefix) made ≡ map (λ (r : Route). r.prefix) table ++ prefix_at network len ∷ []) }
 {
@@ -32,29 +27,29 @@ fn with_route(
         source: Source::Static,
         distance: 1,
         metric: 0,
-        hops,
+        hops: Hops::one(hop),
     })?;
     Ok(table)
-}
-
-fn one_hop(alloc: Global, hop: &Hop) -> Result<Items<Hop>, AllocError> {
-    let mut hops = Items::new(alloc);
-    push_hop(&mut hops, *hop)?;
-    Ok(hops)
 }
 
 /// A default route by way of 10.0.0.1, a route to nowhere, a connected one, and one by way of the connected one.
 fn example(alloc: Global) -> Result<Table, AllocError>
     ensures { IfOk result IsTable }
 {
-    let by_default = one_hop(alloc, &Hop::Via(Addr::new(0x0a00_0001), None))?;
-    let nowhere = one_hop(alloc, &Hop::Null)?;
-    let connected = one_hop(alloc, &Hop::Dev(device(2)))?;
-    let by_way = one_hop(alloc, &Hop::Via(Addr::new(0x0a00_0009), None))?;
-    let table = with_route(Items::new(alloc), 0, 0, by_default)?;
-    let table = with_route(table, 0x0a00_0000, 8, nowhere)?;
-    let table = with_route(table, 0x0a00_0000, 24, connected)?;
-    let table = with_route(table, 0x0a00_0100, 24, by_way)?;
+    let table = with_route(
+        Items::new(alloc),
+        0,
+        0,
+        Hop::Via(Addr::new(0x0a00_0001), None),
+    )?;
+    let table = with_route(table, 0x0a00_0000, 8, Hop::Null)?;
+    let table = with_route(table, 0x0a00_0000, 24, Hop::Dev(device(2)))?;
+    let table = with_route(
+        table,
+        0x0a00_0100,
+        24,
+        Hop::Via(Addr::new(0x0a00_0009), None),
+    )?;
     Ok(table)
 }
 

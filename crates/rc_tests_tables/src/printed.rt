@@ -3,7 +3,7 @@ use rc_base::{Addr, IfId, Items, Kind, Name, Pos, Prefix, RouterId};
 use rc_config::{Command, Named, Network, RouterText};
 use rc_outside::MemSink;
 use rc_report::{Buffer, Part, SinkFault, end_line, put_line, put_parts, put_routes, put_walk};
-use rc_route::{Hop, Route, Source, Table};
+use rc_route::{Hop, Hops, Route, Source, Table};
 use rc_walk::{Stop, Walk};
 use std::alloc::{AllocError, Global};
 use std::process::Abort;
@@ -139,12 +139,8 @@ fn network(alloc: Global) -> Result<Network, Fail> {
     Ok(Network { routers })
 }
 
-fn listed(alloc: Global, hops: &[Hop]) -> Result<Items<Hop>, AllocError> {
-    let mut all = Items::new(alloc);
-    for hop in hops {
-        all.push(*hop)?;
-    }
-    Ok(all)
+fn listed(alloc: Global, hops: &[Hop]) -> Result<Hops, AllocError> {
+    Ok(Hops::from_items(Items::from_vec(Vec::from_slice(alloc, hops)?)))
 }
 
 /// A route to the network 10.0.N.0/24.

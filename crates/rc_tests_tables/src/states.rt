@@ -1,10 +1,10 @@
 //! States that differ in one field, copies, and the orders of hops and sources.
 ghost use Rattle.std.specs.Prelude.{◌≡◌, ◌≤◌, ◌∷◌, ◌++◌, [], IfOk};
 
-use rc_base::{Addr, IfId, Items, Origin, Prefix, RouterId};
+use rc_base::{Addr, Communities, IfId, Items, Origin, Prefix, RouterId};
 use rc_route::{
-    BgpPath, Hop, PathSource, Route, RouterState, Source, State, Table, compare_hops,
-    compare_sources, copy, equal, push_hop,
+    BgpPath, Hop, Hops, PathSource, Route, RouterState, Source, State, Table, compare_hops,
+    compare_path_sources, compare_sources, copy, equal, same_hop,
 };
 use std::alloc::{AllocError, Global};
 use std::process::Abort;
@@ -29,18 +29,8 @@ fn addr_at(field: usize, changed: usize) -> Addr {
     Addr::new(u32::from(value_at(field, changed)))
 }
 
-fn numbers_at(alloc: Global, field: usize, changed: usize) -> Result<Items<u32>, AllocError> {
-    let mut numbers = Items::new(alloc);
-    numbers.push(65_000)?;
-    numbers.push(u32::from(value_at(field, changed)))?;
-    Ok(numbers)
-}
-
-fn hops_with(mut hops: Items<Hop>, hop: Hop) -> Result<Items<Hop>, AllocError>
-    ensures { IfOk result (λ made. made ≡ hops ++ hop ∷ []) }
-{
-    push_hop(&mut hops, hop)?;
-    Ok(hops)
+fn numbers_at(alloc: Global, field: usize, changed: usize) -> Result<Vec<u32>, AllocError> {
+    Vec::from_slice(alloc, &[65_000, u32::from(value_at(field, changed))])
 }
 
 fn table_with(mut table: Table, route: Route) -> Result<Table, AllocError>
@@ -70,8 +60,8 @@ fn route_at(alloc: Global, changed: usize) -> Result<Route, Fail> {
         router: RouterId::at(0),
         index: 1,
     };
-    let hops = hops_with(Items::new(alloc), Hop::Dev(device))?;
-    let hops = hops_with(hops, Hop::Via(addr_at(4, changed), Some(device)))?;
+    let mut hops = Hops::one(Hop::Dev(device));
+    hops.push(alloc, Hop::Via(addr_at(4, changed), Some(device)))?;
     Ok(Route {
         prefix: prefix_at(0, changed)?,
         source: if changed == 1 {
@@ -98,8 +88,8 @@ fn path_at(alloc: Global, changed: usize) -> Result<BgpPath, Fail> {
         } else {
             Origin::Igp
         },
-        as_path: numbers_at(alloc, 11, changed)?,
-        communities: numbers_at(alloc, 12, changed)?,
+        as_path: Items::from_vec(numbers_at(alloc, 11, changed)?),
+        communities: Communities::of(numbers_at(alloc, 12, changed)?)?,
         source: if changed == 13 {
             PathSource::Internal
         } else {
@@ -241,6 +231,27 @@ fn sources_in_order(rt: HostRuntime) {
     for (index, source) in sources.iter().enumerate() {
         for (other_index, other) in sources.iter().enumerate() {
             let found = compare_sources(*source, *other);
+            assert!(rt;
+                found == index.cmp(&other_index),
+                "{index} and {other_index}"
+            );
+        }
+    }
+}
+
+#[test]
+fn path_sources_in_order(rt: HostRuntime) {
+    let sources = [
+        PathSource::Network,
+        PathSource::Connected,
+        PathSource::Static,
+        PathSource::Ospf,
+        PathSource::External,
+        PathSource::Internal,
+    ];
+    for (index, source) in sources.iter().enumerate() {
+        for (other_index, other) in sources.iter().enumerate() {
+            let found = compare_path_sources(*source, *other);
             assert!(rt;
                 found == index.cmp(&other_index),
                 "{index} and {other_index}"

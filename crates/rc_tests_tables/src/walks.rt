@@ -7,7 +7,7 @@ use rc_config::{
     AccessListKind, AccessListLine, Action, AddressTest, Command, Direction, IfAddr, Named,
     Network, RouterText,
 };
-use rc_route::{Hop, Route, RouterState, Source, State, push_hop};
+use rc_route::{Hop, Hops, Route, RouterState, Source, State};
 use rc_topology::Links;
 use rc_walk::{Move, Plane, Stop, Walk, step, trace};
 use std::alloc::{AllocError, Global};
@@ -110,15 +110,13 @@ fn filtered(alloc: Global, direction: Direction) -> Result<Network, Fail> {
 fn knows(alloc: Global, hop: &Hop) -> Result<RouterState, AllocError>
     ensures { IfOk result IsRouterState }
 {
-    let mut hops = Items::new(alloc);
-    push_hop(&mut hops, *hop)?;
     let mut table = Items::new(alloc);
     table.push(Route {
         prefix: Prefix::new(Addr::new(0), 0).unwrap(),
         source: Source::Static,
         distance: 1,
         metric: 0,
-        hops,
+        hops: Hops::one(*hop),
     })?;
     Ok(RouterState {
         table,

@@ -1,15 +1,48 @@
-//! One line of an access list: its values, its number, and how it is refused.
-use rc_base::Addr;
-use rc_config::{AccessList, AccessListKind, AccessListLine, AddressTest, PortTest};
-use rc_gram_acl::{kind_of_number, read_access_list_line, sequence_for};
-use rc_openings::{LineRefusal, Words};
-use std::alloc::Global;
+//! One line of an access list: its values, its number, remarks, and how it is refused.
+ghost use Rattle.rc_config.specs.Lawful.{HasLawfulLists};
+
+use rc_base::{Addr, Name};
+use rc_config::{
+    AccessListKind, AccessListLine, AddressTest, Command, Context, OpenBlock, PortTest, RouterText,
+};
+use rc_gram_acl::read_line;
+use rc_grammar::read_file;
+use rc_lines::Lines;
+use rc_openings::{LineError, LineRefusal};
 use std::process::Abort;
 use std::test::Fail;
 
-/// The line 10 of a list that these words are.
-fn said(kind: AccessListKind, text: &[u8]) -> Result<AccessListLine, LineRefusal> {
-    read_access_list_line(kind, 10, Words::new(text))
+const BAD: Option<LineError> = Some(LineError::Refused(LineRefusal::BadValue));
+
+const UNSUPPORTED: Option<LineError> = Some(LineError::Refused(LineRefusal::Unsupported));
+
+/// The line of an access list that the text is in this block, and the kind of the list.
+fn line_in(
+    file: &RouterText,
+    block: OpenBlock,
+    text: &[u8],
+) -> Option<(AccessListKind, AccessListLine)>
+    requires { HasLawfulLists file.now }
+{
+    let line = Lines::new(text).next()?;
+    match &read_line(&line, Context { block, file }) {
+        Ok(
+            Command::AccessListLine {
+                list: _,
+                kind,
+                line,
+            },
+        ) => Some((*kind, *line)),
+        _ => None,
+    }
+}
+
+/// How the text is refused in this block.
+fn refusal_in(file: &RouterText, block: OpenBlock, text: &[u8]) -> Option<LineError>
+    requires { HasLawfulLists file.now }
+{
+    let line = Lines::new(text).next()?;
+    read_line(&line, Context { block, file }).err()
 }
 
 fn check_range(rt: &impl Abort, line: &AccessListLine) {
@@ -20,54 +53,97 @@ fn check_range(rt: &impl Abort, line: &AccessListLine) {
 }
 
 #[test]
-fn a_line_has_its_tests(rt: HostRuntime) {
+fn a_line_has_its_tests(rt: HostRuntime) -> Result<(), Fail> {
+    let list = Name::new(b"WEB").ok_or("WEB")?;
+    let block = OpenBlock::AccessList(list, AccessListKind::Extended);
+    let file = RouterText::new(rt.alloc());
     let text = b"permit tcp any host 10.0.0.1 range 22 telnet log";
-    match &said(AccessListKind::Extended, text) {
-        Ok(line) => check_range(&rt, line),
-        Err(_) => assert!(rt; false, "refused"),
+    match &line_in(&file, block, text) {
+        Some((_, line)) => check_range(&rt, line),
+        None => assert!(rt; false, "no line"),
     }
+    Ok(())
 }
 
 #[test]
-fn lines_are_refused(rt: HostRuntime) {
+fn lines_are_refused(rt: HostRuntime) -> Result<(), Fail> {
+    let list = Name::new(b"WEB").ok_or("WEB")?;
+    let file = RouterText::new(rt.alloc());
     for (kind, text, refusal) in [
         (
             AccessListKind::Extended,
             b"permit udp any any eq 23 foo".as_slice(),
-            LineRefusal::Unsupported,
+            UNSUPPORTED,
         ),
-        (
-            AccessListKind::Standard,
-            b"permit udp any any",
-            LineRefusal::BadValue,
-        ),
+        (AccessListKind::Standard, b"permit udp any any", BAD),
     ] {
-        assert!(rt; said(kind, text).err() == Some(refusal), "{text:?}");
+        let block = OpenBlock::AccessList(list, kind);
+        assert!(rt; refusal_in(&file, block, text) == refusal, "{text:?}");
     }
+    Ok(())
 }
 
 #[test]
 fn numbers_tell_kinds_of_lists(rt: HostRuntime) {
-    assert!(rt; kind_of_number(2699) == Some(AccessListKind::Extended));
+    let file = RouterText::new(rt.alloc());
+    for (text, kind) in [
+        (
+            b"access-list 99 permit any".as_slice(),
+            AccessListKind::Standard,
+        ),
+        (
+            b"access-list 2699 permit ip any any",
+            AccessListKind::Extended,
+        ),
+    ] {
+        let found = line_in(&file, OpenBlock::Global, text);
+        assert!(rt; found.map(|l| l.0) == Some(kind), "{text:?}");
+    }
+}
+
+#[test]
+fn a_remark_takes_every_number(rt: HostRuntime) {
+    let file = RouterText::new(rt.alloc());
+    for (text, refusal) in [
+        (b"access-list 5 remark x".as_slice(), None),
+        (b"access-list 700 remark x", None),
+        (b"access-list 0 remark", None),
+        (b"access-list 4294967295 remark x", None),
+        (b"access-list WEB remark x", BAD),
+        (b"access-list 700 permit any", BAD),
+        (b"access-list 700 deny any", BAD),
+    ] {
+        assert!(rt;
+            refusal_in(&file, OpenBlock::Global, text) == refusal,
+            "{text:?}"
+        );
+    }
 }
 
 /// A standard list with a line 15.
-fn list_of_15(alloc: Global) -> Result<AccessList, Fail> {
-    // The generated proof of an insertion wants each enum within the element named in the function.
-    let _test: PortTest = PortTest::Any;
-    let words = Words::new(b"deny 10.0.0.1");
-    let line = read_access_list_line(AccessListKind::Standard, 15, words)
-        .ok()
-        .ok_or("a line")?;
-    Ok(AccessList::new(alloc, AccessListKind::Standard).with_line(line)?)
+const FIFTEEN: &[u8] = b"hostname X
+ip access-list standard 5
+ 15 deny 10.0.0.1
+";
+
+/// Asserts which number a line gets behind a line 15, and that this number is there already.
+fn check_next(rt: &impl Abort, file: &RouterText, block: OpenBlock)
+    requires { HasLawfulLists file.now }
+{
+    let next = line_in(file, block, b"deny any");
+    assert!(rt; next.map(|l| l.1.sequence) == Some(25));
+    assert!(rt; refusal_in(file, block, b"15 deny any") == BAD);
 }
 
 #[test]
 fn lines_get_numbers(rt: HostRuntime) -> Result<(), Fail> {
-    let empty = AccessList::new(rt.alloc(), AccessListKind::Standard);
-    assert!(rt; sequence_for(&empty, None) == Some(10));
-    let list = list_of_15(rt.alloc())?;
-    assert!(rt; sequence_for(&list, None) == Some(25));
-    assert!(rt; sequence_for(&list, Some(15)).is_none());
+    let list = Name::new(b"5").ok_or("5")?;
+    let block = OpenBlock::AccessList(list, AccessListKind::Standard);
+    let first = line_in(&RouterText::new(rt.alloc()), block, b"deny any");
+    assert!(rt; first.map(|l| l.1.sequence) == Some(10));
+    match &read_file(rt.alloc(), FIFTEEN) {
+        Ok(file) => check_next(&rt, file, block),
+        Err(_) => assert!(rt; false, "refused"),
+    }
     Ok(())
 }

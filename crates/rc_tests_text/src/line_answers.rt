@@ -2,7 +2,7 @@
 use rc_config::{Command, Context, OpenBlock, RouterText, StaticRoute};
 use rc_gram_if::read_line;
 use rc_lines::{Line, Lines};
-use rc_openings::LineRefusal;
+use rc_openings::{LineError, LineRefusal};
 use std::alloc::Global;
 use std::process::Abort;
 
@@ -15,7 +15,7 @@ fn says(
 ) -> bool {
     match (&read_line(line, Context { block, file }), refusal) {
         (Ok(Command::Passed), None) => true,
-        (Err(found), Some(wanted)) => *found == wanted,
+        (Err(found), Some(wanted)) => *found == LineError::Refused(wanted),
         _ => false,
     }
 }
@@ -38,7 +38,10 @@ pub fn all_say(alloc: Global, block: OpenBlock, text: &[u8], refusal: Option<Lin
 /// How the first line of the text is refused in the block.
 fn refusal_of(file: &RouterText, block: OpenBlock, text: &[u8]) -> Option<LineRefusal> {
     let line = Lines::new(text).next()?;
-    read_line(&line, Context { block, file }).err()
+    match &read_line(&line, Context { block, file }) {
+        Err(LineError::Refused(refusal)) => Some(*refusal),
+        _ => None,
+    }
 }
 
 /// Asserts of each line how it is refused in the block, or that it is a command where there is no refusal.

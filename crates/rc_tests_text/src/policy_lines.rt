@@ -1,26 +1,52 @@
 //! One line of a prefix list, a community list or a route map.
-use rc_base::{Addr, Prefix};
-use rc_config::{Action, MapLine, MatchKind, Named, PrefixLine, PrefixList, SetLine};
-use rc_gram_policy::{
-    LineError, read_map_line, read_map_opening, read_numbered_community_line, read_prefix_line,
-    read_standard_community_line,
+use rc_base::{Addr, Name, Prefix};
+use rc_config::{
+    Action, Command, CommunityLine, Context, MapLine, MatchKind, OpenBlock, PrefixLine, RouterText,
+    SetLine,
 };
-use rc_openings::{Form, LineRefusal, Words};
-use std::alloc::Global;
+use rc_gram_policy::read_line;
+use rc_grammar::read_file;
+use rc_lines::Lines;
+use rc_openings::{LineError, LineRefusal};
 use std::process::Abort;
 use std::test::Fail;
 
-/// The lists with the line that these words are.
-fn put_line(
-    alloc: Global,
-    lists: &mut Named<PrefixList>,
-    words: Words<'static>,
-) -> Result<(), Fail> {
-    let (name, line) = read_prefix_line(lists, words).ok().ok_or("a line")?;
-    let list = PrefixList::new(alloc).with_line(line)?;
-    lists.insert(name, list)?;
-    Ok(())
+const BAD: LineError = LineError::Refused(LineRefusal::BadValue);
+
+const UNSUPPORTED: LineError = LineError::Refused(LineRefusal::Unsupported);
+
+/// What the third line of the text says in this block. It says nothing where it isn't there.
+fn third_in(file: &RouterText, block: OpenBlock, text: &[u8]) -> Result<Command, LineError> {
+    let mut lines = Lines::new(text);
+    match (lines.next(), lines.next(), lines.next()) {
+        (Some(_), Some(_), Some(line)) => read_line(&line, Context { block, file }),
+        _ => Ok(Command::Passed),
+    }
 }
+
+/// What the text says without indent.
+fn said_in(file: &RouterText, text: &[u8]) -> Result<Command, LineError> {
+    let block = OpenBlock::Global;
+    match Lines::new(text).next() {
+        Some(line) => read_line(&line, Context { block, file }),
+        None => Ok(Command::Passed),
+    }
+}
+
+/// The line of a prefix list that the text is.
+fn prefix_line_in(file: &RouterText, text: &[u8]) -> Option<PrefixLine> {
+    match &said_in(file, text) {
+        Ok(Command::PrefixLine { list: _, line }) => Some(*line),
+        _ => None,
+    }
+}
+
+/// The first line of a list, as it stands alone and in a file.
+const ALONE: &[u8] = b"ip prefix-list P permit 10.9.1.1/16 ge 24 le 24";
+
+const IN_A_FILE: &[u8] = b"hostname X
+ip prefix-list P permit 10.9.1.1/16 ge 24 le 24
+";
 
 fn check_first(rt: &impl Abort, line: &PrefixLine) {
     assert!(rt; line.sequence == 5);
@@ -29,62 +55,67 @@ fn check_first(rt: &impl Abort, line: &PrefixLine) {
 }
 
 /// Asserts what two further lines are, where the list P has a line 5.
-fn check_next(rt: &impl Abort, lists: &Named<PrefixList>) {
-    match read_prefix_line(lists, Words::new(b"P deny 0.0.0.0/0 le 32")) {
-        Ok((_, next)) => {
-            assert!(rt; next.sequence == 10);
-            assert!(rt; next.action == Action::Deny);
-        }
-        Err(_) => assert!(rt; false, "refused"),
-    }
-    let twice = read_prefix_line(lists, Words::new(b"P seq 5 permit 10.0.0.0/8"));
-    assert!(rt; twice.err() == Some(LineRefusal::BadValue));
+fn check_next(rt: &impl Abort, file: &RouterText) {
+    let next = prefix_line_in(file, b"ip prefix-list P deny 0.0.0.0/0 le 32");
+    assert!(rt; next.map(|l| l.sequence) == Some(10));
+    assert!(rt; next.map(|l| l.action) == Some(Action::Deny));
+    let twice = said_in(file, b"ip prefix-list P seq 5 permit 10.0.0.0/8");
+    assert!(rt; twice.err() == Some(BAD));
 }
 
 #[test]
-fn lines_of_prefix_lists(rt: HostRuntime) -> Result<(), Fail> {
-    let words = Words::new(b"P permit 10.9.1.1/16 ge 24 le 24");
-    let mut lists = Named::new(rt.alloc());
-    match read_prefix_line(&lists, words) {
-        Ok((_, line)) => check_first(&rt, &line),
-        Err(_) => assert!(rt; false, "refused"),
+fn lines_of_prefix_lists(rt: HostRuntime) {
+    match &prefix_line_in(&RouterText::new(rt.alloc()), ALONE) {
+        Some(line) => check_first(&rt, line),
+        None => assert!(rt; false, "no line"),
     }
-    put_line(rt.alloc(), &mut lists, words)?;
-    check_next(&rt, &lists);
-    Ok(())
-}
-
-fn check_numbered(rt: &impl Abort, alloc: Global, text: &[u8]) {
-    match &read_numbered_community_line(alloc, Words::new(text)) {
-        Ok((name, line)) => {
-            let numbers = [4_259_840_001, 4_259_840_002, 0xffff_ff01];
-            assert!(rt; name.as_bytes() == b"7".as_slice());
-            assert!(rt; line.communities.as_slice() == numbers.as_slice());
-        }
+    match &read_file(rt.alloc(), IN_A_FILE) {
+        Ok(file) => check_next(&rt, file),
         Err(_) => assert!(rt; false, "refused"),
     }
 }
 
-/// The action of a line of a named list, or how it is refused.
-fn action_in(alloc: Global, text: &[u8]) -> Result<Action, LineError> {
-    let (_, line) = read_standard_community_line(alloc, Words::new(text))?;
-    Ok(line.action)
+fn check_communities(rt: &impl Abort, list: &Name, line: &CommunityLine) {
+    let numbers = [4_259_840_001, 4_259_840_002, 0xffff_ff01];
+    assert!(rt; list.as_bytes() == b"7".as_slice());
+    assert!(rt; line.communities.as_slice() == numbers.as_slice());
 }
 
 #[test]
-fn lines_of_community_lists(rt: HostRuntime) {
-    let text = b"007 permit 65000:2 no-export 65000:1 65000:2";
-    check_numbered(&rt, rt.alloc(), text);
-    let denied = action_in(rt.alloc(), b"C deny no-advertise");
-    assert!(rt; denied == Ok(Action::Deny));
-    let refused = action_in(rt.alloc(), b"C permit internet");
-    assert!(rt; refused == Err(LineError::Refused(LineRefusal::Unsupported)));
+fn lines_of_numbered_community_lists(rt: HostRuntime) {
+    let file = RouterText::new(rt.alloc());
+    let text = b"ip community-list 007 permit 65000:2 no-export 65000:1 65000:2";
+    match &said_in(&file, text) {
+        Ok(Command::CommunityLine { list, line }) => check_communities(&rt, list, line),
+        _ => assert!(rt; false, "no line"),
+    }
+}
+
+/// The action of the line of a community list that the text is, or how it is refused.
+fn action_in(file: &RouterText, text: &[u8]) -> Result<Option<Action>, LineError> {
+    match &said_in(file, text) {
+        Ok(Command::CommunityLine { list: _, line }) => Ok(Some(line.action)),
+        Ok(_) => Ok(None),
+        Err(error) => Err(*error),
+    }
+}
+
+#[test]
+fn lines_of_named_community_lists(rt: HostRuntime) {
+    let file = RouterText::new(rt.alloc());
+    let denied = action_in(&file, b"ip community-list standard C deny no-advertise");
+    assert!(rt; denied == Ok(Some(Action::Deny)));
+    let refused = action_in(&file, b"ip community-list standard C permit internet");
+    assert!(rt; refused == Err(UNSUPPORTED));
 }
 
 #[test]
 fn openings_of_entries(rt: HostRuntime) {
-    let entry = read_map_opening(Words::new(b"M permit 10"));
-    assert!(rt; entry.ok().map(|e| e.number) == Some(10));
+    let file = RouterText::new(rt.alloc());
+    match &said_in(&file, b"route-map M permit 10") {
+        Ok(Command::MapOpened { number, .. }) => assert!(rt; *number == 10),
+        _ => assert!(rt; false, "no entry"),
+    }
 }
 
 /// Asserts that the line is a condition on prefix lists of so many names.
@@ -116,16 +147,26 @@ fn check_added(rt: &impl Abort, line: &MapLine, number: u32) {
 }
 
 #[test]
-fn lines_of_route_maps(rt: HostRuntime) {
-    match &read_map_line(rt.alloc(), Form::MatchPrefixList, 3, Words::new(b"A 7")) {
-        Ok(line) => check_match(&rt, line, 2, 3),
-        Err(_) => assert!(rt; false, "refused"),
+fn conditions_of_route_maps(rt: HostRuntime) -> Result<(), Fail> {
+    let block = OpenBlock::Map(Name::new(b"M").ok_or("M")?, 10);
+    let file = RouterText::new(rt.alloc());
+    let text = b"!\n!\nmatch ip address prefix-list A 7";
+    match &third_in(&file, block, text) {
+        Ok(Command::MapLine { line, .. }) => check_match(&rt, line, 2, 3),
+        _ => assert!(rt; false, "no line"),
     }
-    let words = Words::new(b"65000:2 additive");
-    match &read_map_line(rt.alloc(), Form::SetCommunity, 4, words) {
-        Ok(line) => check_added(&rt, line, 4_259_840_002),
-        Err(_) => assert!(rt; false, "refused"),
+    Ok(())
+}
+
+#[test]
+fn changes_of_route_maps(rt: HostRuntime) -> Result<(), Fail> {
+    let block = OpenBlock::Map(Name::new(b"M").ok_or("M")?, 10);
+    let file = RouterText::new(rt.alloc());
+    match &third_in(&file, block, b"!\n!\nset community 65000:2 additive") {
+        Ok(Command::MapLine { line, .. }) => check_added(&rt, line, 4_259_840_002),
+        _ => assert!(rt; false, "no line"),
     }
-    let refused = read_map_line(rt.alloc(), Form::SetCommunity, 4, Words::new(b"additive"));
-    assert!(rt; refused.err() == Some(LineError::Refused(LineRefusal::BadValue)));
+    let refused = third_in(&file, block, b"!\n!\nset community additive");
+    assert!(rt; refused.err() == Some(BAD));
+    Ok(())
 }

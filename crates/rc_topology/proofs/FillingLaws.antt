@@ -13,7 +13,9 @@ use Rattle.rc_base.specs.Index.{Rows, members, index_of}
 use Rattle.rc_base.specs.Prefix.{Cidr, same_prefix}
 use Rattle.rc_base.proofs.IndexLaws.{distinct_ids, members_of_index}
 use Rattle.rc_topology.specs.declared.filling.Indexes.{Indexes}
+use Rattle.rc_topology.specs.Topology.{Topology}
 use Rattle.rc_topology.specs.declared.port.Port.{Port}
+use Rattle.rc_topology.specs.declared.port.PortAddr.{PortAddr}
 use Rattle.rc_topology.specs.Filling.{host, hosts, with_ports, with_routers, IsIndexed}
 use Rattle.rc_topology.specs.Links.{all_ids, ids_of, port_at, port_is, ports_at}
 use Rattle.rc_topology.specs.Ports.{is_loopback, is_on, link_prefixes, owns}
@@ -36,8 +38,8 @@ module _ (f : Port → List Cidr) (g : IfId → List Cidr) where
       ap (λ xs. with_ports f r (a + 1) (fold (λ known x. index.with_member known x (record { router = r; index = a })) rows xs) ps) (sym (ap (λ n. g (record { router = r; index = n })) (plain a) ∙ same 0))
       ∙ ports_filled r (a + 1) (index.with_interface g rows (record { router = r; index = a })) ps (λ k. ap (λ n. g (record { router = r; index = n })) (sym (one_more a k)) ∙ same (suc k))
 
-module _ (links : List (List Port)) (f : Port → List Cidr) where
-  -- the prefixes of an interface by its place
+module _ (links : Topology) (f : Port → List Cidr) where
+  -- the prefixes of an interface by its index
   abbrev prefixes_at : IfId → List Cidr
   prefixes_at i = option_map_or f (port_at links i) []
 
@@ -54,12 +56,12 @@ module _ (links : List (List Port)) (f : Port → List Cidr) where
       here : ports_at links r ≡ ps
       here = ap (ports_at links) (plain r) ∙ same 0
 
-  filled : with_routers f 0 [] links ≡ index_of prefixes_at (all_ids links)
-  filled = routers_filled 0 [] links (λ k. ap (ports_at links) (from_zero k))
+  filled : with_routers f 0 [] links.ports ≡ index_of prefixes_at (all_ids links)
+  filled = routers_filled 0 [] links.ports (λ k. ap (ports_at links) (from_zero k))
 
   -- under a prefix stand the interfaces whose ports have it
-  under : (p : Cidr) → members (with_routers f 0 [] links) p ≡ filter (λ i. list_any (same_prefix p) (prefixes_at i)) (all_ids links)
-  under p = ap (λ (rows : Rows). members rows p) filled ∙ members_of_index prefixes_at p (all_ids links) (distinct_ids (λ r. length (ports_at links r)) (length links))
+  under : (p : Cidr) → members (with_routers f 0 [] links.ports) p ≡ filter (λ i. list_any (same_prefix p) (prefixes_at i)) (all_ids links)
+  under p = ap (λ (rows : Rows). members rows p) filled ∙ members_of_index prefixes_at p (all_ids links) (distinct_ids (λ r. length (ports_at links r)) (length links.ports))
 
 -- ---- prefixes
 
@@ -89,14 +91,16 @@ same_host : (a b : ℕ) → same_prefix (host a) (host b) ≡ (a == b)
 same_host a b = ap (λ p. same_prefix p (host b)) (host_is a) ∙ ap (λ q. same_prefix (record { network = a; len = 32 }) q) (host_is b) ∙ same_number a b
 
 owns_one : (a : ℕ) (p : Port) → list_any (same_prefix (host a)) (hosts p) ≡ owns a p
-owns_one a p = any_map host (same_prefix (host a)) p.addresses ∙ any_each (λ b. same_prefix (host a) (host b)) (λ b. a == b) (λ b. same_host a b) p.addresses
+owns_one a p =
+    any_map (λ (b : PortAddr). host b.addr) (same_prefix (host a)) p.addresses
+    ∙ any_each (λ (b : PortAddr). same_prefix (host a) (host b.addr)) (λ (b : PortAddr). a == b.addr) (λ b. same_host a b.addr) p.addresses
 
 owns_option : (a : ℕ) (o : Option Port) → list_any (same_prefix (host a)) (option_map_or hosts o []) ≡ option_map_or (owns a) o false
 owns_option a None = refl
 owns_option a (Some p) = owns_one a p
 
 -- the indexes that are filled from the interfaces of all routers
-pub filled_indexes : (links : List (List Port)) (x : Indexes) → x.by_prefix ≡ with_routers link_prefixes 0 [] links → x.by_addr ≡ with_routers hosts 0 [] links → IsIndexed links x
+pub filled_indexes : (links : Topology) (x : Indexes) → x.by_prefix ≡ with_routers link_prefixes 0 [] links.ports → x.by_addr ≡ with_routers hosts 0 [] links.ports → IsIndexed links x
 filled_indexes links x prefixes addresses = record {
   by_prefix = λ p. ap (λ (rows : Rows). members rows p) prefixes ∙ under links link_prefixes p
       ∙ filter_each (λ i. list_any (same_prefix p) (option_map_or link_prefixes (port_at links i) [])) (port_is links (is_on p)) (λ i. on_option p (port_at links i)) (all_ids links);

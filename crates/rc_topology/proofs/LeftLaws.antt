@@ -8,10 +8,11 @@ use Rattle.rc_topology.specs.Left.{is_next, is_left, left_of, with_prefix}
 use Rattle.rc_topology.specs.Links.{all_ids, are_linked, link_prefixes_at, linked, on_prefix, port_at, port_is}
 use Rattle.rc_topology.specs.Order.{earlier, is_behind}
 use Rattle.rc_topology.specs.Ports.{is_loopback, is_on, link_prefixes, share_prefix, some_is_in}
+use Rattle.rc_topology.specs.Topology.{Topology}
 use Rattle.rc_topology.specs.declared.port.Port.{Port}
 use Rattle.rc_topology.proofs.ListLaws.{any_never, filter_each, filter_none, find_each, find_filter, find_never, found_passes}
 use Rattle.rc_topology.proofs.OrderLaws.{behind_trans, first_of_two, first_then}
-use Rattle.rc_topology.proofs.PlaceLaws.{ids_in_order}
+use Rattle.rc_topology.proofs.InterfaceLaws.{ids_in_order}
 
 joined : (a b n c : Bool) → (a || (b && n)) || (n && c) ≡ a || (n && (b || c))
 joined true b n c = refl
@@ -25,7 +26,7 @@ or_none true n = refl
 or_none false true = refl
 or_none false false = refl
 
-module _ (links : List (List Port)) (router : ℕ) (last : Option IfId) where
+module _ (links : Topology) (router : ℕ) (last : Option IfId) where
   abbrev Left : List Cidr → IfId → Bool
   Left prefixes = is_left links router prefixes last
 
@@ -85,7 +86,7 @@ on_share p q = by (is_loopback p) (is_loopback q)
     by false false = refl
 
 -- from the start all that share a link are left
-pub linked_left : (links : List (List Port)) (i : IfId) → left_of links i.router (link_prefixes_at links i) None ≡ linked links i
+pub linked_left : (links : Topology) (i : IfId) → left_of links i.router (link_prefixes_at links i) None ≡ linked links i
 linked_left links i =
     filter_each (is_left links i.router (link_prefixes_at links i) None) (are_linked links i) (λ j. ap (λ b. not (i.router == j.router) && b) (tests (port_at links i) (port_at links j))) (all_ids links)
   where

@@ -1,6 +1,6 @@
 pub mod ListLaws
 pub mod OrderLaws
-pub mod PlaceLaws
+pub mod InterfaceLaws
 pub mod FillingLaws
 pub mod LeftLaws
 pub mod PrefixLaws

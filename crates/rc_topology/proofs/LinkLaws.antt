@@ -6,6 +6,7 @@ use Rattle.rc_base.specs.declared.position.IfId.{IfId}
 use Rattle.rc_base.proofs.KeepLaws.{filter_twice, In}
 use Rattle.rc_topology.specs.Links.{all_ids, are_linked, linked, owners, port_at, port_is, takers}
 use Rattle.rc_topology.specs.Ports.{is_loopback, owns, share_prefix, some_is_in}
+use Rattle.rc_topology.specs.Topology.{Topology}
 use Rattle.rc_topology.specs.declared.port.Port.{Port}
 use Rattle.rc_topology.proofs.ListLaws.{filter_each}
 use Rattle.rc_topology.proofs.PrefixLaws.{some_is_in_turned}
@@ -17,7 +18,7 @@ and_turned false true = refl
 and_turned false false = refl
 
 -- the takers of an address are those of its owners that share a link
-pub takers_of_owners : (links : List (List Port)) (i : IfId) (a : ℕ) → filter (are_linked links i) (owners links a) ≡ takers links i a
+pub takers_of_owners : (links : Topology) (i : IfId) (a : ℕ) → filter (are_linked links i) (owners links a) ≡ takers links i a
 takers_of_owners links i a =
     filter_twice (port_is links (owns a)) (are_linked links i) (all_ids links)
     ∙ filter_each (λ j. port_is links (owns a) j && are_linked links i j) (λ j. are_linked links i j && port_is links (owns a) j) (λ j. and_turned (port_is links (owns a) j) (are_linked links i j)) (all_ids links)
@@ -35,14 +36,14 @@ in_filter p (y ∷ ys) x there = by (p y) there (in_filter p ys x)
     by false rest later = inr (later rest)
 
 -- whoever shares a link with an interface is an interface of the network
-pub linked_in : (links : List (List Port)) (i j : IfId) → In j (linked links i) → In j (all_ids links)
+pub linked_in : (links : Topology) (i j : IfId) → In j (linked links i) → In j (all_ids links)
 linked_in links i j there = in_filter (are_linked links i) (all_ids links) j there
 
 -- and so is whoever takes an address
-pub taker_linked : (links : List (List Port)) (i : IfId) (a : ℕ) (j : IfId) → In j (takers links i a) → In j (linked links i)
+pub taker_linked : (links : Topology) (i : IfId) (a : ℕ) (j : IfId) → In j (takers links i a) → In j (linked links i)
 taker_linked links i a j there = in_filter (port_is links (owns a)) (linked links i) j there
 
-pub taker_in : (links : List (List Port)) (i : IfId) (a : ℕ) (j : IfId) → In j (takers links i a) → In j (all_ids links)
+pub taker_in : (links : Topology) (i : IfId) (a : ℕ) (j : IfId) → In j (takers links i a) → In j (all_ids links)
 taker_in links i a j there = linked_in links i j (taker_linked links i a j there)
 
 -- ---- both ways
@@ -54,7 +55,7 @@ pub share_turned : (p q : Port) → share_prefix p q ≡ share_prefix q p
 share_turned p q = ap (λ b. b && some_is_in p.prefixes q.prefixes) (and_turned (not (is_loopback p)) (not (is_loopback q))) ∙ ap (λ b. not (is_loopback q) && not (is_loopback p) && b) (some_is_in_turned q.prefixes p.prefixes)
 
 -- a link is shared both ways
-pub linked_both_ways : (links : List (List Port)) (i j : IfId) → are_linked links i j ≡ are_linked links j i
+pub linked_both_ways : (links : Topology) (i j : IfId) → are_linked links i j ≡ are_linked links j i
 linked_both_ways links i j =
     ap (λ b. not b && option_map_or (λ p. port_is links (share_prefix p) j) (port_at links i) false) (same_turned i.router j.router)
     ∙ ap (λ b. not (j.router == i.router) && b) (ports (port_at links i) (port_at links j))

@@ -172,7 +172,7 @@ any_append p (x ∷ xs) ys = ap (λ b. p x || b) (any_append p xs ys) ∙ sym (o
     or_assoc true b c = refl
     or_assoc false b c = refl
 
--- one element more, by its place
+-- one element more, by its index
 pub mapped_more : {X Y : Type 0} (f : X → Y) (xs : List X) (k : ℕ) → map f (take k xs) ++ option_map_or (λ x. f x ∷ []) (slice_get xs k) [] ≡ map f (take (k + 1) xs)
 mapped_more f xs k = more xs k ∙ ap (λ n. map f (take n xs)) (sym (add-one k))
   where

@@ -34,13 +34,13 @@ module _ (prefixes : List Cidr) (up : IsStrictlySortedBy prefix_cmp prefixes) wh
   bisected p r within by_code = at r within (subst (λ (c : Cidr → Cidr → Ordering). IsBinarySearchResult (λ y. c y p) prefixes r) code_cmp by_code)
     where
       at : (r : Result ℕ ℕ) → IsSearchInRange r (length prefixes) → IsBinarySearchResult (λ y. prefix_cmp y p) prefixes r → is_ok r ≡ list_any (same_prefix p) prefixes
-      at (Ok place) within equal = sym (any_at (same_prefix p) prefixes place p within (turned p (get_or prefixes place p) Equal (equal p)))
-      at (Err place) within parted =
+      at (Ok index) within equal = sym (any_at (same_prefix p) prefixes index p within (turned p (get_or prefixes index p) Equal (equal p)))
+      at (Err index) within parted =
           let parts = parted (searchable_from_sorted prefix_cmp_total (λ q. q) prefixes p in_order) in
-          sym (none_within (same_prefix p) prefixes (λ k d less. by k d less (cases_lt k place) parts.0 parts.1))
+          sym (none_within (same_prefix p) prefixes (λ k d less. by k d less (cases_lt k index) parts.0 parts.1))
         where
-          by : (k : ℕ) (d : Cidr) → k < length prefixes → (k < place) ⊎ (place ≤ k) → ((k : ℕ) (d : Cidr) → 0 ≤ k → k < place → prefix_cmp (get_or prefixes k d) p ≡ Less)
-              → ((k : ℕ) (d : Cidr) → place ≤ k → k < length prefixes → prefix_cmp (get_or prefixes k d) p ≡ Greater) → same_prefix p (get_or prefixes k d) ≡ false
+          by : (k : ℕ) (d : Cidr) → k < length prefixes → (k < index) ⊎ (index ≤ k) → ((k : ℕ) (d : Cidr) → 0 ≤ k → k < index → prefix_cmp (get_or prefixes k d) p ≡ Less)
+              → ((k : ℕ) (d : Cidr) → index ≤ k → k < length prefixes → prefix_cmp (get_or prefixes k d) p ≡ Greater) → same_prefix p (get_or prefixes k d) ≡ false
           by k d less (inl before) low high = turned p (get_or prefixes k d) Less (low k d (omega arith) before)
           by k d less (inr behind) low high = turned p (get_or prefixes k d) Greater (high k d behind less)
 

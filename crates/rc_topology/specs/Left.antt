@@ -3,7 +3,7 @@ use Rattle.std.specs.Prelude.{ℕ, ◌==◌, Bool, not, ◌&&◌, List, filter, 
 use Rattle.std.specs.List.{list_any, find}
 use Rattle.rc_base.specs.declared.position.IfId.{IfId}
 use Rattle.rc_base.specs.Prefix.{Cidr}
-use Rattle.rc_topology.specs.declared.port.Port.{Port}
+use Rattle.rc_topology.specs.Topology.{Topology}
 use Rattle.rc_topology.specs.Links.{all_ids, on_prefix, port_is}
 use Rattle.rc_topology.specs.Order.{earlier, is_behind}
 use Rattle.rc_topology.specs.Ports.{is_on}
@@ -12,7 +12,7 @@ use Rattle.rc_topology.specs.Ports.{is_on}
 abbrev pub is_next : ℕ → Option IfId → IfId → Bool
 is_next router last j = is_behind last j && not (router == j.router)
 
-module _ (links : List (List Port)) (router : ℕ) where
+module _ (links : Topology) (router : ℕ) where
   -- it is left: it stands behind the last one, is of another router, and is on one of the prefixes
   abbrev pub is_left : List Cidr → Option IfId → IfId → Bool
   is_left prefixes last j = is_next router last j && port_is links (λ q. list_any (λ x. is_on x q) prefixes) j

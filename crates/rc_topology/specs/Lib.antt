@@ -1,3 +1,4 @@
+pub mod Topology
 pub mod Ports
 pub mod Links
 pub mod Order

@@ -6,12 +6,13 @@ use Rattle.rc_base.specs.declared.position.IfId.{IfId}
 use Rattle.rc_base.specs.Prefix.{Cidr}
 use Rattle.rc_config.specs.declared.if_type.IfType.{IfType}
 use Rattle.rc_topology.specs.Ports as port
+use Rattle.rc_topology.specs.Topology.{Topology}
 use Rattle.rc_topology.specs.declared.port.Port.{Port}
 
-module _ (links : List (List Port)) where
+module _ (links : Topology) where
   -- the interfaces of a router
   abbrev pub ports_at : ℕ → List Port
-  ports_at r = option_map_or (λ ports. ports) (slice_get links r) []
+  ports_at r = option_map_or (λ ports. ports) (slice_get links.ports r) []
 
   abbrev pub port_at : IfId → Option Port
   port_at i = slice_get (ports_at i.router) i.index
@@ -25,7 +26,7 @@ module _ (links : List (List Port)) where
 
   -- all interfaces, in position order: by router, then as declared
   abbrev pub all_ids : List IfId
-  all_ids = flat_map ids_of (range_with_len 0 (length links))
+  all_ids = flat_map ids_of (range_with_len 0 (length links.ports))
 
   -- two interfaces share a link: they are of different routers, and share a prefix
   abbrev pub are_linked : IfId → IfId → Bool

@@ -1,6 +1,7 @@
 -- What is kept of each interface to answer on links: its own addresses, its prefixes and its type.
-use Rattle.std.specs.Prelude.{ℕ, ◌==◌, Bool, true, false, not, ◌&&◌, if◌then◌else◌, List, [], map, Option, Some}
+use Rattle.std.specs.Prelude.{ℕ, ◌==◌, Bool, true, false, not, ◌&&◌, if◌then◌else◌, List, [], ◌∷◌, ◌++◌, map, Option, Some}
 use Rattle.std.specs.List.{list_any}
+use Rattle.std.specs.Option.{option_map_or}
 use Rattle.rc_base.specs.Lists.{in_order}
 use Rattle.rc_base.specs.Prefix.{Cidr, contains, prefix_cmp, same_prefix}
 use Rattle.rc_config.specs.Down.{Entries, is_down, prefix_of, prefixes_of}
@@ -12,15 +13,25 @@ use Rattle.rc_config.specs.declared.if_type.IfType.TheVariants.{Serial, Loopback
 use Rattle.rc_config.specs.declared.interface.Interface.{Interface}
 use Rattle.rc_config.specs.declared.network.Network.{Network}
 use Rattle.rc_config.specs.declared.router_text.RouterText.{RouterText}
+use Rattle.rc_topology.specs.Topology.{Topology}
 use Rattle.rc_topology.specs.declared.port.Port.{Port}
+use Rattle.rc_topology.specs.declared.port.PortAddr.{PortAddr}
 
--- the own addresses of an interface: those of its block while it is up, the primary one first, then the others as written
-abbrev pub own_addresses : Entries → List ℕ × Interface → List ℕ
-own_addresses entries e = if is_down entries e.0 then [] else map (λ (a : MaskedAddr). a.addr) (declared_addresses e.1)
+-- an address of an interface, with its prefix
+abbrev pub port_addr : Bool → MaskedAddr → PortAddr
+port_addr is_primary a = record { addr = a.addr; prefix = prefix_of a; is_primary = is_primary }
+
+-- the addresses of a block, the primary one first, then the others as written
+abbrev pub block_addresses : Interface → List PortAddr
+block_addresses i = option_map_or (λ a. port_addr true a ∷ []) i.primary [] ++ map (port_addr false) i.secondary
+
+-- the own addresses of an interface: those of its block while it is up
+abbrev pub own_addresses : Entries → List ℕ × Interface → List PortAddr
+own_addresses entries e = if is_down entries e.0 then [] else block_addresses e.1
 
 -- what is kept of an interface that is up: its prefixes are in order, each once
 abbrev pub port_up : Option IfType → Interface → Port
-port_up kind i = record { addresses = map (λ (a : MaskedAddr). a.addr) (declared_addresses i); prefixes = in_order prefix_cmp (map prefix_of (declared_addresses i)); kind = kind }
+port_up kind i = record { addresses = block_addresses i; prefixes = in_order prefix_cmp (map prefix_of (declared_addresses i)); kind = kind }
 
 -- its prefixes while it is up, in order, each once
 abbrev pub port_of : Entries → List ℕ × Interface → Port
@@ -31,8 +42,12 @@ abbrev pub ports_of : RouterText → List Port
 ports_of file = map (port_of file.interfaces) file.interfaces
 
 -- the interfaces of each router, in the network's order
-unfoldable pub links_of : Network → List (List Port)
-links_of net = map (λ e. ports_of e.1) net.routers
+unfoldable pub all_ports : Network → List (List Port)
+all_ports net = map (λ e. ports_of e.1) net.routers
+
+-- the links of a network
+unfoldable pub links_of : Network → Topology
+links_of net = record { ports = map (λ e. ports_of e.1) net.routers }
 
 abbrev pub is_loopback_type : Option IfType → Bool
 is_loopback_type (Some Loopback) = true
@@ -54,7 +69,7 @@ link_prefixes p = if is_loopback p then [] else p.prefixes
 
 -- the address is one of its own
 abbrev pub owns : ℕ → Port → Bool
-owns a p = list_any (λ b. a == b) p.addresses
+owns a p = list_any (λ (b : PortAddr). a == b.addr) p.addresses
 
 -- the address lies in one of its prefixes
 abbrev pub holds : ℕ → Port → Bool

@@ -10,7 +10,7 @@ use Rattle.rc_config.specs.IfType.{type_of}
 use Rattle.rc_config.specs.Update.{after, empty}
 use Rattle.rc_topology.specs.Links.{holds, is_own, kind_of, linked, takers}
 use Rattle.rc_topology.specs.Ports.{links_of}
-use Rattle.rc_topology.specs.declared.port.Port.{Port}
+use Rattle.rc_topology.specs.Topology.{Topology}
 
 abbrev eth : List ℕ
 eth = codes "Ethernet0"
@@ -39,10 +39,10 @@ abbrev file : List Command → RouterText
 file commands = fold after empty commands
 
 -- the links of two routers, and of three
-abbrev two : List Command → List Command → List (List Port)
+abbrev two : List Command → List Command → Topology
 two a b = links_of (record { routers = (codes "a", file a) ∷ (codes "b", file b) ∷ [] })
 
-abbrev three : List Command → List Command → List Command → List (List Port)
+abbrev three : List Command → List Command → List Command → Topology
 three a b c = links_of (record { routers = (codes "a", file a) ∷ (codes "b", file b) ∷ (codes "c", file c) ∷ [] })
 
 abbrev at : ℕ → ℕ → IfId
@@ -111,7 +111,7 @@ no_address = refl
 
 -- ---- takers
 
-abbrev lan : List (List Port)
+abbrev lan : Topology
 lan = three (primary eth 1 24 ∷ primary other 769 24 ∷ []) (primary eth 2 24 ∷ primary other 3 24 ∷ []) (primary eth 3 24 ∷ primary loopback 4 24 ∷ [])
 
 -- only who has the address takes it, and only on a link

@@ -4,17 +4,26 @@ ghost use Rattle.std.specs.List.{fold};
 ghost use Rattle.rc_topology.specs.Ports.{link_prefixes};
 ghost use Rattle.rc_topology.specs.Filling.{host, hosts, with_interface, with_ports, with_routers};
 
-use crate::Port;
+use crate::{Port, PortAddr};
 use rc_base::{Addr, IfId, Items, Prefix, PrefixIndex, RouterId};
 use std::alloc::{AllocError, Global};
 
 /// The interfaces of a network under the prefixes of their links, and under their own addresses.
-#[derive(Drop)]
 pub struct Indexes {
     /// Under a prefix: the interfaces that have it and aren't loopbacks.
     pub by_prefix: PrefixIndex,
     /// Under an address, as a prefix of length 32: the interfaces that have it.
     pub by_addr: PrefixIndex,
+}
+
+/// By a function of its own, so that what holds indexes drops them by one call.
+impl Drop for Indexes {
+    fn drop(self) {
+        let Indexes {
+            by_prefix: _,
+            by_addr: _,
+        } = self;
+    }
 }
 
 /// An address as a prefix of length 32.
@@ -42,12 +51,12 @@ fn add_prefixes(
 fn add_addresses(
     index: &mut PrefixIndex,
     interface: &IfId,
-    addresses: &[Addr],
+    addresses: &[PortAddr],
 ) -> Result<(), AllocError>
-    ensures { OnOk result (index.new ≡ fold (with_interface interface.now) index.old (map host addresses.now)) }
+    ensures { OnOk result (index.new ≡ fold (with_interface interface.now) index.old (map (λ a. host a.addr) addresses.now)) }
 {
-    for addr in addresses {
-        index.add(host(*addr), *interface)?;
+    for address in addresses {
+        index.add(host(address.addr), *interface)?;
     }
     Ok(())
 }
@@ -83,8 +92,8 @@ pub(crate) fn indexes_of(alloc: Global, links: &[Items<Port>]) -> Result<Indexes
         by_prefix: PrefixIndex::new(alloc),
         by_addr: PrefixIndex::new(alloc),
     };
-    for (place, ports) in links.iter().enumerate() {
-        add_router(&mut indexes, RouterId::at(place), ports.as_slice())?;
+    for (index, ports) in links.iter().enumerate() {
+        add_router(&mut indexes, RouterId::at(index), ports.as_slice())?;
     }
     Ok(indexes)
 }

@@ -7,7 +7,7 @@ ghost use Rattle.rc_topology.specs.Order.{IsInOrder};
 
 use crate::filling::{Indexes, host, indexes_of};
 use crate::order::some_of_router;
-use crate::ports::links_of;
+use crate::ports::all_ports;
 use crate::{Linked, Port, Takers};
 use rc_base::{Addr, IfId, Items, Prefix, RouterId};
 use rc_config::{IfType, Network};
@@ -17,36 +17,45 @@ use std::marker::Model;
 /// The links of a network, seen as the interfaces of each router, from which links are told.
 ///
 /// Beside these it keeps the interfaces of each prefix and the owners of each address, so that no call looks at every pair.
-#[derive(Drop)]
 pub struct Links {
     ports: Items<Items<Port>>,
     indexes: Indexes,
 }
 
-impl Model for Links {
-    ghost use Rattle.std.specs.Prelude.{List};
-    ghost use Rattle.rc_topology.specs.declared.port.Port.{Port};
+/// By a function of its own, so that what holds links drops them by one call.
+impl Drop for Links {
+    fn drop(self) {
+        let Links {
+            ports: _,
+            indexes: _,
+        } = self;
+    }
+}
 
-    ghost Value = { List (List Port) };
+impl Model for Links {
+    ghost use Rattle.rc_topology.specs.Topology.{Topology};
+
+    ghost Value = { Topology };
 
     ghost use Rattle.rc_topology.specs.Filling.{IsIndexed};
 
-    ghost view = { λ l. l.ports };
+    ghost view = { λ l. record { ports = l.ports } };
 
-    ghost invariant = { λ l. IsIndexed l.ports l.indexes };
+    ghost invariant = { λ l. IsIndexed (record { ports = l.ports }) l.indexes };
 }
 
 impl Links {
     /// The links of a network. It errs only where memory runs out.
+    #[tactic(auto, unfolding(crate::specs::Ports::all_ports, crate::specs::Ports::links_of))]
     pub fn of(alloc: Global, net: &Network) -> Result<Links, AllocError>
         ensures { IfOk result (λ links. links ≡ port.links_of net.now) }
     {
-        let ports = links_of(alloc, net)?;
+        let ports = all_ports(alloc, net)?;
         let indexes = indexes_of(alloc, ports.as_slice())?;
         Ok(Links { ports, indexes })
     }
 
-    /// What is kept of an interface, or `None` exactly where the network has none of this place.
+    /// What is kept of an interface, or `None` exactly where the network has none of this index.
     fn port(&self, interface: IfId) -> Option<&Port>
         ensures { option_copied result ≡ spec.port_at self.now interface }
     {
@@ -113,7 +122,7 @@ impl Links {
     }
 
     /// Whether an address is one of a router's own.
-    #[tactic(auto, using(crate::proofs::PlaceLaws::some_owner))]
+    #[tactic(auto, using(crate::proofs::InterfaceLaws::some_owner))]
     pub fn is_own(&self, router: RouterId, addr: Addr) -> bool
         ensures { result ≡ spec.is_own self.now router addr }
     {

@@ -13,11 +13,11 @@ fn is_before(one: &IfId, other: &IfId) -> bool
     this < that || (this == that && one.index < other.index)
 }
 
-/// The interface at a place.
-fn at(interfaces: &[IfId], place: usize) -> Option<IfId>
-    ensures { result ≡ slice_get interfaces.now place }
+/// The interface at an index.
+fn at(interfaces: &[IfId], index: usize) -> Option<IfId>
+    ensures { result ≡ slice_get interfaces.now index }
 {
-    let found = interfaces.get(place);
+    let found = interfaces.get(index);
     match found {
         Some(found) => Some(*found),
         None => None,
@@ -29,8 +29,8 @@ fn first_past(interfaces: &[IfId], last: &IfId) -> Option<IfId>
     requires { IsInOrder interfaces.now }
     ensures { result ≡ find (is_before last.now) interfaces.now }
 {
-    let place = interfaces.partition_point(|other| !is_before(last, other));
-    at(interfaces, place)
+    let first = interfaces.partition_point(|other| !is_before(last, other));
+    at(interfaces, first)
 }
 
 /// The first interface that stands behind one, or the first of all where there is none.
@@ -49,8 +49,8 @@ fn first_from_router(interfaces: &[IfId], router: RouterId) -> Option<IfId>
     requires { IsInOrder interfaces.now }
     ensures { result ≡ find (λ i. not (nat_lt i.router router)) interfaces.now }
 {
-    let place = interfaces.partition_point(|other| other.router.index() < router.index());
-    at(interfaces, place)
+    let first = interfaces.partition_point(|other| other.router.index() < router.index());
+    at(interfaces, first)
 }
 
 /// Whether some interface is of a router.
@@ -70,8 +70,8 @@ pub(crate) fn first_past_router(interfaces: &[IfId], router: RouterId) -> Option
     requires { IsInOrder interfaces.now }
     ensures { result ≡ find (λ i. nat_lt router i.router) interfaces.now }
 {
-    let place = interfaces.partition_point(|other| other.router.index() <= router.index());
-    at(interfaces, place)
+    let first = interfaces.partition_point(|other| other.router.index() <= router.index());
+    at(interfaces, first)
 }
 
 /// The interface that stands first of two, where there are two.

@@ -1,7 +1,6 @@
 //! What is kept of an interface.
-ghost use Rattle.std.specs.Prelude.{◌≡◌, ◌++◌, IfOk, OnOk, map};
+ghost use Rattle.std.specs.Prelude.{◌≡◌, ◌++◌, false, IfOk, OnOk, map};
 ghost use Rattle.rc_config.specs.Interface.{declared_addresses};
-ghost use Rattle.rc_config.specs.MaskedAddr.{MaskedAddr};
 ghost use Rattle.rc_topology.specs.Ports as spec;
 
 use crate::PrefixSet;
@@ -9,15 +8,35 @@ use rc_base::{Addr, Items, Name, Prefix};
 use rc_config::{IfAddr, IfType, Interface, RouterText, type_of_name};
 use std::alloc::{AllocError, Global};
 
+/// An address of an interface.
+#[derive(Clone, Copy, PartialEq, Eq)]
+pub struct PortAddr {
+    pub addr: Addr,
+    /// The prefix that it makes connected.
+    pub prefix: Prefix,
+    /// Whether it is the primary one. The others are secondary.
+    pub is_primary: bool,
+}
+
 /// An interface as links see it.
-#[derive(Drop)]
 pub struct Port {
     /// Its own addresses while it is up, the primary one first, then the others as written.
-    pub addresses: Items<Addr>,
+    pub addresses: Items<PortAddr>,
     /// The prefixes of these, by address, then length, each once.
     pub prefixes: PrefixSet,
     /// Its type, where it is one that may have addresses.
     pub kind: Option<IfType>,
+}
+
+/// By a function of its own, so that what holds interfaces drops each by one call.
+impl Drop for Port {
+    fn drop(self) {
+        let Port {
+            addresses: _,
+            prefixes: _,
+            kind: _,
+        } = self;
+    }
 }
 
 /// Appends addresses.
@@ -48,15 +67,43 @@ fn declared(alloc: Global, interface: &Interface) -> Result<Items<IfAddr>, Alloc
     }
 }
 
-/// Addresses without their masks.
-fn without_masks(alloc: Global, addresses: &[IfAddr]) -> Result<Items<Addr>, AllocError>
-    ensures { IfOk result (λ all. all ≡ map (λ (a : MaskedAddr). a.addr) addresses.now) }
+/// An address with its prefix.
+fn port_addr(is_primary: bool, address: &IfAddr) -> PortAddr
+    ensures { result ≡ spec.port_addr is_primary address.now }
+{
+    PortAddr {
+        addr: address.addr(),
+        prefix: address.prefix(),
+        is_primary,
+    }
+}
+
+/// Appends secondary addresses.
+fn add_secondary(all: &mut Items<PortAddr>, addresses: &[IfAddr]) -> Result<(), AllocError>
+    ensures { OnOk result (all.new ≡ all.old ++ map (spec.port_addr false) addresses.now) }
+{
+    for address in addresses {
+        all.push(port_addr(false, address))?;
+    }
+    Ok(())
+}
+
+/// The addresses of an interface with their prefixes, the primary one first, then the others as written.
+fn block_addresses(alloc: Global, interface: &Interface) -> Result<Items<PortAddr>, AllocError>
+    ensures { IfOk result (λ all. all ≡ spec.block_addresses interface.now) }
 {
     let mut all = Items::new(alloc);
-    for address in addresses {
-        all.push(address.addr())?;
+    match interface.primary {
+        Some(primary) => {
+            all.push(port_addr(true, &primary))?;
+            add_secondary(&mut all, interface.secondary.as_slice())?;
+            Ok(all)
+        }
+        None => {
+            add_secondary(&mut all, interface.secondary.as_slice())?;
+            Ok(all)
+        }
     }
-    Ok(all)
 }
 
 /// What is kept of an interface that is up.
@@ -64,8 +111,8 @@ fn port_up(alloc: Global, kind: Option<IfType>, interface: &Interface) -> Result
     ensures { IfOk result (λ p. p ≡ spec.port_up kind interface.now) }
 {
     let declared = declared(alloc, interface)?;
-    let addresses = without_masks(alloc, declared.as_slice())?;
     let prefixes = PrefixSet::of(alloc, declared.as_slice())?;
+    let addresses = block_addresses(alloc, interface)?;
     Ok(Port {
         addresses,
         prefixes,
@@ -118,7 +165,10 @@ impl Port {
     pub(crate) fn owns(&self, addr: Addr) -> bool
         ensures { result ≡ spec.owns addr self.now }
     {
-        self.addresses.as_slice().iter().any(|other| addr == *other)
+        self.addresses
+            .as_slice()
+            .iter()
+            .any(|other| addr == other.addr)
     }
 
     /// Whether an address lies in one of its prefixes.

@@ -12,7 +12,7 @@ use Rattle.rc_base.specs.declared.position.IfId.{IfId}
 use Rattle.rc_base.specs.declared.position.Pos.{Pos}
 use Rattle.rc_base.specs.declared.position.Pos.TheVariants.{Entering}
 use Rattle.rc_base.specs.Positions.{same_position}
-use Rattle.rc_topology.specs.declared.port.Port.{Port}
+use Rattle.rc_topology.specs.Topology.{Topology}
 use Rattle.rc_topology.specs.Ports.{owns, is_loopback, is_serial}
 use Rattle.rc_topology.specs.Links.{all_ids, are_linked, linked, takers, is_own, holds, port_is}
 use Rattle.rc_route.specs.declared.route.Hop.{Hop}
@@ -36,7 +36,7 @@ all-flat_map P f each (x ∷ xs) = All-append P (f x) (flat_map f xs) (each x) (
 
 -- ---- a move leads onto an interface of the network, or is an ending
 
-module _ (links : List (List Port)) where
+module _ (links : Topology) where
   -- the positions at which a packet enters a router
   abbrev pub entries : List Pos
   entries = map Entering (all_ids links)

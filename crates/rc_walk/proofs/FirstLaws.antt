@@ -13,7 +13,7 @@ use Rattle.rc_base.specs.declared.position.IfId.{IfId}
 use Rattle.rc_base.specs.declared.position.Pos.{Pos}
 use Rattle.rc_base.specs.Positions.{same_position}
 use Rattle.rc_base.specs.Prefix.{contains}
-use Rattle.rc_topology.specs.declared.port.Port.{Port}
+use Rattle.rc_topology.specs.Topology.{Topology}
 use Rattle.rc_topology.specs.Ports.{is_loopback, is_serial}
 use Rattle.rc_topology.specs.Links.{all_ids, linked, takers, is_own, holds, port_is}
 use Rattle.rc_route.specs.declared.route.Hop.{Hop}
@@ -50,7 +50,7 @@ begins-onto (i ∷ is) others h = refl
 abbrev IsResolved : Hop → Type 0
 IsResolved hop = is_resolved hop ≡ true
 
-module _ (links : List (List Port)) (h : Header) where
+module _ (links : Topology) (h : Header) where
   begins-on_link : (i : IfId) → Begins (moves_on_link links h i)
   begins-on_link i =
       begins-cond (holds links i h.dst) (End Delivered ∷ []) (cond (port_is links is_serial i) (moves_onto_or (linked links i) (End Exits ∷ [])) (End Exits ∷ [])) refl (begins-cond (port_is links is_serial i) (moves_onto_or (linked links i) (End Exits ∷ [])) (End Exits ∷ []) (begins-onto (linked links i) (End Exits ∷ []) refl) refl)

@@ -22,7 +22,7 @@ use Rattle.rc_walk.specs.Walks.{IsWalk}
 use Rattle.rc_walk.proofs.BoundLaws.{few_positions}
 
 module _ (net : Network) where
-  length-links_of : length (links_of net) ≡ length net.routers
+  length-links_of : length (links_of net).ports ≡ length net.routers
   unfolding links_of
   length-links_of = length-map net.routers (λ e. ports_of e.1)
 

@@ -8,7 +8,7 @@ use Rattle.rc_base.specs.declared.ending.Kind.TheVariants.{DeniedIn, Accepted, N
 use Rattle.rc_config.specs.declared.interface.Direction.TheVariants.{In, Out}
 use Rattle.rc_config.specs.declared.network.Network.{Network}
 use Rattle.rc_filter.specs.Groups.{passes_at}
-use Rattle.rc_topology.specs.declared.port.Port.{Port}
+use Rattle.rc_topology.specs.Topology.{Topology}
 use Rattle.rc_topology.specs.Ports.{links_of, is_loopback, is_serial}
 use Rattle.rc_topology.specs.Links.{linked, takers, is_own, holds, port_is}
 use Rattle.rc_route.specs.declared.route.Hop.{Hop}
@@ -23,7 +23,7 @@ use Rattle.rc_walk.specs.declared.walk.Move.TheVariants.{Next, End}
 -- what forwards packets: the network, its links, and each router's table with its hops resolved
 pub record DataPlane : Type 0 where
   pub network : Network
-  pub links : List (List Port)
+  pub links : Topology
   pub fibs : List (List Entry)
 
 -- a network in a state
@@ -52,7 +52,7 @@ abbrev pub moves_onto_or : List IfId → List Move → List Move
 moves_onto_or [] others = others
 moves_onto_or (i ∷ is) others = moves_onto (i ∷ is)
 
-module _ (links : List (List Port)) (h : Header) where
+module _ (links : Topology) (h : Header) where
   -- out of an interface, where nobody there takes the destination and there is no gateway: it is that of a host of the subnet, or
   -- the packet leaves by the line, into every router that shares it
   abbrev pub moves_on_link : IfId → List Move

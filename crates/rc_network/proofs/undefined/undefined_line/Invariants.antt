@@ -4,5 +4,5 @@ use Rattle.rc_network.specs.Least.{least_from}
 use Rattle.rc_network.specs.Undefined.{undefined_line}
 use Rattle.rc_network.proofs.undefined.undefined_line.Given as goal
 
-abbrev pub invariant-loop-place : goal.invariant-loop-place
-invariant-loop-place l = least_from l.least l.file.lists (named_by_maps (drop l.place l.file.route_maps)) ≡ undefined_line l.file
+abbrev pub invariant-loop-index : goal.invariant-loop-index
+invariant-loop-index l = least_from l.least l.file.lists (named_by_maps (drop l.index l.file.route_maps)) ≡ undefined_line l.file

@@ -11,5 +11,5 @@ pub returns : goal.returns
 returns c =
     let test : IfId → Bool = λ i. not (is_before c.args.last.now i) in
     let parted = turns_once test (past_down c.args.last.now) c.args.interfaces.now c.requires in
-    let point = IsPartitionPoint-from_clause test c.args.interfaces.now c.partition_point-place.result c.partition_point-place.ensures.partitioned parted (λ a r q called. search rules) in
-    c.at.ensures ∙ first_at test (is_before c.args.last.now) (λ i. not_not (is_before c.args.last.now i)) c.args.interfaces.now c.partition_point-place.result c.partition_point-place.ensures.bound point
+    let point = IsPartitionPoint-from_clause test c.args.interfaces.now c.partition_point-first.result c.partition_point-first.ensures.partitioned parted (λ a r q called. search rules) in
+    c.at.ensures ∙ first_at test (is_before c.args.last.now) (λ i. not_not (is_before c.args.last.now i)) c.args.interfaces.now c.partition_point-first.result c.partition_point-first.ensures.bound point

@@ -11,5 +11,5 @@ pub returns : goal.returns
 returns c =
     let test : IfId → Bool = λ i. nat_le i.router c.args.router in
     let parted = turns_once test (upto_down c.args.router) c.args.interfaces.now c.requires in
-    let point = IsPartitionPoint-from_clause test c.args.interfaces.now c.partition_point-place.result c.partition_point-place.ensures.partitioned parted (λ a r q called. search rules) in
-    c.at.ensures ∙ first_at test (λ i. nat_lt c.args.router i.router) (λ i. lt_le c.args.router i.router) c.args.interfaces.now c.partition_point-place.result c.partition_point-place.ensures.bound point
+    let point = IsPartitionPoint-from_clause test c.args.interfaces.now c.partition_point-first.result c.partition_point-first.ensures.partitioned parted (λ a r q called. search rules) in
+    c.at.ensures ∙ first_at test (λ i. nat_lt c.args.router i.router) (λ i. lt_le c.args.router i.router) c.args.interfaces.now c.partition_point-first.result c.partition_point-first.ensures.bound point

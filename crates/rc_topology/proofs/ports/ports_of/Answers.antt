@@ -6,8 +6,8 @@ use Rattle.rc_topology.proofs.ListLaws.{mapped_more}
 use Rattle.rc_topology.proofs.ports.ports_of.Goals as goal
 
 -- one port more
-pub loop-place-preserved : goal.loop-place-preserved
-loop-place-preserved c =
+pub loop-index-preserved : goal.loop-index-preserved
+loop-index-preserved c =
     let entries = c.args.file.now.interfaces in
-    c.in_ok-add_port.ensures ∙ ap (λ ports. ports ++ option_map_or (λ e. port_of entries e ∷ []) (slice_get entries c.loop-place.place) []) c.loop-place.invariant
-    ∙ mapped_more (port_of entries) entries c.loop-place.place
+    c.in_ok-add_port.ensures ∙ ap (λ ports. ports ++ option_map_or (λ e. port_of entries e ∷ []) (slice_get entries c.loop-index.index) []) c.loop-index.invariant
+    ∙ mapped_more (port_of entries) entries c.loop-index.index

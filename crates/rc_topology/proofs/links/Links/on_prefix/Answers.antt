@@ -2,7 +2,7 @@ use Rattle.std.proofs.Common.{rules, ◌≡◌, sym, subst}
 use Rattle.rc_topology.specs.Links.{on_prefix, port_is}
 use Rattle.rc_topology.specs.Order.{IsInOrder}
 use Rattle.rc_topology.specs.Ports.{is_on}
-use Rattle.rc_topology.proofs.PlaceLaws.{some_in_order}
+use Rattle.rc_topology.proofs.InterfaceLaws.{some_in_order}
 use Rattle.rc_topology.proofs.links.Links.on_prefix.Goals as goal
 
 pub returns-clause-in_order : goal.returns-clause-in_order

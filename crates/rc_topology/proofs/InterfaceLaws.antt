@@ -9,6 +9,7 @@ use Rattle.rc_base.proofs.KeepLaws.{any_filter}
 use Rattle.rc_topology.specs.Links.{all_ids, ids_of, is_own, owners, port_is, ports_at}
 use Rattle.rc_topology.specs.Order.{is_before, IsInOrder}
 use Rattle.rc_topology.specs.Ports.{owns}
+use Rattle.rc_topology.specs.Topology.{Topology}
 use Rattle.rc_topology.specs.declared.port.Port.{Port}
 use Rattle.rc_topology.proofs.ListLaws.{any_append, any_map}
 use Rattle.rc_topology.proofs.OrderLaws.{in_order_append, in_order_filter}
@@ -56,11 +57,11 @@ module _ (count : ℕ → ℕ) where
   listed_in_order from (suc n) =
       in_order_append (own from) (flat_map own (range_with_len (from + 1) n)) (own_in_order from 0 (count from)) (listed_in_order (from + 1) n) (own_before from 0 (count from) (from + 1) n (omega arith))
 
-pub ids_in_order : (links : List (List Port)) → IsInOrder (all_ids links)
-ids_in_order links = listed_in_order (λ r. length (ports_at links r)) 0 (length links)
+pub ids_in_order : (links : Topology) → IsInOrder (all_ids links)
+ids_in_order links = listed_in_order (λ r. length (ports_at links r)) 0 (length links.ports)
 
 -- those that pass a test are in order too
-pub some_in_order : (links : List (List Port)) (p : IfId → Bool) → IsInOrder (filter p (all_ids links))
+pub some_in_order : (links : Topology) (p : IfId → Bool) → IsInOrder (filter p (all_ids links))
 some_in_order links p = in_order_filter p (all_ids links) (ids_in_order links)
 
 -- ---- a router's own addresses
@@ -68,12 +69,12 @@ some_in_order links p = in_order_filter p (all_ids links) (ids_in_order links)
 one_more : (a k : ℕ) → a + suc k ≡ (a + 1) + k
 one_more a k = omega arith
 
--- some port of a list passes exactly where the one at some place does
-any_place : (t : Port → Bool) (ps qs : List Port) (a : ℕ) → ((k : ℕ) → slice_get ps (a + k) ≡ slice_get qs k) → list_any (λ k. option_map_or t (slice_get ps k) false) (range_with_len a (length qs)) ≡ list_any t qs
-any_place t ps [] a same = refl
-any_place t ps (q ∷ qs) a same =
+-- some port of a list passes exactly where the one at some index does
+any_index : (t : Port → Bool) (ps qs : List Port) (a : ℕ) → ((k : ℕ) → slice_get ps (a + k) ≡ slice_get qs k) → list_any (λ k. option_map_or t (slice_get ps k) false) (range_with_len a (length qs)) ≡ list_any t qs
+any_index t ps [] a same = refl
+any_index t ps (q ∷ qs) a same =
     ap (λ o. option_map_or t o false || list_any (λ k. option_map_or t (slice_get ps k) false) (range_with_len (a + 1) (length qs))) (ap (slice_get ps) (plain a) ∙ same 0)
-    ∙ ap (λ b. t q || b) (any_place t ps qs (a + 1) (λ k. ap (slice_get ps) (sym (one_more a k)) ∙ same (suc k)))
+    ∙ ap (λ b. t q || b) (any_index t ps qs (a + 1) (λ k. ap (slice_get ps) (sym (one_more a k)) ∙ same (suc k)))
   where
     plain : (a : ℕ) → a ≡ a + 0
     plain a = omega arith
@@ -82,7 +83,7 @@ from_zero : (k : ℕ) → 0 + k ≡ k
 from_zero k = omega arith
 
 any_port : (t : Port → Bool) (ps : List Port) → list_any (λ k. option_map_or t (slice_get ps k) false) (range_with_len 0 (length ps)) ≡ list_any t ps
-any_port t ps = any_place t ps ps 0 (λ k. ap (slice_get ps) (from_zero k))
+any_port t ps = any_index t ps ps 0 (λ k. ap (slice_get ps) (from_zero k))
 
 any_and : {X : Type 0} (p : X → Bool) (b : Bool) (xs : List X) → list_any (λ x. p x && b) xs ≡ list_any p xs && b
 any_and p b [] = refl
@@ -94,7 +95,7 @@ any_and p b (x ∷ xs) = ap (λ c. (p x && b) || c) (any_and p b xs) ∙ parted 
     parted true false false = refl
     parted false b c = refl
 
-module _ (links : List (List Port)) (t : Port → Bool) where
+module _ (links : Topology) (t : Port → Bool) where
   -- the interfaces of one router
   any_of_one : (r s : ℕ) → list_any (λ i. port_is links t i && (i.router == r)) (ids_of links s) ≡ list_any t (ports_at links s) && (s == r)
   any_of_one r s =
@@ -151,25 +152,25 @@ module _ (g : ℕ → Bool) (r : ℕ) where
       ap (λ b. (g from && b) || list_any (λ s. g s && (s == r)) (range_with_len (from + 1) n)) (apart' from r (omega arith))
       ∙ ap (λ b. b || list_any (λ s. g s && (s == r)) (range_with_len (from + 1) n)) (and_no (g from)) ∙ at_one (from + 1) n k (omega arith) (omega arith)
 
-no_such : (links : List (List Port)) (r : ℕ) → length links ≤ r → ports_at links r ≡ []
-no_such links r past = ap (λ o. option_map_or (λ ports. ports) o []) (beyond links r past)
+no_such : (links : Topology) (r : ℕ) → length links.ports ≤ r → ports_at links r ≡ []
+no_such links r past = ap (λ o. option_map_or (λ ports. ports) o []) (beyond links.ports r past)
   where
     beyond : (xs : List (List Port)) (k : ℕ) → length xs ≤ k → slice_get xs k ≡ None
     beyond [] k past = refl
     beyond (x ∷ xs) zero past = absurd (omega arith)
     beyond (x ∷ xs) (suc k) past = beyond xs k (omega arith)
 
-module _ (links : List (List Port)) (r a : ℕ) where
-  here_or_past : nat_lt r (length links) ≡ true → list_any (λ s. list_any (owns a) (ports_at links s) && (s == r)) (range_with_len 0 (length links)) ≡ is_own links r a
-  here_or_past less = at_one (λ s. list_any (owns a) (ports_at links s)) r 0 (length links) r (from_zero r) (below r (length links) less)
+module _ (links : Topology) (r a : ℕ) where
+  here_or_past : nat_lt r (length links.ports) ≡ true → list_any (λ s. list_any (owns a) (ports_at links s) && (s == r)) (range_with_len 0 (length links.ports)) ≡ is_own links r a
+  here_or_past less = at_one (λ s. list_any (owns a) (ports_at links s)) r 0 (length links.ports) r (from_zero r) (below r (length links.ports) less)
     where
       below : (m n : ℕ) → nat_lt m n ≡ true → m < n
       below m n h = grind (arith, nat_tests)
 
-  past_all : nat_lt r (length links) ≡ false → list_any (λ s. list_any (owns a) (ports_at links s) && (s == r)) (range_with_len 0 (length links)) ≡ is_own links r a
+  past_all : nat_lt r (length links.ports) ≡ false → list_any (λ s. list_any (owns a) (ports_at links s) && (s == r)) (range_with_len 0 (length links.ports)) ≡ is_own links r a
   past_all least =
-      at_past (λ s. list_any (owns a) (ports_at links s)) r 0 (length links) (above r (length links) least)
-      ∙ sym (ap (λ ps. list_any (owns a) ps) (no_such links r (over r (length links) least)))
+      at_past (λ s. list_any (owns a) (ports_at links s)) r 0 (length links.ports) (above r (length links.ports) least)
+      ∙ sym (ap (λ ps. list_any (owns a) ps) (no_such links r (over r (length links.ports) least)))
     where
       above : (m n : ℕ) → nat_lt m n ≡ false → 0 + n ≤ m
       above m n h = grind (arith, nat_tests)
@@ -180,8 +181,8 @@ module _ (links : List (List Port)) (r a : ℕ) where
   -- some owner of an address is of a router exactly where the address is one of its own
   pub some_owner : list_any (λ i. i.router == r) (owners links a) ≡ is_own links r a
   some_owner =
-      any_filter (port_is links (owns a)) (λ i. i.router == r) (all_ids links) ∙ any_of_all links (owns a) r 0 (length links) ∙ by (nat_lt r (length links)) refl
+      any_filter (port_is links (owns a)) (λ i. i.router == r) (all_ids links) ∙ any_of_all links (owns a) r 0 (length links.ports) ∙ by (nat_lt r (length links.ports)) refl
     where
-      by : (b : Bool) → nat_lt r (length links) ≡ b → list_any (λ s. list_any (owns a) (ports_at links s) && (s == r)) (range_with_len 0 (length links)) ≡ is_own links r a
+      by : (b : Bool) → nat_lt r (length links.ports) ≡ b → list_any (λ s. list_any (owns a) (ports_at links s) && (s == r)) (range_with_len 0 (length links.ports)) ≡ is_own links r a
       by true less = here_or_past less
       by false least = past_all least

@@ -1,0 +1,7 @@
+-- What the links of a network are seen as.
+use Rattle.std.specs.Prelude.{List}
+use Rattle.rc_topology.specs.declared.port.Port.{Port}
+
+-- the interfaces of each router, in the network's order; who shares a link with whom is told from these alone
+pub record Topology : Type 0 where
+  pub ports : List (List Port)
