@@ -24,7 +24,7 @@ fn forms_take_their_values_alone(rt: HostRuntime) {
         (b"frobnicate", UNKNOWN),
         (b"shutdown", OUT_OF_PLACE),
     ];
-    check_lines(&rt, rt.alloc(), OpenBlock::Global, &lines);
+    check_lines(&rt, rt.alloc(), &OpenBlock::Global, &lines);
 }
 
 #[test]
@@ -34,7 +34,7 @@ fn a_closed_block_takes_no_form(rt: HostRuntime) {
         (b"hostname R1", OUT_OF_PLACE),
         (b" ip route 10.1.2.3 255.255.0.0 Null0", OUT_OF_PLACE),
     ];
-    check_lines(&rt, rt.alloc(), OpenBlock::Closed, &lines);
+    check_lines(&rt, rt.alloc(), &OpenBlock::Closed, &lines);
 }
 
 #[test]
@@ -47,13 +47,13 @@ fn an_interface_takes_addresses_in_range(rt: HostRuntime) {
         (b"ip address 10.0.0.1 0.0.0.0", BAD),
         (b"ip address 10.0.0.1", BAD),
     ];
-    check_lines(&rt, rt.alloc(), inside, &lines);
+    check_lines(&rt, rt.alloc(), &inside, &lines);
     let tunnel = OpenBlock::Interface(Name::new(b"Tunnel0").expect(&rt, "Tunnel0"));
     let lines = [
         (b"ip address 10.0.0.1".as_slice(), BAD),
         (b"ip address 10.0.0.1 255.0.0.0", UNSUPPORTED),
     ];
-    check_lines(&rt, rt.alloc(), tunnel, &lines);
+    check_lines(&rt, rt.alloc(), &tunnel, &lines);
 }
 
 #[test]
@@ -65,7 +65,7 @@ fn an_interface_takes_a_bandwidth_and_is_shut(rt: HostRuntime) {
         (b"bandwidth 0", BAD),
         (b"no shutdown now", BAD),
     ];
-    check_lines(&rt, rt.alloc(), inside, &lines);
+    check_lines(&rt, rt.alloc(), &inside, &lines);
 }
 
 #[test]
@@ -78,5 +78,5 @@ fn access_groups_have_a_name_and_a_direction(rt: HostRuntime) {
         (b"ip access-group WEB both", BAD),
         (b"ip access-group WEB in log", BAD),
     ];
-    check_lines(&rt, rt.alloc(), inside, &lines);
+    check_lines(&rt, rt.alloc(), &inside, &lines);
 }

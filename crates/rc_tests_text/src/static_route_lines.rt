@@ -79,9 +79,9 @@ fn static_routes_take_their_options_in_any_order(rt: HostRuntime) {
 #[test]
 fn static_routes_are_refused(rt: HostRuntime) {
     let bad = Some(LineRefusal::BadValue);
-    assert!(rt; all_say(rt.alloc(), OpenBlock::Global, BAD_ROUTES, bad));
+    assert!(rt; all_say(rt.alloc(), &OpenBlock::Global, BAD_ROUTES, bad));
     let unsupported = Some(LineRefusal::Unsupported);
-    assert!(rt; all_say(rt.alloc(), OpenBlock::Global, REFUSED_ROUTES, unsupported));
+    assert!(rt; all_say(rt.alloc(), &OpenBlock::Global, REFUSED_ROUTES, unsupported));
 }
 
 /// Asserts the target and the distance of the route that a line says.

@@ -247,16 +247,17 @@ ip ospf NAME area
 ";
 
 #[test]
-fn every_opening_says_what_its_table_says(rt: HostRuntime) {
+fn openings_without_indent(rt: HostRuntime) {
     let unsupported = Some(LineRefusal::Unsupported);
+    assert!(rt; all_say(rt.alloc(), &OpenBlock::Global, GLOBAL_IGNORED, None));
+    assert!(rt; all_say(rt.alloc(), &OpenBlock::Global, GLOBAL_REFUSED, unsupported));
+    assert!(rt; all_say(rt.alloc(), &OpenBlock::Ignored, GLOBAL_REFUSED, None));
+}
+
+#[test]
+fn openings_in_an_interface(rt: HostRuntime) {
     let inside = OpenBlock::Interface(Name::new(b"Serial0").expect(&rt, "Serial0"));
-    for (block, text, refusal) in [
-        (OpenBlock::Global, GLOBAL_IGNORED, None),
-        (OpenBlock::Global, GLOBAL_REFUSED, unsupported),
-        (inside, INTERFACE_IGNORED, None),
-        (inside, INTERFACE_REFUSED, unsupported),
-        (OpenBlock::Ignored, GLOBAL_REFUSED, None),
-    ] {
-        assert!(rt; all_say(rt.alloc(), block, text, refusal), "{text:?}");
-    }
+    let unsupported = Some(LineRefusal::Unsupported);
+    assert!(rt; all_say(rt.alloc(), &inside, INTERFACE_IGNORED, None));
+    assert!(rt; all_say(rt.alloc(), &inside, INTERFACE_REFUSED, unsupported));
 }
