@@ -4,4 +4,8 @@
 #[cfg(test)]
 mod chains;
 #[cfg(test)]
+mod cubes;
+#[cfg(test)]
+mod hops;
+#[cfg(test)]
 mod operations;
