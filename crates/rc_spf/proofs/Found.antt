@@ -1,11 +1,12 @@
 -- The search at its start and at its end.
-use Rattle.std.proofs.Common.{◌≡◌, ℕ, zero, suc, ◌+◌, ◌*◌, ◌<◌, ◌≤◌, ◌↔◌, inl, inr, Bool, false, not, cond, List, [], ◌∷◌, length, get_or, set, replicate, Option, Some, None, MatchOption, sym, ◌∙◌, ap, subst, arith, refl, Contains}
+use Rattle.std.proofs.Common.{◌≡◌, ℕ, zero, suc, ◌+◌, ◌*◌, ◌<◌, ◌≤◌, ◌↔◌, inl, inr, Bool, false, not, cond, List, [], ◌∷◌, length, get_or, set, replicate, Option, Some, None, MatchOption, All, sym, ◌∙◌, ap, subst, arith, refl, Contains}
 use Rattle.std.proofs.lemmas.List.{get_or-set_same, length-set, length-replicate}
 use Rattle.std.proofs.lemmas.List.Folds.{sum_by-replicate}
 use Rattle.rc_spf.specs.declared.graph.Edge.{Edge}
 use Rattle.rc_spf.specs.declared.graph.First.{First}
 use Rattle.rc_spf.specs.Walks.{IsWalk, walk_cost, first_hop, IsLeastWalk, IsLeastCost, IsFirstHop}
-use Rattle.rc_spf.specs.Steps.{HasCost, NoneNearest, first_of}
+use Rattle.std.proofs.lemmas.List.Elements.{All-contains}
+use Rattle.rc_spf.specs.Steps.{HasCost, NoneNearest, first_of, AreBounded}
 use Rattle.rc_spf.proofs.WalkLaws.{IsClosed, walk_lower}
 use Rattle.rc_spf.proofs.Search.{IsSettled, open_count, IsFit, IsSearch, one_cost, one_of}
 
@@ -38,7 +39,8 @@ search_start edges root nodes most lt = record {
   settled_len = length-replicate nodes false;
   root_cost = get_or-set_same (replicate nodes None) root (Some 0) None (long nodes);
   walks = λ k x has. ([], sym (start_cost nodes root k x lt has).0, sym (start_cost nodes root k x lt has).1);
-  bound = bound;
+  bound = bound most;
+  each_bound = λ m greatest. bound m;
   followed = λ e x has is. absurd (none_settled nodes e.from is);
   before = λ a b x y is. absurd (none_settled nodes a is);
   has_cost = λ k is. absurd (none_settled nodes k is);
@@ -51,8 +53,8 @@ search_start edges root nodes most lt = record {
     long : (n : ℕ) → root < length (replicate nodes no_cost)
     long n = let e : length (replicate nodes no_cost) ≡ nodes = length-replicate nodes no_cost in omega arith
 
-    bound : (k x : ℕ) → HasCost (set (replicate nodes None) root (Some 0)) k x → x + open_count (replicate nodes false) * most ≤ nodes * most
-    bound k x has =
+    bound : (m k x : ℕ) → HasCost (set (replicate nodes None) root (Some 0)) k x → x + open_count (replicate nodes false) * m ≤ nodes * m
+    bound most k x has =
         let z : x ≡ 0 = (start_cost nodes root k x lt has).1 in
         let c : open_count (replicate nodes false) ≡ nodes * 1 = sum_by-replicate (λ y. cond (not y) 1 0) nodes false in
         let m : open_count (replicate nodes false) * most ≡ nodes * most = ap (λ n. n * most) (c ∙ omega arith) in omega arith
@@ -146,3 +148,10 @@ module _ (edges : List Edge) (root nodes most : ℕ) (costs : List (Option ℕ))
 
       back : IsFirstHop edges root n h → Contains firsts (first_of n h)
       back (walk, is, hop) = from walk is hop
+
+-- no cost is more than that of so many edges of the greatest cost as there are nodes
+pub done_small : (edges : List Edge) (root nodes most : ℕ) (costs : List (Option ℕ)) (settled : List Bool) (firsts : List First) →
+    IsSearch edges root nodes most costs settled firsts → AreBounded costs edges nodes
+done_small edges root nodes most costs settled firsts s = record {
+  bound = λ m all n c has. (let b : c + open_count settled * m ≤ nodes * m = s.each_bound m (λ e there. All-contains (λ (e : Edge). e.cost ≤ m) edges e all there) n c has in omega arith);
+}

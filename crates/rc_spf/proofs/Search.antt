@@ -25,12 +25,17 @@ pub record IsFit (edges : List Edge) (nodes most : ℕ) : Type 0 where
   pub from : (e : Edge) → Contains edges e → e.from < nodes
   pub to : (e : Edge) → Contains edges e → e.to < nodes
 
+-- no edge costs more
+abbrev pub IsMost : List Edge → ℕ → Type 0
+IsMost edges m = (e : Edge) → Contains edges e → e.cost ≤ m
+
 pub record IsSearch (edges : List Edge) (root nodes most : ℕ) (costs : List (Option ℕ)) (settled : List Bool) (firsts : List First) : Type 0 where
   pub costs_len : length costs ≡ nodes
   pub settled_len : length settled ≡ nodes
   pub root_cost : HasCost costs root 0
   pub walks : (k x : ℕ) → HasCost costs k x → (walk : List Edge) × IsWalk edges root walk k × (walk_cost walk ≡ x)
   pub bound : (k x : ℕ) → HasCost costs k x → x + open_count settled * most ≤ nodes * most
+  pub each_bound : (m : ℕ) → IsMost edges m → (k x : ℕ) → HasCost costs k x → x + open_count settled * m ≤ nodes * m
   pub followed : (e : Edge) (x : ℕ) → Contains edges e → IsSettled settled e.from → HasCost costs e.from x → (y : ℕ) × HasCost costs e.to y × (y ≤ x + e.cost)
   pub before : (a b x y : ℕ) → IsSettled settled a → IsOpen settled b → HasCost costs a x → HasCost costs b y → x ≤ y
   pub has_cost : (k : ℕ) → IsSettled settled k → (x : ℕ) × HasCost costs k x
@@ -116,7 +121,8 @@ search_step edges root nodes most u x costs costs' settled firsts found fit s ne
   settled_len = length-set settled u true ∙ s.settled_len;
   root_cost = root_cost;
   walks = walks;
-  bound = bound;
+  bound = bound most fit.greatest s.bound;
+  each_bound = λ m g. bound m g (s.each_bound m g);
   followed = followed;
   before = before;
   has_cost = has_cost;
@@ -178,13 +184,14 @@ search_step edges root nodes most u x costs costs' settled firsts found fit s ne
     count : open_count settled' + 1 ≡ open_count settled
     count = count_settled settled u near.is_open
 
-    bound : (k z : ℕ) → HasCost costs' k z → z + open_count settled' * most ≤ nodes * most
-    bound k z now = elim (r.changed k) [
-      | inl same ↦ (let b : z + open_count settled * most ≤ nodes * most = s.bound k z (sym same ∙ now) in
-          let m : open_count settled * most ≡ open_count settled' * most + most = ap (λ n. n * most) (sym count) ∙ omega arith in omega arith)
-      | inr (e, has, from, to, cost, less) ↦ (let b : x + open_count settled * most ≤ nodes * most = s.bound u x near.has_cost in
-          let m : open_count settled * most ≡ open_count settled' * most + most = ap (λ n. n * most) (sym count) ∙ omega arith in
-          let g : e.cost ≤ most = fit.greatest e has in
+    bound : (m : ℕ) → IsMost edges m → ((k y : ℕ) → HasCost costs k y → y + open_count settled * m ≤ nodes * m) →
+        (k z : ℕ) → HasCost costs' k z → z + open_count settled' * m ≤ nodes * m
+    bound m greatest holds k z now = elim (r.changed k) [
+      | inl same ↦ (let b : z + open_count settled * m ≤ nodes * m = holds k z (sym same ∙ now) in
+          let one : open_count settled * m ≡ open_count settled' * m + m = ap (λ n. n * m) (sym count) ∙ omega arith in omega arith)
+      | inr (e, has, from, to, cost, less) ↦ (let b : x + open_count settled * m ≤ nodes * m = holds u x near.has_cost in
+          let one : open_count settled * m ≡ open_count settled' * m + m = ap (λ n. n * m) (sym count) ∙ omega arith in
+          let g : e.cost ≤ m = greatest e has in
           let same : z ≡ x + e.cost = one_cost costs' k z (x + e.cost) now cost in omega arith)
     ]
 

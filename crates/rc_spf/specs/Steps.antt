@@ -1,5 +1,5 @@
 -- What the parts of the search promise.
-use Rattle.std.specs.Prelude.{◌≡◌, ℕ, ◌+◌, ◌≤◌, ◌<◌, ◌⊎◌, ◌↔◌, Bool, true, false, cond, List, Option, Some, None, Contains, length, Vec, take, drop, ◌-◌}
+use Rattle.std.specs.Prelude.{◌≡◌, ℕ, ◌+◌, ◌*◌, ◌≤◌, ◌<◌, ◌⊎◌, ◌↔◌, Bool, true, false, cond, List, Option, Some, None, Contains, All, length, Vec, take, drop, ◌-◌}
 use Rattle.std.specs.declared.alloc.Global.{Global}
 use Rattle.std.specs.List.{slice_index_or}
 use Rattle.rc_spf.specs.declared.graph.Edge.{Edge}
@@ -84,3 +84,7 @@ pub record AreSpans (spans : List (ℕ × ℕ)) (firsts : List First) : Type 0 w
 
 abbrev pub HasNoFirsts : ℕ → List First → Type 0
 HasNoFirsts n firsts = (h : ℕ) → Contains firsts (first_of n h) → ⊥
+
+-- no cost is more than that of so many edges of the greatest cost as there are nodes
+pub record AreBounded (costs : List (Option ℕ)) (edges : List Edge) (nodes : ℕ) : Type 0 where
+  pub bound : (most : ℕ) → All (λ (e : Edge). e.cost ≤ most) edges → (n c : ℕ) → HasCost costs n c → c ≤ nodes * most

@@ -6,7 +6,7 @@ ghost use Rattle.std.specs.BinaryHeap.{heap_items};
 ghost use Rattle.rc_spf.specs.declared.graph.Edge.{Edge};
 ghost use Rattle.rc_spf.specs.Waiting.{waiting, IsQueue, IsNext, IsStillQueue};
 ghost use Rattle.rc_spf.specs.Walks.{IsWalk, IsLeastCost, IsFirstHop};
-ghost use Rattle.rc_spf.specs.Steps.{NoneNearest, IsImproved, IsRelaxed, first_of, AreGroups, AreSpans};
+ghost use Rattle.rc_spf.specs.Steps.{NoneNearest, IsImproved, IsRelaxed, first_of, AreBounded, AreGroups, AreSpans};
 
 use crate::groups::groups_of;
 use crate::hops::{hops_of, record_span};
@@ -80,7 +80,8 @@ fn relax(
 /// The least walks from a root, by the groups of the graph's edges: the least cost to each node, and the first hops of all
 /// least walks.
 ///
-/// Costs are at least 1, and so small that no walk through all nodes reaches 2^32. It errs only where memory runs out.
+/// Costs are at least 1, and so small that no walk through all nodes reaches 2^32. No cost in the tree is more than that of
+/// so many edges of the greatest cost as there are nodes. It errs only where memory runs out.
 pub fn tree_by(
     alloc: Global,
     graph: &Graph,
@@ -94,6 +95,7 @@ pub fn tree_by(
     ensures nodes { IfOk result (λ t. vec_len t.costs ≡ graph.now.nodes) }
     ensures cost { IfOk result (λ t. (n : ℕ) → MatchOption (slice_index_or t.costs.items n None) ((walk : List Edge) → IsWalk graph.now.edges.items root walk n → ⊥) (λ c. IsLeastCost graph.now.edges.items root n c)) }
     ensures spans { IfOk result (λ t. AreSpans t.spans.items t.firsts.items × (length t.spans.items ≡ graph.now.nodes)) }
+    ensures small { IfOk result (λ t. AreBounded t.costs.items graph.now.edges.items graph.now.nodes) }
     ensures hops { IfOk result (λ t. (n h : ℕ) → Contains t.firsts.items (first_of n h) ↔ IsFirstHop graph.now.edges.items root n h) }
 {
     let mut costs: Vec<Option<u32>> = vec![in alloc; None; graph.nodes]?;
@@ -136,6 +138,7 @@ pub fn tree(alloc: Global, graph: &Graph, root: usize) -> Result<Tree, AllocErro
     ensures nodes { IfOk result (λ t. vec_len t.costs ≡ graph.now.nodes) }
     ensures cost { IfOk result (λ t. (n : ℕ) → MatchOption (slice_index_or t.costs.items n None) ((walk : List Edge) → IsWalk graph.now.edges.items root walk n → ⊥) (λ c. IsLeastCost graph.now.edges.items root n c)) }
     ensures spans { IfOk result (λ t. AreSpans t.spans.items t.firsts.items × (length t.spans.items ≡ graph.now.nodes)) }
+    ensures small { IfOk result (λ t. AreBounded t.costs.items graph.now.edges.items graph.now.nodes) }
     ensures hops { IfOk result (λ t. (n h : ℕ) → Contains t.firsts.items (first_of n h) ↔ IsFirstHop graph.now.edges.items root n h) }
 {
     let groups = groups_of(alloc, graph)?;

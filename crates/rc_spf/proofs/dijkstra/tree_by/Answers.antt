@@ -1,6 +1,6 @@
 use Rattle.std.proofs.Common.{rules, subst, ◌+◌, ◌<◌, ◌^◌, length, ap, sym, ◌∙◌, refl, true, false}
 use Rattle.rc_spf.specs.declared.graph.Edge.{Edge}
-use Rattle.rc_spf.proofs.Found.{done_cost, done_hops}
+use Rattle.rc_spf.proofs.Found.{done_cost, done_hops, done_small}
 use Rattle.rc_spf.proofs.Grouping.{found_in, relaxed_in, all_in}
 use Rattle.rc_spf.proofs.Conditions.{fit_of, sum_fits, whole, near_of, none_of, turn, near_small, below_copy, start_of}
 use Rattle.rc_spf.proofs.Waiting.{first_waits, queue_turn}
@@ -95,3 +95,6 @@ pub returns-clause-hops : goal.returns-clause-hops
 returns-clause-hops c = done_hops _ _ _ _ _ c.loop-node.settled.items _
     (fit_of _ c.args.root _ c.requires.root c.requires.ends c.requires.costs)
     (record { search = c.loop-node.invariant.0; none = none_of _ _ _ _ c.deref.ensures.value c.deref-in-loop-node.ensures.value c.in_default.ensures })
+
+pub returns-clause-small : goal.returns-clause-small
+returns-clause-small c = done_small _ _ _ _ _ _ _ c.loop-node.invariant.0
