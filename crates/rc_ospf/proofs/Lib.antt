@@ -1,0 +1,8 @@
+mod IndexLaws
+mod RowLaws
+mod WayLaws
+mod RouteLaws
+mod Members
+mod Bridge
+mod KeptLaws
+mod AreaLaws
