@@ -1,25 +1,32 @@
 -- A command whose values are in range keeps a file's interfaces lawful.
-use Rattle.std.proofs.Common.{◌≡◌, ℕ, Bool, true, false, cond, List, [], ◌∷◌, ◌++◌, Option, Some, None, Result, Ok, Err, OnOk, IsSome, refl, sym, subst}
-use Rattle.std.specs.Prelude.{All, unwrap_or}
+use Rattle.std.proofs.Common.{◌≡◌, ℕ, Bool, true, false, cond, List, [], ◌∷◌, ◌++◌, Option, Some, None, Result, Ok, Err, OnOk, IsSome, refl, sym, subst, arith}
+use Rattle.std.specs.Prelude.{All, IfSome, unwrap_or}
 use Rattle.std.specs.declared.alloc.AllocError.{AllocError}
-use Rattle.std.specs.Option.{option_map_or}
+use Rattle.std.specs.Option.{option_map, option_map_or}
 use Rattle.std.proofs.lemmas.List.Elements.{All-nil, All-cons, All-head, All-tail, All-push}
 use Rattle.std.specs.Cmp.Lexicographic.{bytes_decides}
 use Rattle.rc_base.specs.Name.{same_name}
 use Rattle.rc_config.specs.declared.command.Command.{Command}
-use Rattle.rc_config.specs.declared.command.Command.TheVariants.{Passed, Remark, Hostname, Interface, Address, Shutdown, Bandwidth, StaticRoute, AccessListOpened, AccessListLine, AccessGroup, PrefixLine, CommunityLine, MapOpened, MapLine}
+use Rattle.rc_config.specs.declared.command.Command.TheVariants.{Passed, Remark, Hostname, Interface, Address, Shutdown, Bandwidth, StaticRoute, AccessListOpened, AccessListLine, AccessGroup, PrefixLine, CommunityLine, MapOpened, MapLine, InterfaceOspf, OspfOpened, OspfLine}
 use Rattle.rc_config.specs.declared.access_list.AccessListKind.{AccessListKind}
 use Rattle.rc_config.specs.declared.interface.Direction.{Direction}
 use Rattle.rc_config.specs.declared.interface.Direction.TheVariants.{In, Out}
 use Rattle.rc_config.specs.declared.interface.IfAddr.{IfAddr}
 use Rattle.rc_config.specs.declared.interface.Interface.{Interface as Block}
+use Rattle.rc_config.specs.declared.ospf.OspfLine.{OspfLine as OspfRow}
+use Rattle.rc_config.specs.declared.ospf.OspfLine.TheVariants.{RouterId, Network, PassiveDefault, Passive, ReferenceBandwidth}
+use Rattle.rc_config.specs.declared.ospf.OspfProcess.{OspfProcess}
+use Rattle.rc_config.specs.declared.ospf.OspfSetting.{OspfSetting}
+use Rattle.rc_config.specs.declared.ospf.OspfSetting.TheVariants.{Cost, HelloInterval, DeadInterval, NetworkType, Area}
+use Rattle.rc_config.specs.declared.ospf.OspfSettings.{OspfSettings}
 use Rattle.rc_config.specs.declared.router_text.RouterText.{RouterText}
 use Rattle.rc_config.specs.declared.static_route.StaticRoute.{StaticRoute as Route}
 use Rattle.rc_config.specs.IfType.{type_of}
 use Rattle.rc_config.specs.AccessList.{IsLawfulAccessList, IsLawfulLine}
 use Rattle.rc_config.specs.Interface.{fresh, with_address, with_group}
-use Rattle.rc_config.specs.Lawful.{IsLawfulInterface, HasLawfulInterfaces, HasLawfulRoutes, HasLawfulLists, IsDistance, IsInRange, FitsFile}
+use Rattle.rc_config.specs.Lawful.{IsLawfulInterface, HasLawfulInterfaces, HasLawfulRoutes, HasLawfulLists, HasLawfulOspf, IsDistance, IsInRange, FitsFile}
 use Rattle.rc_config.specs.Lists.{access_list_named, prefix_list_named, with_access_list_line, with_prefix_line}
+use Rattle.rc_config.specs.Ospf.{no_settings, with_setting, with_line as with_ospf_line, IsLawfulOspf, IsLawfulOspfLine, IsLawfulProcess, IsLawfulSetting, IsOspfNumber}
 use Rattle.rc_config.specs.PrefixList.{IsLawfulLine as IsLawfulPrefixLine, IsLawfulList as IsLawfulPrefixList}
 use Rattle.rc_config.specs.RouteMap.{IsLawfulMap}
 use Rattle.rc_config.specs.declared.access_list.AccessListLine.{AccessListLine as AccessListRow}
@@ -27,7 +34,7 @@ use Rattle.rc_config.specs.declared.lists.Lists.{Lists}
 use Rattle.rc_config.specs.declared.prefix_list.PrefixLine.{PrefixLine as PrefixRow}
 use Rattle.rc_config.specs.MaskedAddr.{IsMaskLen}
 use Rattle.rc_config.specs.Named.{named, with_value}
-use Rattle.rc_config.specs.Update.{after, interface_named, route_map_named}
+use Rattle.rc_config.specs.Update.{after, interface_named, ospf_opened, route_map_named}
 use Rattle.rc_config.proofs.AccessListLaws.{no_lines_lawful, placed_lawful}
 use Rattle.rc_config.proofs.PolicyLaws.{line_lawful as prefix_line_lawful, map_line_lawful, no_entries_lawful, no_lines_lawful as no_prefix_lines_lawful, opened_lawful}
 
@@ -50,8 +57,11 @@ module _ {V : Type 0} (P : List ℕ → V → Type 0) where
       by true q rest = subst (λ n. P n e.1) (sym ((bytes_decides name e.0).0 q)) (All-head (λ e. P e.0 e.1) e es h)
       by false q rest = rest
 
+unset-lawful : IsLawfulOspf no_settings
+unset-lawful = record { cost = tt; hello = tt; dead = tt; area = tt }
+
 fresh-lawful : (name : List ℕ) → IsLawfulInterface name fresh
-fresh-lawful name = record { has_type = λ some. absurd (some refl); masks = All-nil (λ (a : IfAddr). IsMaskLen a.len); bandwidth = tt }
+fresh-lawful name = record { has_type = λ some. absurd (some refl); masks = All-nil (λ (a : IfAddr). IsMaskLen a.len); bandwidth = tt; ospf = unset-lawful }
 
 block-lawful : (r : RouterText) (name : List ℕ) → HasLawfulInterfaces r → IsLawfulInterface name (interface_named r name)
 block-lawful r name h = named-or IsLawfulInterface r.interfaces name fresh h (fresh-lawful name)
@@ -71,16 +81,24 @@ more-masks (Some p) more a m h = All-push (λ (a : IfAddr). IsMaskLen a.len) (p 
 
 address-lawful : (name : List ℕ) (i : Block) (a : IfAddr) (secondary : Bool) → IsSome (type_of name) → IsMaskLen a.len → IsLawfulInterface name i
     → IsLawfulInterface name (with_address i a secondary)
-address-lawful name i a true t m h = record { has_type = λ _. t; masks = more-masks i.primary i.secondary a m h.masks; bandwidth = h.bandwidth }
+address-lawful name i a true t m h = record { has_type = λ _. t; masks = more-masks i.primary i.secondary a m h.masks; bandwidth = h.bandwidth; ospf = h.ospf }
 address-lawful name i a false t m h = record {
   has_type = λ _. t;
   masks = All-cons (λ (a : IfAddr). IsMaskLen a.len) a i.secondary m (secondary-masks i.primary i.secondary h.masks);
   bandwidth = h.bandwidth;
+  ospf = h.ospf;
 }
 
 group-lawful : (name : List ℕ) (i : Block) (list : List ℕ) (direction : Direction) → IsLawfulInterface name i → IsLawfulInterface name (with_group i list direction)
-group-lawful name i list In h = record { has_type = h.has_type; masks = h.masks; bandwidth = h.bandwidth }
-group-lawful name i list Out h = record { has_type = h.has_type; masks = h.masks; bandwidth = h.bandwidth }
+group-lawful name i list In h = record { has_type = h.has_type; masks = h.masks; bandwidth = h.bandwidth; ospf = h.ospf }
+group-lawful name i list Out h = record { has_type = h.has_type; masks = h.masks; bandwidth = h.bandwidth; ospf = h.ospf }
+
+set-lawful : (s : OspfSettings) (setting : OspfSetting) → IsLawfulOspf s → IsLawfulSetting setting → IsLawfulOspf (with_setting s setting)
+set-lawful s (Cost n) h k = record { cost = k; hello = h.hello; dead = h.dead; area = h.area }
+set-lawful s (HelloInterval n) h k = record { cost = h.cost; hello = k; dead = h.dead; area = h.area }
+set-lawful s (DeadInterval n) h k = record { cost = h.cost; hello = h.hello; dead = k; area = h.area }
+set-lawful s (NetworkType type) h k = record { cost = h.cost; hello = h.hello; dead = h.dead; area = h.area }
+set-lawful s (Area area) h k = record { cost = h.cost; hello = h.hello; dead = h.dead; area = k }
 
 after-lawful : (r : RouterText) (c : Command) → HasLawfulInterfaces r → IsInRange c → HasLawfulInterfaces (after r c)
 after-lawful r Passed h k = h
@@ -90,10 +108,10 @@ after-lawful r (Interface name line) h k = All-with_value IsLawfulInterface r.in
 after-lawful r (Address name a secondary) h k = All-with_value IsLawfulInterface r.interfaces name _ h (address-lawful name (interface_named r name) a secondary k.0 k.1 (block-lawful r name h))
 after-lawful r (Shutdown name down) h k =
     let was = block-lawful r name h in
-    All-with_value IsLawfulInterface r.interfaces name _ h (record { has_type = was.has_type; masks = was.masks; bandwidth = was.bandwidth })
+    All-with_value IsLawfulInterface r.interfaces name _ h (record { has_type = was.has_type; masks = was.masks; bandwidth = was.bandwidth; ospf = was.ospf })
 after-lawful r (Bandwidth name kbits) h k =
     let was = block-lawful r name h in
-    All-with_value IsLawfulInterface r.interfaces name _ h (record { has_type = was.has_type; masks = was.masks; bandwidth = k })
+    All-with_value IsLawfulInterface r.interfaces name _ h (record { has_type = was.has_type; masks = was.masks; bandwidth = k; ospf = was.ospf })
 after-lawful r (StaticRoute route) h k = h
 after-lawful r (AccessListOpened name kind) h k = h
 after-lawful r (AccessListLine name kind line) h k = h
@@ -101,6 +119,11 @@ after-lawful r (PrefixLine name line) h k = h
 after-lawful r (CommunityLine name line) h k = h
 after-lawful r (MapOpened name n action) h k = h
 after-lawful r (MapLine name n line) h k = h
+after-lawful r (OspfOpened process) h k = h
+after-lawful r (OspfLine line) h k = h
+after-lawful r (InterfaceOspf name setting) h k =
+    let was = block-lawful r name h in
+    All-with_value IsLawfulInterface r.interfaces name _ h (record { has_type = was.has_type; masks = was.masks; bandwidth = was.bandwidth; ospf = set-lawful _ setting was.ospf k })
 after-lawful r (AccessGroup name list direction) h k = All-with_value IsLawfulInterface r.interfaces name _ h (group-lawful name (interface_named r name) list direction (block-lawful r name h))
 
 -- and its static routes
@@ -120,6 +143,45 @@ after-routes r (PrefixLine name line) h k = h
 after-routes r (CommunityLine name line) h k = h
 after-routes r (MapOpened name n action) h k = h
 after-routes r (MapLine name n line) h k = h
+after-routes r (InterfaceOspf name setting) h k = h
+after-routes r (OspfOpened process) h k = h
+after-routes r (OspfLine line) h k = h
+
+-- and its OSPF process
+process-lawful : (p : OspfProcess) (line : OspfRow) → IsLawfulProcess p → IsLawfulOspfLine line → IsLawfulProcess (with_ospf_line p line)
+process-lawful p (RouterId id) h k = record { process = h.process; reference_bandwidth = h.reference_bandwidth }
+process-lawful p (Network network) h k = record { process = h.process; reference_bandwidth = h.reference_bandwidth }
+process-lawful p PassiveDefault h k = record { process = h.process; reference_bandwidth = h.reference_bandwidth }
+process-lawful p (Passive interface passive) h k = record { process = h.process; reference_bandwidth = h.reference_bandwidth }
+process-lawful p (ReferenceBandwidth mbits) h k = record { process = h.process; reference_bandwidth = k }
+
+opened-lawful : (ospf : Option OspfProcess) (n : ℕ) → IfSome ospf IsLawfulProcess → IsOspfNumber n → IsLawfulProcess (ospf_opened ospf n)
+opened-lawful None n h k = record { process = k; reference_bandwidth = (omega arith, omega arith) }
+opened-lawful (Some p) n h k = h
+
+lined-lawful : (ospf : Option OspfProcess) (line : OspfRow) → IfSome ospf IsLawfulProcess → IsLawfulOspfLine line → IfSome (option_map (λ p. with_ospf_line p line) ospf) IsLawfulProcess
+lined-lawful None line h k = tt
+lined-lawful (Some p) line h k = process-lawful p line h k
+
+after-ospf : (r : RouterText) (c : Command) → HasLawfulOspf r → IsInRange c → HasLawfulOspf (after r c)
+after-ospf r Passed h k = h
+after-ospf r Remark h k = h
+after-ospf r (Hostname name line) h k = h
+after-ospf r (Interface name line) h k = h
+after-ospf r (Address name a secondary) h k = h
+after-ospf r (Shutdown name down) h k = h
+after-ospf r (Bandwidth name kbits) h k = h
+after-ospf r (StaticRoute route) h k = h
+after-ospf r (AccessListOpened name kind) h k = h
+after-ospf r (AccessListLine name kind line) h k = h
+after-ospf r (AccessGroup name list direction) h k = h
+after-ospf r (PrefixLine name line) h k = h
+after-ospf r (CommunityLine name line) h k = h
+after-ospf r (MapOpened name n action) h k = h
+after-ospf r (MapLine name n line) h k = h
+after-ospf r (InterfaceOspf name setting) h k = h
+after-ospf r (OspfOpened process) h k = opened-lawful r.ospf process h k
+after-ospf r (OspfLine line) h k = lined-lawful r.ospf line h k
 
 -- and its lists and route maps, where the command fits the file
 abbrev AreLawfulAccessLists : Lists → Type 0
@@ -152,6 +214,9 @@ after-lists r (Shutdown name down) h k f = record { access_lists = h.access_list
 after-lists r (Bandwidth name kbits) h k f = record { access_lists = h.access_lists; prefix_lists = h.prefix_lists; route_maps = h.route_maps }
 after-lists r (StaticRoute route) h k f = record { access_lists = h.access_lists; prefix_lists = h.prefix_lists; route_maps = h.route_maps }
 after-lists r (AccessGroup name list direction) h k f = record { access_lists = h.access_lists; prefix_lists = h.prefix_lists; route_maps = h.route_maps }
+after-lists r (InterfaceOspf name setting) h k f = record { access_lists = h.access_lists; prefix_lists = h.prefix_lists; route_maps = h.route_maps }
+after-lists r (OspfOpened process) h k f = record { access_lists = h.access_lists; prefix_lists = h.prefix_lists; route_maps = h.route_maps }
+after-lists r (OspfLine line) h k f = record { access_lists = h.access_lists; prefix_lists = h.prefix_lists; route_maps = h.route_maps }
 after-lists r (AccessListOpened name kind) h k f = record {
   access_lists = All-with_value (λ n g. IsLawfulAccessList g) r.lists.access_lists name _ h.access_lists (access_list-lawful r.lists name kind h.access_lists);
   prefix_lists = h.prefix_lists;
@@ -194,3 +259,8 @@ pub put-lists : {T : Type 0} (result : Result T AllocError) (r n : RouterText) (
     → OnOk result (HasLawfulLists r → IsInRange c → FitsFile r c → HasLawfulLists n)
 put-lists (Ok x) r n c e = λ h k f. subst HasLawfulLists (sym e) (after-lists r c h k f)
 put-lists (Err x) r n c e = e
+
+pub put-ospf : {T : Type 0} (result : Result T AllocError) (r n : RouterText) (c : Command) → OnOk result (n ≡ after r c)
+    → OnOk result (HasLawfulOspf r → IsInRange c → HasLawfulOspf n)
+put-ospf (Ok x) r n c e = λ h k. subst HasLawfulOspf (sym e) (after-ospf r c h k)
+put-ospf (Err x) r n c e = e

@@ -5,10 +5,12 @@ use Rattle.rc_config.specs.declared.interface.Direction.{Direction}
 use Rattle.rc_config.specs.declared.interface.Direction.TheVariants.{In, Out}
 use Rattle.rc_config.specs.declared.interface.IfAddr.{IfAddr}
 use Rattle.rc_config.specs.declared.interface.Interface.{Interface}
+use Rattle.rc_config.specs.declared.ospf.OspfSetting.{OspfSetting}
+use Rattle.rc_config.specs.Ospf.{no_settings, with_setting}
 
 -- an interface with no line in its block
 abbrev pub fresh : Interface
-fresh = record { primary = None; secondary = []; shutdown = false; bandwidth = None; access_group_in = None; access_group_out = None }
+fresh = record { primary = None; secondary = []; shutdown = false; bandwidth = None; access_group_in = None; access_group_out = None; ospf = no_settings }
 
 -- a secondary address is one more, and a primary one stands in place of any other
 abbrev pub with_address : Interface → IfAddr → Bool → Interface
@@ -18,6 +20,10 @@ with_address i a secondary = if secondary then record i { secondary = i.secondar
 abbrev pub with_group : Interface → List ℕ → Direction → Interface
 with_group i list In = record i { access_group_in = Some list }
 with_group i list Out = record i { access_group_out = Some list }
+
+-- one more `ip ospf` line
+abbrev pub with_ospf : Interface → OspfSetting → Interface
+with_ospf i setting = record i { ospf = with_setting i.ospf setting }
 
 -- the list of a direction, where a line names one
 abbrev pub group_of : Interface → Direction → Option (List ℕ)

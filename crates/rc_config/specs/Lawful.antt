@@ -11,7 +11,7 @@ use Rattle.rc_base.specs.declared.position.IfId.{IfId}
 use Rattle.rc_base.specs.declared.position.Pos.{Pos}
 use Rattle.rc_base.specs.declared.position.Pos.TheVariants.{Own, Entering}
 use Rattle.rc_config.specs.declared.command.Command.{Command}
-use Rattle.rc_config.specs.declared.command.Command.TheVariants.{Passed, Remark, Hostname, Interface, Address, Shutdown, Bandwidth, StaticRoute, AccessListOpened, AccessListLine, AccessGroup, PrefixLine, CommunityLine, MapOpened, MapLine}
+use Rattle.rc_config.specs.declared.command.Command.TheVariants.{Passed, Remark, Hostname, Interface, Address, Shutdown, Bandwidth, StaticRoute, AccessListOpened, AccessListLine, AccessGroup, PrefixLine, CommunityLine, MapOpened, MapLine, InterfaceOspf, OspfOpened, OspfLine}
 use Rattle.rc_config.specs.declared.interface.IfAddr.{IfAddr}
 use Rattle.rc_config.specs.declared.interface.Interface.{Interface as Block}
 use Rattle.rc_config.specs.declared.network.Network.{Network}
@@ -23,6 +23,7 @@ use Rattle.rc_config.specs.Interface.{declared_addresses}
 use Rattle.rc_config.specs.MaskedAddr.{IsMaskLen}
 use Rattle.rc_config.specs.Members.{interfaces_of}
 use Rattle.rc_config.specs.Lists.{access_list_named}
+use Rattle.rc_config.specs.Ospf.{IsLawfulOspf, IsLawfulOspfLine, IsLawfulProcess, IsLawfulSetting, IsOspfNumber}
 use Rattle.rc_config.specs.PrefixList.{IsLawfulLine as IsLawfulPrefixLine, IsLawfulList as IsLawfulPrefixList}
 use Rattle.rc_config.specs.RouteMap.{IsLawfulMap, IsLawfulMapLine}
 
@@ -35,6 +36,7 @@ pub record IsLawfulInterface (name : List ℕ) (i : Block) : Type 0 where
   pub has_type : ¬ (declared_addresses i ≡ []) → IsSome (type_of name)
   pub masks : All (λ (a : IfAddr). IsMaskLen a.len) (declared_addresses i)
   pub bandwidth : IfSome i.bandwidth IsBandwidth
+  pub ospf : IsLawfulOspf i.ospf
 
 -- each interface is lawful under its name
 abbrev pub HasLawfulInterfaces : RouterText → Type 0
@@ -54,14 +56,19 @@ pub record HasLawfulLists (r : RouterText) : Type 0 where
   pub prefix_lists : All (λ e. IsLawfulPrefixList e.1) r.lists.prefix_lists
   pub route_maps : All (λ e. IsLawfulMap e.1) r.route_maps
 
--- a file's model with a host name, at most 256 interfaces, each lawful, static routes with distances from 1 to 255, and lawful
--- lists and route maps
+-- the values of an OSPF process are in range
+abbrev pub HasLawfulOspf : RouterText → Type 0
+HasLawfulOspf r = IfSome r.ospf IsLawfulProcess
+
+-- a file's model with a host name, at most 256 interfaces, each lawful, static routes with distances from 1 to 255, lawful lists and
+-- route maps, and a lawful OSPF process where there is one
 pub record IsLawfulFile (r : RouterText) : Type 0 where
   pub has_host : IsSome r.host
   pub few : length r.interfaces ≤ 256
   pub interfaces : HasLawfulInterfaces r
   pub static_routes : HasLawfulRoutes r
   pub lists : HasLawfulLists r
+  pub ospf : HasLawfulOspf r
 
 -- a command that keeps a file lawful: an address goes to an interface of a named type, a line of an access list is one of a list
 -- of its kind, and values are in range
@@ -81,6 +88,9 @@ IsInRange (PrefixLine name line) = IsLawfulPrefixLine line
 IsInRange (CommunityLine name line) = Unit {0}
 IsInRange (MapOpened name n action) = n ≤ 65535
 IsInRange (MapLine name n line) = IsLawfulMapLine line
+IsInRange (InterfaceOspf name setting) = IsLawfulSetting setting
+IsInRange (OspfOpened process) = IsOspfNumber process
+IsInRange (OspfLine line) = IsLawfulOspfLine line
 
 -- A command that the access lists of a file have room for: the list that it opens or adds a line to is of the kind that it says,
 -- where it is there, and none of its lines has the number of the new one.
@@ -100,6 +110,9 @@ FitsFile r (PrefixLine name line) = Unit {0}
 FitsFile r (CommunityLine name line) = Unit {0}
 FitsFile r (MapOpened name n action) = Unit {0}
 FitsFile r (MapLine name n line) = Unit {0}
+FitsFile r (InterfaceOspf name setting) = Unit {0}
+FitsFile r (OspfOpened process) = Unit {0}
+FitsFile r (OspfLine line) = Unit {0}
 
 -- the model of a router stands under its own host name
 abbrev pub IsNamed : List ℕ → RouterText → Type 0

@@ -18,6 +18,7 @@ pub mod AccessList
 pub mod AccessListRows
 pub mod PrefixList
 pub mod Sets
+pub mod Ospf
 pub mod RouteMap
 pub mod CommunityList
 pub mod Lists

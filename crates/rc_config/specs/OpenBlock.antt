@@ -11,4 +11,5 @@ block_at at.Global = block.Global
 block_at (at.Interface name) = block.Interface
 block_at (at.AccessList list kind) = block.AccessList
 block_at (at.Map map number) = block.RouteMap
+block_at at.Ospf = block.Ospf
 block_at at.Ignored = block.Ignored

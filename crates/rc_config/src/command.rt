@@ -1,7 +1,7 @@
 //! What one line of a configuration says.
 use crate::{
-    AccessListKind, AccessListLine, Action, CommunityLine, Direction, IfAddr, MapLine, PrefixLine,
-    StaticRoute,
+    AccessListKind, AccessListLine, Action, CommunityLine, Direction, IfAddr, MapLine, OspfLine,
+    OspfSetting, PrefixLine, StaticRoute,
 };
 use rc_base::Name;
 
@@ -83,5 +83,18 @@ pub enum Command {
         map: Name,
         number: u32,
         line: MapLine,
+    },
+    /// An `ip ospf` line in the block of an interface.
+    InterfaceOspf {
+        interface: Name,
+        setting: OspfSetting,
+    },
+    /// `router ospf N`, N from 1 to 65535: the block of the router's process, of a new one or of the known one again.
+    OspfOpened {
+        process: u32,
+    },
+    /// A line in the block of the router's OSPF process.
+    OspfLine {
+        line: OspfLine,
     },
 }

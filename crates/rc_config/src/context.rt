@@ -18,6 +18,8 @@ pub enum OpenBlock {
     AccessList(Name, AccessListKind),
     /// The block of the entry of this number of a route map.
     Map(Name, u32),
+    /// The block of the router's OSPF process.
+    Ospf,
     /// A block whose lines are all passed over.
     Ignored,
 }
@@ -35,6 +37,7 @@ impl OpenBlock {
             OpenBlock::Interface(_) => Block::Interface,
             OpenBlock::AccessList(_, _) => Block::AccessList,
             OpenBlock::Map(_, _) => Block::RouteMap,
+            OpenBlock::Ospf => Block::Ospf,
             OpenBlock::Ignored => Block::Ignored,
         }
     }

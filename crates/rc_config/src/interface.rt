@@ -4,6 +4,7 @@ ghost use Rattle.std.specs.Option.{option_copied, SomeIff};
 ghost use Rattle.rc_base.specs.Prefix.{prefix_at};
 ghost use Rattle.rc_config.specs.MaskedAddr.{IsMaskLen};
 
+use crate::OspfSettings;
 use rc_base::{Addr, Items, Name, Prefix};
 use std::alloc::{AllocError, Global};
 use std::marker::Model;
@@ -87,6 +88,8 @@ pub struct Interface {
     pub access_group_in: Option<Name>,
     /// The list of the last line `ip access-group NAME out`, likewise.
     pub access_group_out: Option<Name>,
+    /// What the `ip ospf` lines set.
+    pub ospf: OspfSettings,
 }
 
 impl Interface {
@@ -103,6 +106,7 @@ impl Interface {
             bandwidth: None,
             access_group_in: None,
             access_group_out: None,
+            ospf: OspfSettings::new(),
         }
     }
 

@@ -1,5 +1,5 @@
-//! The model that the lines of a configuration make: a file's host name, interfaces, static routes, access lists and routing
-//! policy, and the network of all files.
+//! The model that the lines of a configuration make: a file's host name, interfaces, static routes, access lists, routing
+//! policy and OSPF process, and the network of all files.
 //!
 //! It stands on the names and addresses of rc_base, and on the map of indexmap. The layer above knows a file's model as
 //! what `after` makes of its commands one by one, a map as its list of names and values in the order of first mention,
@@ -19,6 +19,7 @@ mod lists;
 mod map_line;
 mod named;
 mod network;
+mod ospf;
 mod ports;
 mod prefix_list;
 mod route_map;
@@ -40,6 +41,10 @@ pub use lists::Lists;
 pub use map_line::{MapLine, MatchKind, SetLine};
 pub use named::Named;
 pub use network::Network;
+pub use ospf::{
+    DefaultInformation, NetworkType, OspfArea, OspfLine, OspfNetwork, OspfProcess, OspfSetting,
+    OspfSettings, RedistributedSource, Redistribution, StubArea,
+};
 pub use ports::Ports;
 pub use prefix_list::{PrefixLine, PrefixList};
 pub use route_map::{MapEntry, Mention, RouteMap};

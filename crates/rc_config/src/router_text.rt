@@ -1,18 +1,20 @@
 //! The model of a file.
 ghost use Rattle.std.specs.Prelude.{◌≡◌, IfOk, OnOk, Some, unwrap_or, ◌++◌, ◌∷◌, []};
-ghost use Rattle.rc_config.specs.Lawful.{FitsFile, HasLawfulInterfaces, HasLawfulLists, HasLawfulRoutes, IsInRange};
+ghost use Rattle.std.specs.Option.{option_map};
+ghost use Rattle.rc_config.specs.Lawful.{FitsFile, HasLawfulInterfaces, HasLawfulLists, HasLawfulOspf, HasLawfulRoutes, IsInRange};
 ghost use Rattle.rc_config.specs.CommunityList.{no_lines as no_community_lines, with_line as community_list_with};
 ghost use Rattle.rc_config.specs.AccessList.{no_lines as no_access_list_lines, with_line as access_list_with};
 ghost use Rattle.rc_config.specs.Named.{index_of, named, with_value};
+ghost use Rattle.rc_config.specs.Ospf.{with_line as with_ospf_line};
 ghost use Rattle.rc_config.specs.PrefixList.{no_lines as no_prefix_lines, with_line as prefix_list_with};
 ghost use Rattle.rc_config.specs.RouteMap.{no_entries, opened, with_line};
-ghost use Rattle.rc_config.specs.Interface.{fresh, with_address as address_put, with_group as group_put};
-ghost use Rattle.rc_config.specs.Update.{after, empty};
+ghost use Rattle.rc_config.specs.Interface.{fresh, with_address as address_put, with_group as group_put, with_ospf as ospf_put};
+ghost use Rattle.rc_config.specs.Update.{after, empty, interfaces_after, lists_after, ospf_opened};
 
 use crate::{
     AccessList, AccessListKind, AccessListLine, Action, Command, CommunityLine, CommunityList,
-    Direction, IfAddr, Interface, Lists, MapLine, Named, PrefixLine, PrefixList, RouteMap,
-    StaticRoute, Target,
+    Direction, IfAddr, Interface, Lists, MapLine, Named, OspfLine, OspfProcess, OspfSetting,
+    PrefixLine, PrefixList, RouteMap, StaticRoute, Target,
 };
 use rc_base::{Items, Name};
 use std::alloc::{AllocError, Global};
@@ -37,6 +39,8 @@ pub struct RouterText {
     /// The route maps in the order of first mention. A route map is there where a line opens an entry of it, and not where it
     /// is only named elsewhere.
     pub route_maps: Named<RouteMap>,
+    /// The OSPF process, where a line opens its block.
+    pub ospf: Option<OspfProcess>,
 }
 
 /// By a function of its own, so that what holds a model drops it by one call.
@@ -48,6 +52,7 @@ impl Drop for RouterText {
             static_routes: _,
             lists: _,
             route_maps: _,
+            ospf: _,
         } = self;
     }
 }
@@ -59,6 +64,7 @@ impl RouterText {
         ensures lawful { HasLawfulInterfaces result }
         ensures routes { HasLawfulRoutes result }
         ensures lists { HasLawfulLists result }
+        ensures ospf { HasLawfulOspf result }
     {
         RouterText {
             host: None,
@@ -66,6 +72,7 @@ impl RouterText {
             static_routes: Items::new(alloc),
             lists: Lists::new(alloc),
             route_maps: Named::new(alloc),
+            ospf: None,
         }
     }
 
@@ -75,13 +82,14 @@ impl RouterText {
     /// runs out what is left is no model of the file.
     ///
     /// Where all interfaces are lawful and the command's values are in range, all interfaces are lawful again, and so it is
-    /// with static routes; and with lists and route maps, where a line of an access list is one of a list of its kind and its
+    /// with static routes and the OSPF process; and with lists and route maps, where a line of an access list is one of a list of its kind and its
     /// number is new there.
     pub fn apply(&mut self, command: Command) -> Result<(), AllocError>
         ensures value { OnOk result (self.new ≡ after self.old command) }
         ensures lawful { OnOk result (HasLawfulInterfaces self.old → IsInRange command → HasLawfulInterfaces self.new) }
         ensures routes { OnOk result (HasLawfulRoutes self.old → IsInRange command → HasLawfulRoutes self.new) }
         ensures lists { OnOk result (HasLawfulLists self.old → IsInRange command → FitsFile self.old command → HasLawfulLists self.new) }
+        ensures ospf { OnOk result (HasLawfulOspf self.old → IsInRange command → HasLawfulOspf self.new) }
     {
         self.put_into(command)
     }
@@ -92,6 +100,7 @@ impl RouterText {
         ensures lawful { IfOk result (λ r. HasLawfulInterfaces self → IsInRange command → HasLawfulInterfaces r) }
         ensures routes { IfOk result (λ r. HasLawfulRoutes self → IsInRange command → HasLawfulRoutes r) }
         ensures lists { IfOk result (λ r. HasLawfulLists self → IsInRange command → FitsFile self command → HasLawfulLists r) }
+        ensures ospf { IfOk result (λ r. HasLawfulOspf self → IsInRange command → HasLawfulOspf r) }
     {
         self.apply(command)?;
         Ok(self)
@@ -108,36 +117,16 @@ impl RouterText {
                 self.host = Some(HostLine { name, line });
                 Ok(())
             }
-            Command::Interface { name, line: _ } => put_opened(&mut self.interfaces, name),
-            Command::Address {
-                interface,
-                address,
-                secondary,
-            } => put_address(&mut self.interfaces, interface, address, secondary),
-            Command::Shutdown { interface, down } => {
-                put_shutdown(&mut self.interfaces, interface, down)
-            }
-            Command::Bandwidth { interface, kbits } => {
-                put_bandwidth(&mut self.interfaces, interface, kbits)
-            }
+            Command::Interface { .. } => put_into_interfaces(&mut self.interfaces, command),
+            Command::Address { .. } => put_into_interfaces(&mut self.interfaces, command),
+            Command::Shutdown { .. } => put_into_interfaces(&mut self.interfaces, command),
+            Command::Bandwidth { .. } => put_into_interfaces(&mut self.interfaces, command),
             Command::StaticRoute { route } => put_route(&mut self.static_routes, route),
-            Command::AccessListOpened { list, kind } => {
-                put_access_list_opened(&mut self.lists.access_lists, list, kind)
-            }
-            Command::AccessListLine { list, kind, line } => {
-                put_access_list_line(&mut self.lists.access_lists, list, kind, line)
-            }
-            Command::AccessGroup {
-                interface,
-                list,
-                direction,
-            } => put_group(&mut self.interfaces, interface, list, direction),
-            Command::PrefixLine { list, line } => {
-                put_prefix_line(&mut self.lists.prefix_lists, list, line)
-            }
-            Command::CommunityLine { list, line } => {
-                put_community_line(&mut self.lists.community_lists, list, line)
-            }
+            Command::AccessListOpened { .. } => put_into_lists(&mut self.lists, command),
+            Command::AccessListLine { .. } => put_into_lists(&mut self.lists, command),
+            Command::AccessGroup { .. } => put_into_interfaces(&mut self.interfaces, command),
+            Command::PrefixLine { .. } => put_into_lists(&mut self.lists, command),
+            Command::CommunityLine { .. } => put_into_lists(&mut self.lists, command),
             Command::MapOpened {
                 map,
                 number,
@@ -146,7 +135,56 @@ impl RouterText {
             Command::MapLine { map, number, line } => {
                 put_map_line(&mut self.route_maps, map, number, line)
             }
+            Command::InterfaceOspf { .. } => put_into_interfaces(&mut self.interfaces, command),
+            Command::OspfOpened { process } => {
+                let alloc = self.interfaces.allocator();
+                put_ospf_opened(alloc, &mut self.ospf, process);
+                Ok(())
+            }
+            Command::OspfLine { line } => put_ospf_line(&mut self.ospf, line),
         }
+    }
+}
+
+/// One more command on interfaces. Other commands change nothing here.
+fn put_into_interfaces(blocks: &mut Named<Interface>, command: Command) -> Result<(), AllocError>
+    ensures { OnOk result (blocks.new ≡ interfaces_after blocks.old command) }
+{
+    match command {
+        Command::Interface { name, line: _ } => put_opened(blocks, name),
+        Command::Address {
+            interface,
+            address,
+            secondary,
+        } => put_address(blocks, interface, address, secondary),
+        Command::Shutdown { interface, down } => put_shutdown(blocks, interface, down),
+        Command::Bandwidth { interface, kbits } => put_bandwidth(blocks, interface, kbits),
+        Command::AccessGroup {
+            interface,
+            list,
+            direction,
+        } => put_group(blocks, interface, list, direction),
+        Command::InterfaceOspf { interface, setting } => put_setting(blocks, interface, setting),
+        _ => Ok(()),
+    }
+}
+
+/// One more command on lists. Other commands change nothing here.
+fn put_into_lists(lists: &mut Lists, command: Command) -> Result<(), AllocError>
+    ensures { OnOk result (lists.new ≡ lists_after lists.old command) }
+{
+    match command {
+        Command::AccessListOpened { list, kind } => {
+            put_access_list_opened(&mut lists.access_lists, list, kind)
+        }
+        Command::AccessListLine { list, kind, line } => {
+            put_access_list_line(&mut lists.access_lists, list, kind, line)
+        }
+        Command::PrefixLine { list, line } => put_prefix_line(&mut lists.prefix_lists, list, line),
+        Command::CommunityLine { list, line } => {
+            put_community_line(&mut lists.community_lists, list, line)
+        }
+        _ => Ok(()),
     }
 }
 
@@ -226,6 +264,22 @@ fn put_group(
     let index = opened_at(blocks, name)?;
     if let Some(block) = blocks.at_mut(index) {
         block.put_group(list, direction);
+    }
+    Ok(())
+}
+
+/// An `ip ospf` line
+#[tactic(auto, using(crate::proofs::IndexLaws::written, crate::proofs::IndexLaws::held))]
+fn put_setting(
+    blocks: &mut Named<Interface>,
+    name: Name,
+    setting: OspfSetting,
+) -> Result<(), AllocError>
+    ensures { OnOk result (blocks.new ≡ with_value blocks.old name (ospf_put (unwrap_or (named blocks.old name) fresh) setting)) }
+{
+    let index = opened_at(blocks, name)?;
+    if let Some(block) = blocks.at_mut(index) {
+        block.ospf.put_setting(setting);
     }
     Ok(())
 }
@@ -334,6 +388,25 @@ fn put_map_line(
     let known = known.with_line(number, line)?;
     maps.insert(name, known)?;
     Ok(())
+}
+
+/// `router ospf`
+fn put_ospf_opened(alloc: Global, ospf: &mut Option<OspfProcess>, process: u32)
+    ensures { ospf.new ≡ Some (ospf_opened ospf.old process) }
+{
+    if ospf.is_none() {
+        *ospf = Some(OspfProcess::new(alloc, process));
+    }
+}
+
+/// A line in the block of the OSPF process, where there is one.
+fn put_ospf_line(ospf: &mut Option<OspfProcess>, line: OspfLine) -> Result<(), AllocError>
+    ensures { OnOk result (ospf.new ≡ option_map (λ p. with_ospf_line p line) ospf.old) }
+{
+    match ospf {
+        Some(process) => process.put_line(line),
+        None => Ok(()),
+    }
 }
 
 /// The static routes with this one behind the others.

@@ -6,4 +6,4 @@ use Rattle.rc_fib.specs.declared.hop_set.Found.TheVariants.{Few, Many}
 
 abbrev pub hops_found : Found → List Hop
 hops_found (Few hops) = hops
-hops_found (Many set) = set.keys
+hops_found (Many hops) = hops

@@ -1,12 +1,11 @@
 //! Hops in the order in which they come, each once.
-ghost use Rattle.std.specs.Prelude.{◌≡◌, [], ◌∷◌, ◌++◌, IfOk, OnOk, OnErr};
+ghost use Rattle.std.specs.Prelude.{◌≡◌, [], IfOk, OnOk};
 ghost use Rattle.std.specs.List.{list_any};
 ghost use Rattle.indexmap.specs.IndexSet.{insert_key};
 ghost use Rattle.rc_base.specs.Lists.{first_seen};
 ghost use Rattle.rc_route.specs.Hops as spec;
 
-use indexmap::IndexSet;
-use rc_base::{IfId, Items};
+use crate::seen::Seen;
 use rc_route::{Hop, Hops, same_hop};
 use std::alloc::{AllocError, Global};
 use std::marker::Model;
@@ -18,7 +17,7 @@ const FEW: usize = 8;
 #[derive(Drop)]
 enum Found {
     Few(Hops),
-    Many(IndexSet<Hop>),
+    Many(Seen),
 }
 
 /// Hops in the order in which they came, each once, seen as their list.
@@ -54,36 +53,13 @@ fn is_among(hops: &[Hop], hop: &Hop) -> bool
     hops.iter().any(|other| same_hop(hop, other))
 }
 
-/// Puts a hop at the end of a set, where it doesn't stand there already. Where memory runs out the set stays as it was.
-#[tactic(auto, using(crate::proofs::HopLaws::same_insert))]
-fn insert(set: &mut IndexSet<Hop>, hop: Hop) -> Result<(), AllocError>
-    ensures ok { OnOk result (set.new.keys ≡ insert_key spec.same_hop set.old.keys hop) }
-    ensures err { OnErr result (set.new.keys ≡ set.old.keys) }
-{
-    // For the proof: that of an insertion wants each enum within the element named in the function.
-    let _interface: Option<IfId> = None;
-    set.insert(hop)?;
-    Ok(())
-}
-
-/// Hops as a set.
-fn set_of(alloc: Global, hops: &[Hop]) -> Result<IndexSet<Hop>, AllocError>
-    ensures { IfOk result (λ set. set.keys ≡ first_seen spec.same_hop hops.now) }
-{
-    let mut set = IndexSet::new(alloc);
-    for hop in hops {
-        insert(&mut set, *hop)?;
-    }
-    Ok(set)
-}
-
 /// These hops and one more as a set.
-fn set_with(alloc: Global, hops: &[Hop], hop: Hop) -> Result<IndexSet<Hop>, AllocError>
-    ensures { IfOk result (λ set. set.keys ≡ insert_key spec.same_hop (first_seen spec.same_hop hops.now) hop) }
+fn seen_with(alloc: Global, hops: &[Hop], hop: Hop) -> Result<Seen, AllocError>
+    ensures { IfOk result (λ seen. seen ≡ insert_key spec.same_hop (first_seen spec.same_hop hops.now) hop) }
 {
-    let mut set = set_of(alloc, hops)?;
-    insert(&mut set, hop)?;
-    Ok(set)
+    let mut seen = Seen::of(alloc, hops)?;
+    seen.insert(hop)?;
+    Ok(seen)
 }
 
 impl HopSet {
@@ -108,11 +84,11 @@ impl HopSet {
                 if hops.len() < FEW {
                     return hops.push(alloc, hop);
                 }
-                let set = set_with(alloc, hops.as_slice(), hop)?;
-                self.found = Found::Many(set);
+                let seen = seen_with(alloc, hops.as_slice(), hop)?;
+                self.found = Found::Many(seen);
                 Ok(())
             }
-            Found::Many(set) => insert(set, hop),
+            Found::Many(seen) => seen.insert(hop),
         }
     }
 
@@ -123,10 +99,7 @@ impl HopSet {
         let HopSet { found } = self;
         match found {
             Found::Few(hops) => Ok(hops),
-            Found::Many(set) => {
-                let hops = Vec::from_slice(alloc, set.as_slice())?;
-                Ok(Hops::from_items(Items::from_vec(hops)))
-            }
+            Found::Many(seen) => seen.listed(alloc),
         }
     }
 }

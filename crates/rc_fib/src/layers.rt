@@ -42,11 +42,11 @@ fn entries_over(
     ensures value { IfOk result (λ next. next ≡ layer.entries_over entries.now table.now) }
     ensures in_order { IfOk result IsInOrder }
 {
-    let mut next = Vec::with_capacity(alloc, table.len())?;
+    let mut next = Items::from_vec(Vec::with_capacity(alloc, table.len())?);
     for route in table {
         next.push(entry_over(alloc, entries, route)?)?;
     }
-    Ok(Items::from_vec(next))
+    Ok(next)
 }
 
 /// Whether two layers are equal.

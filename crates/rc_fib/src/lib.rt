@@ -11,6 +11,7 @@ mod laws;
 mod layers;
 mod longest;
 mod resolve;
+mod seen;
 
 pub use entry::Entry;
 pub use fib::Fib;

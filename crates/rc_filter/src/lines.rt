@@ -4,7 +4,9 @@ ghost use Rattle.std.specs.List.{list_any};
 ghost use Rattle.rc_filter.specs.Verdict.{first_action, matches, matches_address, matches_port, matches_protocol, permits, verdict};
 
 use rc_base::{Addr, Header};
-use rc_config::{Action, AddressTest, ByNumber, AccessList, AccessListLine, PortTest, ProtocolTest};
+use rc_config::{
+    AccessList, AccessListLine, Action, AddressTest, ByNumber, PortTest, ProtocolTest,
+};
 
 /// Whether an address passes a test: each bit whose wildcard bit is 0 is that of the test's address.
 #[tactic(auto, using(crate::proofs::BitLaws::same_by_mask))]

@@ -89,10 +89,7 @@ impl RouteOptions {
 }
 
 /// The options, if there are any, with the words behind them.
-fn with_rest<'a>(
-    so_far: Option<RouteOptions>,
-    rest: Words<'a>,
-) -> Option<(RouteOptions, Words<'a>)>
+fn with_rest<'a>(so_far: Option<RouteOptions>, rest: Words<'a>) -> Option<(RouteOptions, Words<'a>)>
     requires { IfSome so_far (λ o. IfSome o.distance IsDistance) }
     ensures value { options.distance_behind result ≡ options.distance_after so_far (options.options_of (words_left rest.entry)) }
     ensures within { IfSome result (λ p. IfSome p.0.distance IsDistance) }

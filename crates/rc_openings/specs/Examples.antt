@@ -9,7 +9,7 @@ use Rattle.rc_openings.specs.declared.reading.LineRefusal.TheVariants.{Unknown, 
 use Rattle.rc_openings.specs.Block.{rows_of}
 use Rattle.rc_openings.specs.Opening.{decisive_row}
 use Rattle.rc_openings.specs.Reading.{unopened}
-use Rattle.rc_openings.specs.Values.{number_of, number_within, address_of, mask_length, mask_length_of, prefix_of}
+use Rattle.rc_openings.specs.Values.{area_of, interface_of, number_of, number_within, address_of, mask_length, mask_length_of, prefix_of}
 use Rattle.rc_openings.specs.Words.{words_of}
 use Rattle.rc_openings.specs.GlobalOpenings.{global, global_forms, global_refused, global_ignored}
 use Rattle.rc_openings.specs.InterfaceOpenings.{interface, interface_forms, interface_refused, interface_ignored}
@@ -30,6 +30,7 @@ pub global_lines :
     × IsDecided block.Global (codes "no ip routing") (Some Refused)
     × IsDecided block.Global (codes "no ip http server") (Some Ignored)
     × IsDecided block.Global (codes "router rip") (Some Refused)
+    × IsDecided block.Global (codes "router ospf 1") (Some (Form form.RouterOspf))
     × IsDecided block.Global (codes "router bgp 65001") (Some (Later form.RouterBgp))
     × IsDecided block.Global (codes "ip prefix-list X permit 10.0.0.0/8") (Some (Form form.PrefixList))
     × IsDecided block.Global (codes "ip prefix-list X description y") (Some Ignored)
@@ -37,7 +38,7 @@ pub global_lines :
     × IsDecided block.Global (codes "ip") None
     × IsDecided block.Global (codes "shutdown") None
 unfolding decisive_row global global_forms global_refused global_ignored words_of
-global_lines = (refl, refl, refl, refl, refl, refl, refl, refl, refl, refl, refl, refl, refl)
+global_lines = (refl, refl, refl, refl, refl, refl, refl, refl, refl, refl, refl, refl, refl, refl)
 
 pub interface_lines :
     IsDecided block.Interface (codes " ip address 10.0.0.1 255.0.0.0") (Some (Form form.IpAddress))
@@ -45,15 +46,17 @@ pub interface_lines :
     × IsDecided block.Interface (codes " shutdown") (Some (Form form.Shutdown))
     × IsDecided block.Interface (codes " no shutdown") (Some (Form form.NoShutdown))
     × IsDecided block.Interface (codes " no keepalive") (Some Ignored)
-    × IsDecided block.Interface (codes " ip ospf cost 10") (Some (Later form.OspfCost))
+    × IsDecided block.Interface (codes " ip ospf cost 10") (Some (Form form.OspfCost))
     × IsDecided block.Interface (codes " ip ospf priority 3") (Some Ignored)
     × IsDecided block.Interface (codes " ip ospf authentication") (Some Refused)
-    × IsDecided block.Interface (codes " ip ospf 1 area 0") (Some (Later form.OspfArea))
-    × IsDecided block.Interface (codes " ip ospf network broadcast") (Some (Later form.OspfNetworkBroadcast))
+    × IsDecided block.Interface (codes " ip ospf 1 area 0") (Some (Form form.OspfArea))
+    × IsDecided block.Interface (codes " ip ospf network broadcast") (Some (Form form.OspfNetworkBroadcast))
+    × IsDecided block.Interface (codes " ip ospf network non-broadcast") (Some (Form form.OspfNetworkType))
+    × IsDecided block.Interface (codes " ip ospf cost area 0") (Some (Form form.OspfArea))
     × IsDecided block.Interface (codes " crypto map") (Some Refused)
     × IsDecided block.Interface (codes " crypto") None
 unfolding decisive_row interface interface_forms interface_refused interface_ignored words_of
-interface_lines = (refl, refl, refl, refl, refl, refl, refl, refl, refl, refl, refl, refl)
+interface_lines = (refl, refl, refl, refl, refl, refl, refl, refl, refl, refl, refl, refl, refl, refl)
 
 pub other_lines :
     IsDecided block.AccessList (codes " remark") (Some (Form form.Remark))
@@ -61,8 +64,13 @@ pub other_lines :
     × IsDecided block.RouteMap (codes " match ip address prefix-list X") (Some (Form form.MatchPrefixList))
     × IsDecided block.RouteMap (codes " set metric-type internal") (Some Refused)
     × IsDecided block.RouteMap (codes " set tag 3") (Some Ignored)
-    × IsDecided block.Ospf (codes " passive-interface default") (Some (Later form.PassiveInterfaceDefault))
+    × IsDecided block.Ospf (codes " passive-interface default") (Some (Form form.PassiveInterfaceDefault))
     × IsDecided block.Ospf (codes " redistribute rip") (Some Refused)
+    × IsDecided block.Ospf (codes " redistribute static subnets") (Some (Later form.OspfRedistributeStatic))
+    × IsDecided block.Ospf (codes " area 1 range 10.0.0.0 255.0.0.0") (Some Refused)
+    × IsDecided block.Ospf (codes " no passive-interface default") (Some (Form form.NoPassiveInterface))
+    × IsDecided block.Ospf (codes " no auto-cost") (Some Ignored)
+    × IsDecided block.Ospf (codes " auto-cost") None
     × IsDecided block.Bgp (codes " neighbor 10.0.0.1 activate") (Some (Later form.NeighborActivate))
     × IsDecided block.Bgp (codes " neighbor 10.0.0.1 version 4") (Some Ignored)
     × IsDecided block.Bgp (codes " neighbor 10.0.0.1") (Some Refused)
@@ -71,7 +79,7 @@ pub other_lines :
     × IsDecided block.Ignored (codes " anything at all") (Some Ignored)
     × IsDecided block.Closed (codes " ip address 10.0.0.1 255.0.0.0") None
 unfolding decisive_row access_list access_list_forms access_list_refused access_list_ignored route_map route_map_forms route_map_refused route_map_ignored ospf ospf_forms ospf_refused ospf_ignored bgp bgp_forms bgp_refused bgp_ignored words_of
-other_lines = (refl, refl, refl, refl, refl, refl, refl, refl, refl, refl, refl, refl, refl, refl)
+other_lines = (refl, refl, refl, refl, refl, refl, refl, refl, refl, refl, refl, refl, refl, refl, refl, refl, refl, refl, refl)
 
 -- forms of every block count, also those that are not read yet; openings that only ever refuse do not
 pub unopened_lines :
@@ -115,3 +123,22 @@ pub addresses :
     × (prefix_of (codes "10.1.2.3") ≡ None)
 unfolding mask_length
 addresses = (refl, refl, refl, refl, refl, refl, refl, refl, refl, refl, refl, refl, refl)
+
+-- the number of an area is written as a number, or as a dotted word of that value
+pub areas :
+    (area_of (codes "0") ≡ Some 0)
+    × (area_of (codes "0.0.0.0") ≡ Some 0)
+    × (area_of (codes "0.0.1.0") ≡ Some 256)
+    × (area_of (codes "4294967295") ≡ Some 4294967295)
+    × (area_of (codes "255.255.255.255") ≡ Some 4294967295)
+    × (area_of (codes "4294967296") ≡ None)
+    × (area_of (codes "0.0.0.256") ≡ None)
+    × (area_of (codes "backbone") ≡ None)
+areas = (refl, refl, refl, refl, refl, refl, refl, refl)
+
+-- the name of an interface begins with a letter
+pub interfaces :
+    (interface_of (codes "Gi0/0") ≡ Some (codes "Gi0/0"))
+    × (interface_of (codes "0/0") ≡ None)
+    × (interface_of (codes "") ≡ None)
+interfaces = (refl, refl, refl)

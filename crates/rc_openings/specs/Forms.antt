@@ -2,9 +2,9 @@
 use Rattle.rc_openings.specs.declared.form.Form.{Form}
 use Rattle.rc_openings.specs.declared.form.Form.TheVariants as form
 use Rattle.rc_openings.specs.declared.form.Grammar.{Grammar}
-use Rattle.rc_openings.specs.declared.form.Grammar.TheVariants.{General, AccessLists, Policies}
+use Rattle.rc_openings.specs.declared.form.Grammar.TheVariants.{General, AccessLists, Policies, Ospf}
 
--- access lists; prefix lists, community lists and route maps; and all else
+-- access lists; prefix lists, community lists and route maps; OSPF processes; and all else
 abbrev pub grammar_of : Form → Grammar
 grammar_of form.AccessList = AccessLists
 grammar_of form.StandardAccessList = AccessLists
@@ -29,4 +29,16 @@ grammar_of form.SetOriginIgp = Policies
 grammar_of form.SetOriginIncomplete = Policies
 grammar_of form.SetCommunity = Policies
 grammar_of form.PrependAsPath = Policies
+grammar_of form.RouterOspf = Ospf
+grammar_of form.OspfRouterId = Ospf
+grammar_of form.OspfNetwork = Ospf
+grammar_of form.StubArea = Ospf
+grammar_of form.PassiveInterface = Ospf
+grammar_of form.NoPassiveInterface = Ospf
+grammar_of form.PassiveInterfaceDefault = Ospf
+grammar_of form.ReferenceBandwidth = Ospf
+grammar_of form.OspfRedistributeConnected = Ospf
+grammar_of form.OspfRedistributeStatic = Ospf
+grammar_of form.OspfRedistributeBgp = Ospf
+grammar_of form.DefaultInformationOriginate = Ospf
 grammar_of _ = General

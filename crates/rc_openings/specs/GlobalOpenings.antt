@@ -16,7 +16,7 @@ global_forms =
     ∷ form (codes "ip community-list standard") StandardCommunityList
     ∷ form (codes "route-map") RouteMap
     ∷ form (codes "ip route") StaticRoute
-    ∷ later (codes "router ospf") RouterOspf
+    ∷ form (codes "router ospf") RouterOspf
     ∷ later (codes "router bgp") RouterBgp
     ∷ []
 

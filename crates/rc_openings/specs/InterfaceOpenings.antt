@@ -1,7 +1,7 @@
 -- The openings of a line under `interface`.
 use Rattle.std.specs.Prelude.{List, [], ◌∷◌, ◌++◌, codes}
 use Rattle.rc_openings.specs.declared.form.Form.TheVariants.{IpAddress, Shutdown, NoShutdown, Bandwidth, AccessGroup, OspfCost, OspfHelloInterval, OspfDeadInterval, OspfNetworkType, OspfNetworkBroadcast, OspfNetworkPointToPoint, OspfArea}
-use Rattle.rc_openings.specs.Opening.{Row, form, later, refused, ignored}
+use Rattle.rc_openings.specs.Opening.{Row, form, refused, ignored}
 
 -- with these begin the forms
 unfoldable pub interface_forms : List Row
@@ -11,13 +11,13 @@ interface_forms =
     ∷ form (codes "no shutdown") NoShutdown
     ∷ form (codes "bandwidth") Bandwidth
     ∷ form (codes "ip access-group") AccessGroup
-    ∷ later (codes "ip ospf cost") OspfCost
-    ∷ later (codes "ip ospf hello-interval") OspfHelloInterval
-    ∷ later (codes "ip ospf dead-interval") OspfDeadInterval
-    ∷ later (codes "ip ospf network") OspfNetworkType
-    ∷ later (codes "ip ospf network broadcast") OspfNetworkBroadcast
-    ∷ later (codes "ip ospf network point-to-point") OspfNetworkPointToPoint
-    ∷ later (codes "ip ospf * area") OspfArea
+    ∷ form (codes "ip ospf cost") OspfCost
+    ∷ form (codes "ip ospf hello-interval") OspfHelloInterval
+    ∷ form (codes "ip ospf dead-interval") OspfDeadInterval
+    ∷ form (codes "ip ospf network") OspfNetworkType
+    ∷ form (codes "ip ospf network broadcast") OspfNetworkBroadcast
+    ∷ form (codes "ip ospf network point-to-point") OspfNetworkPointToPoint
+    ∷ form (codes "ip ospf * area") OspfArea
     ∷ []
 
 -- with these begin lines whose meaning is not modelled

@@ -1,18 +1,18 @@
 -- The openings of a line under `router ospf`.
 use Rattle.std.specs.Prelude.{List, [], ◌∷◌, ◌++◌, codes}
 use Rattle.rc_openings.specs.declared.form.Form.TheVariants.{OspfRouterId, OspfNetwork, StubArea, PassiveInterface, NoPassiveInterface, PassiveInterfaceDefault, ReferenceBandwidth, OspfRedistributeConnected, OspfRedistributeStatic, OspfRedistributeBgp, DefaultInformationOriginate}
-use Rattle.rc_openings.specs.Opening.{Row, later, refused, ignored}
+use Rattle.rc_openings.specs.Opening.{Row, form, later, refused, ignored}
 
 -- with these begin the forms
 unfoldable pub ospf_forms : List Row
 ospf_forms =
-    later (codes "router-id") OspfRouterId
-    ∷ later (codes "network") OspfNetwork
+    form (codes "router-id") OspfRouterId
+    ∷ form (codes "network") OspfNetwork
     ∷ later (codes "area * stub") StubArea
-    ∷ later (codes "passive-interface") PassiveInterface
-    ∷ later (codes "no passive-interface") NoPassiveInterface
-    ∷ later (codes "passive-interface default") PassiveInterfaceDefault
-    ∷ later (codes "auto-cost reference-bandwidth") ReferenceBandwidth
+    ∷ form (codes "passive-interface") PassiveInterface
+    ∷ form (codes "no passive-interface") NoPassiveInterface
+    ∷ form (codes "passive-interface default") PassiveInterfaceDefault
+    ∷ form (codes "auto-cost reference-bandwidth") ReferenceBandwidth
     ∷ later (codes "redistribute connected") OspfRedistributeConnected
     ∷ later (codes "redistribute static") OspfRedistributeStatic
     ∷ later (codes "redistribute bgp") OspfRedistributeBgp

@@ -1,9 +1,10 @@
 -- What a word says as a value.
-use Rattle.std.specs.Prelude.{ℕ, zero, suc, ◌+◌, ◌-◌, ◌*◌, ◌==◌, nat_lt, nat_le, ◌&&◌, if◌then◌else◌, List, [], ◌∷◌, length, Option, Some, None}
+use Rattle.std.specs.Prelude.{ℕ, zero, suc, ◌+◌, ◌-◌, ◌*◌, ◌==◌, Bool, false, nat_lt, nat_le, ◌&&◌, if◌then◌else◌, List, [], ◌∷◌, length, Option, Some, None}
 use Rattle.std.specs.List.{slice_split}
-use Rattle.std.specs.Option.{option_and_then}
-use Rattle.std.specs.Char.{is_ascii_digit}
+use Rattle.std.specs.Option.{option_and_then, option_or}
+use Rattle.std.specs.Char.{is_ascii_alphabetic, is_ascii_digit}
 use Rattle.rc_base.specs.Addr.{mask}
+use Rattle.rc_base.specs.Name.{is_name}
 use Rattle.rc_base.specs.Prefix.{Cidr, prefix_at}
 
 -- the number that decimal digits write, after those that made n
@@ -67,3 +68,18 @@ prefix_of_parts _ = None
 -- an address, a slash and a length: the prefix of this length that holds the address
 abbrev pub prefix_of : List ℕ → Option Cidr
 prefix_of word = prefix_of_parts (slice_split (λ b. b == 47) word)
+
+-- the number of an area (RFC 2328 C.2): a number, or a dotted word of that value
+abbrev pub area_of : List ℕ → Option ℕ
+area_of word = option_or (number_of word) (address_of word)
+
+abbrev pub begins_with_letter : List ℕ → Bool
+begins_with_letter [] = false
+begins_with_letter (b ∷ bs) = is_ascii_alphabetic b
+
+abbrev pub is_interface_name : List ℕ → Bool
+is_interface_name text = is_name text && begins_with_letter text
+
+-- the name of an interface: it begins with a letter
+abbrev pub interface_of : List ℕ → Option (List ℕ)
+interface_of word = if is_interface_name word then Some word else None

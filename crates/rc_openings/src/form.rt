@@ -152,6 +152,8 @@ pub enum Grammar {
     AccessLists,
     /// Prefix lists, community lists and route maps.
     Policies,
+    /// The OSPF process of a router.
+    Ospf,
 }
 
 impl Form {
@@ -183,6 +185,18 @@ impl Form {
             | Form::SetOriginIncomplete
             | Form::SetCommunity
             | Form::PrependAsPath => Grammar::Policies,
+            Form::RouterOspf
+            | Form::OspfRouterId
+            | Form::OspfNetwork
+            | Form::StubArea
+            | Form::PassiveInterface
+            | Form::NoPassiveInterface
+            | Form::PassiveInterfaceDefault
+            | Form::ReferenceBandwidth
+            | Form::OspfRedistributeConnected
+            | Form::OspfRedistributeStatic
+            | Form::OspfRedistributeBgp
+            | Form::DefaultInformationOriginate => Grammar::Ospf,
             _ => Grammar::General,
         }
     }

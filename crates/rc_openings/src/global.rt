@@ -618,7 +618,7 @@ static MORE_WORDS: [Opening; 54] = [
     },
     Opening {
         text: b"router ospf",
-        verdict: Verdict::Later(Form::RouterOspf),
+        verdict: Verdict::Form(Form::RouterOspf),
     },
     Opening {
         text: b"ip options",

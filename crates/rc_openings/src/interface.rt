@@ -366,31 +366,31 @@ static MORE_WORDS: [Opening; 42] = [
     },
     Opening {
         text: b"ip ospf cost",
-        verdict: Verdict::Later(Form::OspfCost),
+        verdict: Verdict::Form(Form::OspfCost),
     },
     Opening {
         text: b"ip ospf hello-interval",
-        verdict: Verdict::Later(Form::OspfHelloInterval),
+        verdict: Verdict::Form(Form::OspfHelloInterval),
     },
     Opening {
         text: b"ip ospf dead-interval",
-        verdict: Verdict::Later(Form::OspfDeadInterval),
+        verdict: Verdict::Form(Form::OspfDeadInterval),
     },
     Opening {
         text: b"ip ospf network",
-        verdict: Verdict::Later(Form::OspfNetworkType),
+        verdict: Verdict::Form(Form::OspfNetworkType),
     },
     Opening {
         text: b"ip ospf network broadcast",
-        verdict: Verdict::Later(Form::OspfNetworkBroadcast),
+        verdict: Verdict::Form(Form::OspfNetworkBroadcast),
     },
     Opening {
         text: b"ip ospf network point-to-point",
-        verdict: Verdict::Later(Form::OspfNetworkPointToPoint),
+        verdict: Verdict::Form(Form::OspfNetworkPointToPoint),
     },
     Opening {
         text: b"ip ospf * area",
-        verdict: Verdict::Later(Form::OspfArea),
+        verdict: Verdict::Form(Form::OspfArea),
     },
     Opening {
         text: b"ip ospf",

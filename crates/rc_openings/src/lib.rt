@@ -28,5 +28,7 @@ pub use decision::{Decision, number_in_front, one_decision};
 pub use form::{Form, Grammar};
 pub use opening::{Opening, Verdict};
 pub use reading::{LineError, LineRefusal, judged, unopened};
-pub use values::{before_mark, number_in, word_addr, word_mask, word_prefix, word_u32};
+pub use values::{
+    before_mark, number_in, word_addr, word_area, word_interface, word_mask, word_prefix, word_u32,
+};
 pub use words::Words;

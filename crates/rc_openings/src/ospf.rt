@@ -56,7 +56,7 @@ static ONE_WORD: [Opening; 21] = [
     },
     Opening {
         text: b"network",
-        verdict: Verdict::Later(Form::OspfNetwork),
+        verdict: Verdict::Form(Form::OspfNetwork),
     },
     Opening {
         text: b"neighbor",
@@ -72,11 +72,11 @@ static ONE_WORD: [Opening; 21] = [
     },
     Opening {
         text: b"passive-interface",
-        verdict: Verdict::Later(Form::PassiveInterface),
+        verdict: Verdict::Form(Form::PassiveInterface),
     },
     Opening {
         text: b"router-id",
-        verdict: Verdict::Later(Form::OspfRouterId),
+        verdict: Verdict::Form(Form::OspfRouterId),
     },
     Opening {
         text: b"redistribute",
@@ -154,7 +154,7 @@ static MORE_WORDS: [Opening; 7] = [
     },
     Opening {
         text: b"passive-interface default",
-        verdict: Verdict::Later(Form::PassiveInterfaceDefault),
+        verdict: Verdict::Form(Form::PassiveInterfaceDefault),
     },
     Opening {
         text: b"default-information originate",
@@ -162,11 +162,11 @@ static MORE_WORDS: [Opening; 7] = [
     },
     Opening {
         text: b"no passive-interface",
-        verdict: Verdict::Later(Form::NoPassiveInterface),
+        verdict: Verdict::Form(Form::NoPassiveInterface),
     },
     Opening {
         text: b"auto-cost reference-bandwidth",
-        verdict: Verdict::Later(Form::ReferenceBandwidth),
+        verdict: Verdict::Form(Form::ReferenceBandwidth),
     },
     Opening {
         text: b"redistribute static",

@@ -2,9 +2,9 @@
 ghost use Rattle.std.specs.Prelude.{◌≡◌, ◌==◌, ◌≤◌, [], ◌∷◌, Some, None, IfSome, MatchOption};
 ghost use Rattle.std.specs.List.{slice_split, position};
 ghost use Rattle.rc_base.specs.Addr.{mask};
-ghost use Rattle.rc_openings.specs.Values.{digits_from, at_most, digits_up_to, number_of, number_within, octet, address_of, mask_length, mask_length_of, prefix_of};
+ghost use Rattle.rc_openings.specs.Values.{digits_from, at_most, digits_up_to, number_of, number_within, octet, address_of, mask_length, mask_length_of, prefix_of, area_of, begins_with_letter, interface_of};
 
-use rc_base::{Addr, Prefix, mask_of};
+use rc_base::{Addr, Name, Prefix, mask_of};
 
 /// The number of these digits, where it is at most the limit.
 fn digits_value(digits: &[u8], limit: u32) -> Option<u32>
@@ -173,6 +173,38 @@ pub fn word_prefix(word: &[u8]) -> Option<Prefix>
     };
     match (word_addr(addr), number_in(0, 32, len)) {
         (Some(addr), Some(len)) => Prefix::new(addr, len as u8),
+        _ => None,
+    }
+}
+
+/// The number of an area that a word is (RFC 2328 C.2): a number, or a dotted word of that value.
+pub fn word_area(word: &[u8]) -> Option<u32>
+    ensures { result ≡ area_of word.now }
+{
+    match word_u32(word) {
+        Some(area) => Some(area),
+        None => match word_addr(word) {
+            Some(dotted) => Some(dotted.bits()),
+            None => None,
+        },
+    }
+}
+
+fn begins_alphabetic(word: &[u8]) -> bool
+    ensures { result ≡ begins_with_letter word.now }
+{
+    match word {
+        [first, ..] => first.is_ascii_alphabetic(),
+        [] => false,
+    }
+}
+
+/// The name of an interface that a word is: a name that begins with a letter.
+pub fn word_interface(word: &[u8]) -> Option<Name>
+    ensures { result ≡ interface_of word.now }
+{
+    match Name::new(word) {
+        Some(name) if begins_alphabetic(word) => Some(name),
         _ => None,
     }
 }

@@ -4,7 +4,7 @@ ghost use Rattle.rc_policy.specs.Policy.{access_list_permits, community_list_per
 
 use crate::{Attrs, community_list_permits, permits};
 use rc_base::{Addr, Communities, Name, Prefix};
-use rc_config::{Action, CommunityList, AccessList, Lists, MapEntry, Mention, Named, PrefixList};
+use rc_config::{AccessList, Action, CommunityList, Lists, MapEntry, Mention, Named, PrefixList};
 use rc_filter::matches_address;
 
 /// Whether a standard access list permits an address: the action of the first line whose source is the address decides, and

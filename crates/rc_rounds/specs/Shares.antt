@@ -5,7 +5,7 @@ use Rattle.rc_config.specs.declared.network.Network.{Network}
 use Rattle.rc_route.specs.declared.state.RouterState.{RouterState}
 use Rattle.rc_rib.specs.Next.{next_router}
 
--- what so many routers from a place on know after a round in which all read the old state
+-- what so many routers from an index on know after a round in which all read the old state
 unfoldable pub rows : Network → List RouterState → ℕ → ℕ → List RouterState
 rows net old from count = map (next_router net old) (range_with_len from count)
 

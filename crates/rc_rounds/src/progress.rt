@@ -1,14 +1,16 @@
 //! What the rounds keep from one to the next.
 ghost use Rattle.std.specs.Prelude.{◌≡◌, ◌+◌, ◌≤◌, ◌<◌, ◌⊎◌, IfOk, IfSome, length, if◌then◌else◌};
+ghost use Rattle.rc_config.specs.Lawful.{IsLawful};
 ghost use Rattle.rc_config.specs.declared.network.Network.{Network as NetworkModel};
-ghost use Rattle.rc_rib.specs.Next.{next_state};
+ghost use Rattle.rc_rib.specs.Next as rib;
 ghost use Rattle.rc_route.specs.Tables.{IsStateOf};
 ghost use Rattle.rc_rounds.specs.Progress.{IsProgress, IsPowerBelow, IsSame, checkpoint_state};
 ghost use Rattle.rc_rounds.specs.Rounds.{GoesOn};
 
-use crate::round::empty_state;
+use crate::round::{empty_state, next_state};
 use rc_base::Items;
 use rc_config::Network;
+use rc_outside::Gate;
 use rc_rib::Inputs;
 use rc_route::{State, equal};
 use std::alloc::{AllocError, Global};
@@ -118,12 +120,31 @@ impl Progress {
         Same::Neither
     }
 
+    /// The state after the next round, whose number is the phase of its workers at the gate.
+    pub fn next<G: Gate>(
+        &self,
+        alloc: Global,
+        net: &Network,
+        workers: u32,
+        gate: &G,
+    ) -> Result<State, AllocError>
+        requires lawful { IsLawful net.now }
+        requires made { IsProgress net.now self.now }
+        requires few { self.now.done < 100000 }
+        requires some_workers { 1 ≤ workers }
+        requires few_workers { workers ≤ 64 }
+        ensures value { IfOk result (λ s. s ≡ rib.next_state net.now self.now.last) }
+        ensures in_order { IfOk result (IsStateOf (length net.now.routers)) }
+    {
+        next_state(alloc, &self.inputs(net), workers, self.done + 1, gate)
+    }
+
     /// What the next round reads.
-    pub fn inputs<'a>(&'a self, net: &'a Network) -> Inputs<'a>
+    fn inputs<'a>(&'a self, net: &'a Network) -> Inputs<'a>
         requires { IsProgress net.now self.now }
         ensures network { result.network.now ≡ net.now }
         ensures previous { result.previous.now ≡ self.now.last }
-        ensures earlier { IfSome result.earlier (λ old. self.now.last ≡ next_state net.now old.now) }
+        ensures earlier { IfSome result.earlier (λ old. self.now.last ≡ rib.next_state net.now old.now) }
     {
         Inputs {
             network: net,
@@ -141,7 +162,7 @@ impl Progress {
         requires few { self.done < 100000 }
         requires checkpoint { self.checkpoint ≤ 100000 }
         ensures done { result.done ≡ self.done + 1 }
-        ensures made { (net : NetworkModel) → IsProgress net self → IsStateOf (length net.routers) next → next ≡ next_state net self.last → GoesOn net (self.done + 1) → IsProgress net result }
+        ensures made { (net : NetworkModel) → IsProgress net self → IsStateOf (length net.routers) next → next ≡ rib.next_state net self.last → GoesOn net (self.done + 1) → IsProgress net result }
     {
         let Progress {
             done,

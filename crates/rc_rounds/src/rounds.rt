@@ -5,10 +5,9 @@ ghost use Rattle.rc_rounds.specs.Rounds.{IsInOrder, IsOutcome, HasOneOutcome};
 
 use crate::Outcome;
 use crate::progress::{Progress, Same};
-use crate::round::next_state;
 use rc_config::Network;
 use rc_outside::Gate;
-use std::alloc::{AllocError, AllocGlobal};
+use std::alloc::{AllocError, AllocGlobal, Global};
 use std::thread::Threads;
 
 /// How the rounds of a network end, of which at most so many are made.
@@ -30,9 +29,27 @@ pub fn run_rounds<R: Threads + Sync + AllocGlobal, G: Gate>(
     ensures outcome { IfOk result (IsOutcome net.now limit) }
     ensures in_order { IfOk result (IsInOrder (length net.now.routers)) }
 {
-    let mut progress = Progress::start(rt.alloc(), net)?;
+    rounds_within(rt.alloc(), net, limit, workers, gate)
+}
+
+/// How the rounds of a network end, of which at most so many are made.
+fn rounds_within<G: Gate>(
+    alloc: Global,
+    net: &Network,
+    limit: u32,
+    workers: u32,
+    gate: &G,
+) -> Result<Outcome, AllocError>
+    requires lawful { IsLawful net.now }
+    requires few_rounds { limit ≤ 100000 }
+    requires some_workers { 1 ≤ workers }
+    requires few_workers { workers ≤ 64 }
+    ensures outcome { IfOk result (IsOutcome net.now limit) }
+    ensures in_order { IfOk result (IsInOrder (length net.now.routers)) }
+{
+    let mut progress = Progress::start(alloc, net)?;
     for done in 0..limit {
-        let next = next_state(rt.alloc(), &progress.inputs(net), workers, done + 1, gate)?;
+        let next = progress.next(alloc, net, workers, gate)?;
         let same = progress.same(&next);
         match same {
             Same::Last => return Ok(Outcome::Fixed(done + 1, next)),

@@ -43,20 +43,20 @@ pub fn copy(alloc: Global, state: &RouterState) -> Result<RouterState, AllocErro
 fn copy_table(alloc: Global, table: &Table) -> Result<Table, AllocError>
     ensures { IfOk result (λ copied. copied ≡ table.now) }
 {
-    let mut routes = Vec::with_capacity(alloc, table.len())?;
+    let mut routes = Items::from_vec(Vec::with_capacity(alloc, table.len())?);
     for route in table.as_slice() {
         routes.push(route.copy(alloc)?)?;
     }
-    Ok(Items::from_vec(routes))
+    Ok(routes)
 }
 
 /// A list of paths again.
 fn copy_paths(alloc: Global, list: &Items<BgpPath>) -> Result<Items<BgpPath>, AllocError>
     ensures { IfOk result (λ copied. copied ≡ list.now) }
 {
-    let mut paths = Vec::with_capacity(alloc, list.len())?;
+    let mut paths = Items::from_vec(Vec::with_capacity(alloc, list.len())?);
     for path in list.as_slice() {
         paths.push(path.copy(alloc)?)?;
     }
-    Ok(Items::from_vec(paths))
+    Ok(paths)
 }

@@ -1,1 +1,4 @@
+pub mod AccessListLaws
+pub mod AccessListsReduced
 mod NumberLaws
+mod WildcardLaws

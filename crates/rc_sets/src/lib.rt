@@ -1,9 +1,12 @@
 //! Sets of headers as trees of the shared table.
 //!
-//! It stands on rc_bdd. The layer above may know each set by its recipe: the headers whose destination a prefix holds are its chain.
+//! It stands on rc_bdd, and on rc_filter for what access lists permit. The layer above may know each set by its recipe: the headers whose
+//! destination a prefix holds are its chain. For the sets of access lists there are definitions with their laws, and no calls yet.
 #![tactic(auto)]
 
+mod laws;
 mod number;
 mod prefix;
 
+pub use laws::{a_line_is_its_set, an_access_group_is_its_set, an_access_list_is_its_set};
 pub use prefix::prefix_set;

@@ -70,9 +70,9 @@ fn check_groups(
 
 #[test]
 fn a_group_without_lines_denies_nothing(rt: HostRuntime) -> Result<(), Fail> {
-    let full = Name::new(b"101").ok_or("101")?;
-    let empty = Name::new(b"102").ok_or("102")?;
-    let undefined = Name::new(b"103").ok_or("103")?;
+    let full = Name::new(b"101").expect(&rt, "101");
+    let empty = Name::new(b"102").expect(&rt, "102");
+    let undefined = Name::new(b"103").expect(&rt, "103");
     let access_lists = two_lists(rt.alloc(), full, empty)?;
     let groups = [
         (Some(full), false),

@@ -172,7 +172,7 @@ fn wanted(alloc: Global, prefix: Prefix) -> Result<Option<Attrs>, AllocError> {
 #[test]
 fn an_entry_joins_and_prepends(rt: HostRuntime) -> Result<(), Fail> {
     let alloc = rt.alloc();
-    let name = Name::new(b"7").ok_or("7")?;
+    let name = Name::new(b"7").expect(&rt, "7");
     let tried = prefix(0x0a09_0100, 24)?;
     let lists = seventh(alloc, name)?;
     let map = joining(alloc, name)?;

@@ -100,7 +100,7 @@ fn a_failing_sink_is_not_called_again(rt: HostRuntime) -> Result<(), Fail> {
 fn a_line_has_each_kind_of_part(rt: HostRuntime) -> Result<(), Fail> {
     let alloc = rt.alloc();
     let addr = Addr::new(0x01ff_0a00);
-    let prefix = Prefix::new(addr, 8).ok_or("a prefix")?;
+    let prefix = Prefix::new(addr, 8).expect(&rt, "a prefix");
     let mut line = Buffer::new(alloc)?;
     let mut sink = MemSink::new(alloc, 99, Vec::new(alloc))?;
     let numbers = [Part::Number(0), Part::Text(b" "), Part::Number(u64::MAX)];

@@ -10,7 +10,6 @@ use rc_grammar::read_file;
 use rc_lines::Lines;
 use rc_openings::{LineError, LineRefusal};
 use std::process::Abort;
-use std::test::Fail;
 
 const BAD: Option<LineError> = Some(LineError::Refused(LineRefusal::BadValue));
 
@@ -19,13 +18,19 @@ const UNSUPPORTED: Option<LineError> = Some(LineError::Refused(LineRefusal::Unsu
 /// The line of an access list that the text is in this block, and the kind of the list.
 fn line_in(
     file: &RouterText,
-    block: OpenBlock,
+    block: &OpenBlock,
     text: &[u8],
 ) -> Option<(AccessListKind, AccessListLine)>
     requires { HasLawfulLists file.now }
 {
     let line = Lines::new(text).next()?;
-    match &read_line(&line, Context { block, file }) {
+    match &read_line(
+        &line,
+        Context {
+            block: *block,
+            file,
+        },
+    ) {
         Ok(
             Command::AccessListLine {
                 list: _,
@@ -38,11 +43,18 @@ fn line_in(
 }
 
 /// How the text is refused in this block.
-fn refusal_in(file: &RouterText, block: OpenBlock, text: &[u8]) -> Option<LineError>
+fn refusal_in(file: &RouterText, block: &OpenBlock, text: &[u8]) -> Option<LineError>
     requires { HasLawfulLists file.now }
 {
     let line = Lines::new(text).next()?;
-    read_line(&line, Context { block, file }).err()
+    read_line(
+        &line,
+        Context {
+            block: *block,
+            file,
+        },
+    )
+    .err()
 }
 
 fn check_range(rt: &impl Abort, line: &AccessListLine) {
@@ -53,21 +65,20 @@ fn check_range(rt: &impl Abort, line: &AccessListLine) {
 }
 
 #[test]
-fn a_line_has_its_tests(rt: HostRuntime) -> Result<(), Fail> {
-    let list = Name::new(b"WEB").ok_or("WEB")?;
+fn a_line_has_its_tests(rt: HostRuntime) {
+    let list = Name::new(b"WEB").expect(&rt, "WEB");
     let block = OpenBlock::AccessList(list, AccessListKind::Extended);
     let file = RouterText::new(rt.alloc());
     let text = b"permit tcp any host 10.0.0.1 range 22 telnet log";
-    match &line_in(&file, block, text) {
+    match &line_in(&file, &block, text) {
         Some((_, line)) => check_range(&rt, line),
         None => assert!(rt; false, "no line"),
     }
-    Ok(())
 }
 
 #[test]
-fn lines_are_refused(rt: HostRuntime) -> Result<(), Fail> {
-    let list = Name::new(b"WEB").ok_or("WEB")?;
+fn lines_are_refused(rt: HostRuntime) {
+    let list = Name::new(b"WEB").expect(&rt, "WEB");
     let file = RouterText::new(rt.alloc());
     for (kind, text, refusal) in [
         (
@@ -78,9 +89,8 @@ fn lines_are_refused(rt: HostRuntime) -> Result<(), Fail> {
         (AccessListKind::Standard, b"permit udp any any", BAD),
     ] {
         let block = OpenBlock::AccessList(list, kind);
-        assert!(rt; refusal_in(&file, block, text) == refusal, "{text:?}");
+        assert!(rt; refusal_in(&file, &block, text) == refusal, "{text:?}");
     }
-    Ok(())
 }
 
 #[test]
@@ -96,7 +106,7 @@ fn numbers_tell_kinds_of_lists(rt: HostRuntime) {
             AccessListKind::Extended,
         ),
     ] {
-        let found = line_in(&file, OpenBlock::Global, text);
+        let found = line_in(&file, &OpenBlock::Global, text);
         assert!(rt; found.map(|l| l.0) == Some(kind), "{text:?}");
     }
 }
@@ -114,7 +124,7 @@ fn a_remark_takes_every_number(rt: HostRuntime) {
         (b"access-list 700 deny any", BAD),
     ] {
         assert!(rt;
-            refusal_in(&file, OpenBlock::Global, text) == refusal,
+            refusal_in(&file, &OpenBlock::Global, text) == refusal,
             "{text:?}"
         );
     }
@@ -127,7 +137,7 @@ ip access-list standard 5
 ";
 
 /// Asserts which number a line gets behind a line 15, and that this number is there already.
-fn check_next(rt: &impl Abort, file: &RouterText, block: OpenBlock)
+fn check_next(rt: &impl Abort, file: &RouterText, block: &OpenBlock)
     requires { HasLawfulLists file.now }
 {
     let next = line_in(file, block, b"deny any");
@@ -136,14 +146,13 @@ fn check_next(rt: &impl Abort, file: &RouterText, block: OpenBlock)
 }
 
 #[test]
-fn lines_get_numbers(rt: HostRuntime) -> Result<(), Fail> {
-    let list = Name::new(b"5").ok_or("5")?;
+fn lines_get_numbers(rt: HostRuntime) {
+    let list = Name::new(b"5").expect(&rt, "5");
     let block = OpenBlock::AccessList(list, AccessListKind::Standard);
-    let first = line_in(&RouterText::new(rt.alloc()), block, b"deny any");
+    let first = line_in(&RouterText::new(rt.alloc()), &block, b"deny any");
     assert!(rt; first.map(|l| l.1.sequence) == Some(10));
     match &read_file(rt.alloc(), FIFTEEN) {
-        Ok(file) => check_next(&rt, file, block),
+        Ok(file) => check_next(&rt, file, &block),
         Err(_) => assert!(rt; false, "refused"),
     }
-    Ok(())
 }

@@ -53,7 +53,7 @@ fn check_three(rt: &impl Abort, access_list: &AccessList) {
 
 #[test]
 fn lines_by_number(rt: HostRuntime) -> Result<(), Fail> {
-    let ports = Ports::new(22).with_port(23).ok_or("two ports")?;
+    let ports = Ports::new(22).with_port(23).expect(&rt, "two ports");
     let access_list = three_lines(rt.alloc(), ports)?;
     check_three(&rt, &access_list);
     let second = access_list.lines.get(20);
@@ -73,19 +73,24 @@ fn put_list(
 }
 
 #[test]
-fn lists_under_names(rt: HostRuntime) -> Result<(), Fail> {
-    let name = Name::new(b"101").ok_or("101")?;
-    let mut access_lists = Named::new(rt.alloc());
-    let full = three_lines(rt.alloc(), Ports::new(22))?;
-    let before = put_list(&mut access_lists, name, full)?;
-    assert!(rt; !before);
+fn lists_under_names(rt: HostRuntime) {
+    let name = Name::new(b"101").expect(&rt, "101");
+    let full = three_lines(rt.alloc(), Ports::new(22)).expect(&rt, "memory");
     let empty = AccessList::new(rt.alloc(), AccessListKind::Standard);
-    let before = put_list(&mut access_lists, name, empty)?;
-    assert!(rt; before);
-    let found = access_lists.get(&name);
-    assert!(rt; found.map(|l| l.kind) == Some(AccessListKind::Standard));
-    assert!(rt; found.map(|l| l.greatest()) == Some(None));
-    Ok(())
+    let mut access_lists = Named::new(rt.alloc());
+    assert!(rt; put_list(&mut access_lists, name, full) == Ok(false));
+    assert!(rt; put_list(&mut access_lists, name, empty) == Ok(true));
+    check_empty(&rt, access_lists.get(&name));
+}
+
+fn check_empty(rt: &impl Abort, access_list: Option<&AccessList>) {
+    match access_list {
+        Some(found) => {
+            assert!(rt; found.kind == AccessListKind::Standard);
+            assert!(rt; found.greatest().is_none());
+        }
+        None => assert!(rt; false, "no list"),
+    }
 }
 
 /// Three lines, and then another in place of the first.
@@ -104,16 +109,15 @@ fn a_line_in_place_of_another(rt: HostRuntime) -> Result<(), Fail> {
 }
 
 #[test]
-fn one_to_ten_ports(rt: HostRuntime) -> Result<(), Fail> {
+fn one_to_ten_ports(rt: HostRuntime) {
     assert!(rt; Ports::from_slice(&[]).is_none());
     assert!(rt; Ports::from_slice(&[80; 11]).is_none());
-    let ten = Ports::from_slice(&[80; 10]).ok_or("ten ports")?;
+    let ten = Ports::from_slice(&[80; 10]).expect(&rt, "ten ports");
     assert!(rt; ten.with_port(80).is_none());
-    let two = Ports::from_slice(&[22, 23]).ok_or("two ports")?;
+    let two = Ports::from_slice(&[22, 23]).expect(&rt, "two ports");
     assert!(rt; Ports::new(22).with_port(23) == Some(two));
     assert!(rt; two < ten);
     assert!(rt; Ports::new(22) < two);
-    Ok(())
 }
 
 /// The model with these lines of a list more.
@@ -187,9 +191,9 @@ fn check_groups(rt: &impl Abort, block: &Interface, inbound: Name, outbound: Nam
 
 #[test]
 fn lists_of_a_router(rt: HostRuntime) -> Result<(), Fail> {
-    let list = Name::new(b"101").ok_or("101")?;
-    let empty = Name::new(b"WEB").ok_or("WEB")?;
-    let interface = Name::new(b"Serial1").ok_or("Serial1")?;
+    let list = Name::new(b"101").expect(&rt, "101");
+    let empty = Name::new(b"WEB").expect(&rt, "WEB");
+    let interface = Name::new(b"Serial1").expect(&rt, "Serial1");
     let text = model(rt.alloc(), list, empty, interface)?;
     check_lists(&rt, &text.lists.access_lists, &list, &empty);
     match text.interfaces.get(&interface) {

@@ -26,15 +26,14 @@ fn prefixes_have_no_host_bits(rt: HostRuntime) {
 }
 
 #[test]
-fn a_prefix_holds_its_addresses(rt: HostRuntime) -> Result<(), Fail> {
-    let wide = Prefix::new(Addr::new(0x0a00_0000), 8).ok_or("/8")?;
-    let narrow = Prefix::new(Addr::new(0x0a01_0200), 24).ok_or("/24")?;
+fn a_prefix_holds_its_addresses(rt: HostRuntime) {
+    let wide = Prefix::new(Addr::new(0x0a00_0000), 8).expect(&rt, "/8");
+    let narrow = Prefix::new(Addr::new(0x0a01_0200), 24).expect(&rt, "/24");
     assert!(rt; wide.contains(Addr::new(0x0aff_ffff)));
     assert!(rt; !wide.contains(Addr::new(0x0b00_0000)));
     assert!(rt; wide.covers(&narrow));
     assert!(rt; !narrow.covers(&wide));
     assert!(rt; wide < narrow);
-    Ok(())
 }
 
 #[test]
@@ -84,9 +83,9 @@ fn check_index(
 
 #[test]
 fn interfaces_by_prefix(rt: HostRuntime) -> Result<(), Fail> {
-    let first = Prefix::new(Addr::new(0x0a00_0100), 24).ok_or("/24")?;
-    let second = Prefix::new(Addr::new(0x0a00_0100), 25).ok_or("/25")?;
-    let wide = Prefix::new(Addr::new(0), 0).ok_or("/0")?;
+    let first = Prefix::new(Addr::new(0x0a00_0100), 24).expect(&rt, "/24");
+    let second = Prefix::new(Addr::new(0x0a00_0100), 25).expect(&rt, "/25");
+    let wide = Prefix::new(Addr::new(0), 0).expect(&rt, "/0");
     let index = indexed(rt.alloc(), first, second)?;
     check_index(&rt, &index, &first, &second, &wide);
     assert!(rt; index.into_rows().len() == 2);
@@ -94,14 +93,11 @@ fn interfaces_by_prefix(rt: HostRuntime) -> Result<(), Fail> {
 }
 
 #[test]
-fn values_by_prefix(rt: HostRuntime) -> Result<(), Fail> {
-    let prefix = Prefix::new(Addr::new(0x0a00_0100), 24).ok_or("/24")?;
+fn values_by_prefix(rt: HostRuntime) {
+    let prefix = Prefix::new(Addr::new(0x0a00_0100), 24).expect(&rt, "/24");
     let mut map = PrefixMap::new(rt.alloc());
-    let before = map.insert(prefix, 7)?;
-    assert!(rt; before.is_none());
-    let before = map.insert(prefix, 9)?;
-    assert!(rt; before == Some(7));
+    assert!(rt; map.insert(prefix, 7) == Ok(None));
+    assert!(rt; map.insert(prefix, 9) == Ok(Some(7)));
     assert!(rt; map.get(&prefix) == Some(&9));
     assert!(rt; map.into_rows().len() == 1);
-    Ok(())
 }

@@ -67,14 +67,13 @@ fn check_running(rt: &impl Abort, file: &RouterText, name: &Name, host: Name) {
 }
 
 #[test]
-fn a_running_configuration(rt: HostRuntime) -> Result<(), Fail> {
-    let name = Name::new(b"GigabitEthernet0/0").ok_or("GigabitEthernet0/0")?;
-    let host = Name::new(b"R1").ok_or("R1")?;
+fn a_running_configuration(rt: HostRuntime) {
+    let name = Name::new(b"GigabitEthernet0/0").expect(&rt, "GigabitEthernet0/0");
+    let host = Name::new(b"R1").expect(&rt, "R1");
     match &read_file(rt.alloc(), RUNNING) {
         Ok(file) => check_running(&rt, file, &name, host),
         Err(_) => assert!(rt; false, "refused"),
     }
-    Ok(())
 }
 
 #[test]

@@ -4,7 +4,6 @@ use rc_base::Name;
 use rc_config::{AccessList, Interface, Named};
 use rc_grammar::read_file;
 use std::process::Abort;
-use std::test::Fail;
 
 const GROUPS: &[u8] = b"hostname X
 interface Serial0
@@ -19,8 +18,8 @@ fn check_groups(rt: &impl Abort, block: Option<&Interface>) {
 }
 
 #[test]
-fn the_last_group_counts(rt: HostRuntime) -> Result<(), Fail> {
-    let serial = Name::new(b"Serial0").ok_or("Serial0")?;
+fn the_last_group_counts(rt: HostRuntime) {
+    let serial = Name::new(b"Serial0").expect(&rt, "Serial0");
     match &read_file(rt.alloc(), GROUPS) {
         Ok(file) => {
             assert!(rt; file.lists.access_lists.is_empty());
@@ -28,7 +27,6 @@ fn the_last_group_counts(rt: HostRuntime) -> Result<(), Fail> {
         }
         Err(_) => assert!(rt; false, "refused"),
     }
-    Ok(())
 }
 
 const LISTS: &[u8] = b"hostname X

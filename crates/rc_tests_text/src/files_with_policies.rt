@@ -8,7 +8,6 @@ use rc_config::{
 use rc_grammar::{FileCause, read_file};
 use std::alloc::Global;
 use std::process::Abort;
-use std::test::Fail;
 
 const LISTS: &[u8] = b"hostname X
 ip prefix-list P seq 20 deny 10.1.2.3/16 ge 20 le 24
@@ -42,8 +41,8 @@ fn check_prefixes(rt: &impl Abort, list: &PrefixList) {
 }
 
 #[test]
-fn prefix_lists_of_a_file(rt: HostRuntime) -> Result<(), Fail> {
-    let name = Name::new(b"P").ok_or("P")?;
+fn prefix_lists_of_a_file(rt: HostRuntime) {
+    let name = Name::new(b"P").expect(&rt, "P");
     match &read_file(rt.alloc(), LISTS) {
         Ok(file) => {
             assert!(rt; file.lists.prefix_lists.len() == 1);
@@ -54,7 +53,6 @@ fn prefix_lists_of_a_file(rt: HostRuntime) -> Result<(), Fail> {
         }
         Err(_) => assert!(rt; false, "refused"),
     }
-    Ok(())
 }
 
 fn check_communities(rt: &impl Abort, list: &CommunityList) {
@@ -70,8 +68,8 @@ fn check_communities(rt: &impl Abort, list: &CommunityList) {
 }
 
 #[test]
-fn community_lists_of_a_file(rt: HostRuntime) -> Result<(), Fail> {
-    let name = Name::new(b"7").ok_or("7")?;
+fn community_lists_of_a_file(rt: HostRuntime) {
+    let name = Name::new(b"7").expect(&rt, "7");
     match &read_file(rt.alloc(), LISTS) {
         Ok(file) => {
             assert!(rt; file.lists.community_lists.len() == 2);
@@ -82,7 +80,6 @@ fn community_lists_of_a_file(rt: HostRuntime) -> Result<(), Fail> {
         }
         Err(_) => assert!(rt; false, "refused"),
     }
-    Ok(())
 }
 
 const MAPS: &[u8] = b"hostname X
@@ -165,13 +162,12 @@ fn check_maps(rt: &impl Abort, maps: &Named<RouteMap>, name: &Name) {
 }
 
 #[test]
-fn route_maps_of_a_file(rt: HostRuntime) -> Result<(), Fail> {
-    let name = Name::new(b"M").ok_or("M")?;
+fn route_maps_of_a_file(rt: HostRuntime) {
+    let name = Name::new(b"M").expect(&rt, "M");
     match &read_file(rt.alloc(), MAPS) {
         Ok(file) => check_maps(&rt, &file.route_maps, &name),
         Err(_) => assert!(rt; false, "refused"),
     }
-    Ok(())
 }
 
 #[test]

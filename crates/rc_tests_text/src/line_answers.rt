@@ -9,11 +9,20 @@ use std::process::Abort;
 /// Whether the line is refused so in the block, or is passed over where there is no refusal.
 fn says(
     file: &RouterText,
-    block: OpenBlock,
+    block: &OpenBlock,
     line: &Line<'_>,
     refusal: Option<LineRefusal>,
 ) -> bool {
-    match (&read_line(line, Context { block, file }), refusal) {
+    match (
+        &read_line(
+            line,
+            Context {
+                block: *block,
+                file,
+            },
+        ),
+        refusal,
+    ) {
         (Ok(Command::Passed), None) => true,
         (Err(found), Some(wanted)) => *found == LineError::Refused(wanted),
         _ => false,
@@ -21,7 +30,12 @@ fn says(
 }
 
 /// Whether each line of the text is refused so in the block, or is passed over where there is no refusal.
-pub fn all_say(alloc: Global, block: OpenBlock, text: &[u8], refusal: Option<LineRefusal>) -> bool {
+pub fn all_say(
+    alloc: Global,
+    block: &OpenBlock,
+    text: &[u8],
+    refusal: Option<LineRefusal>,
+) -> bool {
     let file = RouterText::new(alloc);
     let mut lines = Lines::new(text);
     for _ in 0..1000 {
@@ -36,9 +50,15 @@ pub fn all_say(alloc: Global, block: OpenBlock, text: &[u8], refusal: Option<Lin
 }
 
 /// How the first line of the text is refused in the block.
-fn refusal_of(file: &RouterText, block: OpenBlock, text: &[u8]) -> Option<LineRefusal> {
+fn refusal_of(file: &RouterText, block: &OpenBlock, text: &[u8]) -> Option<LineRefusal> {
     let line = Lines::new(text).next()?;
-    match &read_line(&line, Context { block, file }) {
+    match &read_line(
+        &line,
+        Context {
+            block: *block,
+            file,
+        },
+    ) {
         Err(LineError::Refused(refusal)) => Some(*refusal),
         _ => None,
     }
@@ -48,7 +68,7 @@ fn refusal_of(file: &RouterText, block: OpenBlock, text: &[u8]) -> Option<LineRe
 pub fn check_lines(
     rt: &impl Abort,
     alloc: Global,
-    block: OpenBlock,
+    block: &OpenBlock,
     lines: &[(&[u8], Option<LineRefusal>)],
 ) {
     let file = RouterText::new(alloc);

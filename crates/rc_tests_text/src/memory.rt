@@ -6,7 +6,7 @@ use rc_outside::{
     Folder, Gate, MemFile, MemFolder, MemSink, Names, OpenGate, Sink, SinkFailed, SourceError,
 };
 use std::alloc::{AllocError, Global};
-use std::test::Fail;
+use std::process::Abort;
 
 fn file(alloc: Global, folder: &str, bytes: &[u8]) -> Result<MemFile, AllocError>
     ensures { IfOk result (λ f. file_of f ≡ record { folder = folder.now; name = codes "a.cfg"; bytes = bytes.now }) }
@@ -18,15 +18,15 @@ fn file(alloc: Global, folder: &str, bytes: &[u8]) -> Result<MemFile, AllocError
     })
 }
 
-/// Two files in one place, and one of the same name in another folder. The second call fails.
-fn folder_of(alloc: Global, bytes: &[u8]) -> Result<MemFolder, AllocError>
+/// Two files in one place, and one of the same name in another folder. The call of this number fails.
+fn folder_of(alloc: Global, bytes: &[u8], failure: u64) -> Result<MemFolder, AllocError>
     ensures { IfOk result (λ m. ⟦<MemFolder as Folder>⟧.told m ≡ Some (record { folder = codes "d"; name = codes "a.cfg"; bytes = bytes.now } ∷ record { folder = codes "e"; name = codes "a.cfg"; bytes = [] } ∷ [])) }
 {
     let mut files = Vec::new(alloc);
     files.push(file(alloc, "d", bytes)?)?;
     files.push(file(alloc, "d", b"second")?)?;
     files.push(file(alloc, "e", b"")?)?;
-    let failures = Vec::from_slice(alloc, &[2u64])?;
+    let failures = Vec::from_slice(alloc, &[failure])?;
     Ok(MemFolder::new(files, failures))
 }
 
@@ -39,16 +39,21 @@ fn are_read(read: &Result<Vec<u8>, SourceError>, wanted: &[u8]) -> bool {
 }
 
 #[test]
-fn a_file_is_read_to_one_byte_past_the_limit(rt: HostRuntime) -> Result<(), Fail> {
+fn a_file_is_read_to_one_byte_past_the_limit(rt: HostRuntime) {
     let alloc = rt.alloc();
-    let mut folder = folder_of(alloc, b"first")?;
+    let mut folder = folder_of(alloc, b"first", 9).expect(&rt, "memory");
+    assert!(rt; are_read(&folder.read(alloc, "d", "a.cfg", 4), b"first"));
+    assert!(rt; are_read(&folder.read(alloc, "d", "a.cfg", 2), b"fir"));
+}
+
+#[test]
+fn a_call_fails_by_its_number(rt: HostRuntime) {
+    let alloc = rt.alloc();
+    let mut folder = folder_of(alloc, b"first", 2).expect(&rt, "memory");
     assert!(rt; are_read(&folder.read(alloc, "d", "a.cfg", 5), b"first"));
     let failed = folder.read(alloc, "d", "a.cfg", 5).err();
     assert!(rt; failed == Some(SourceError::Failed));
-    assert!(rt; are_read(&folder.read(alloc, "d", "a.cfg", 4), b"first"));
-    assert!(rt; are_read(&folder.read(alloc, "d", "a.cfg", 2), b"fir"));
-    assert!(rt; folder.calls == 4 && folder.faults == 1);
-    Ok(())
+    assert!(rt; folder.calls == 2 && folder.faults == 1);
 }
 
 /// Whether just this name was told, or none.
@@ -63,44 +68,53 @@ fn is_told(told: &Result<Names, SourceError>, wanted: Option<&str>) -> bool {
 }
 
 #[test]
-fn names_are_those_of_the_folder_alone(rt: HostRuntime) -> Result<(), Fail> {
+fn names_are_those_of_the_folder_alone(rt: HostRuntime) {
     let alloc = rt.alloc();
-    let mut folder = folder_of(alloc, b"first")?;
+    let mut folder = folder_of(alloc, b"first", 2).expect(&rt, "memory");
     assert!(rt; is_told(&folder.names(alloc, "d"), Some("a.cfg")));
     let failed = folder.names(alloc, "d").err();
     assert!(rt; failed == Some(SourceError::Failed));
     assert!(rt; is_told(&folder.names(alloc, "f"), None));
-    Ok(())
+}
+
+/// Asserts what a sink says of a put, and what it holds then.
+fn check_put(
+    rt: &impl Abort,
+    sink: &mut MemSink,
+    bytes: &[u8],
+    said: Result<(), SinkFailed>,
+    held: &[u8],
+) {
+    assert!(rt; sink.put(bytes) == said);
+    assert!(rt; sink.bytes.as_slice() == held);
+}
+
+/// A sink with so much room that takes so many bytes of the call of this number, and fails.
+fn failing_sink(
+    alloc: Global,
+    room: usize,
+    call: u64,
+    taken: usize,
+) -> Result<MemSink, AllocError> {
+    let failures = Vec::from_slice(alloc, &[(call, taken)])?;
+    MemSink::new(alloc, room, failures)
 }
 
 #[test]
-fn a_sink_fails_in_its_second_call(rt: HostRuntime) -> Result<(), Fail> {
-    let failures = Vec::from_slice(rt.alloc(), &[(2u64, 3usize)])?;
-    let mut sink = MemSink::new(rt.alloc(), 16, failures)?;
-    for (put, said, held) in [
-        (b"one ".as_slice(), Ok(()), b"one ".as_slice()),
-        (b"second ", Err(SinkFailed), b"one sec"),
-        (b" third", Ok(()), b"one sec third"),
-    ] {
-        assert!(rt; sink.put(put) == said, "{put:?}");
-        assert!(rt; sink.bytes.as_slice() == held, "{put:?}");
-    }
+fn a_sink_fails_in_its_second_call(rt: HostRuntime) {
+    let mut sink = failing_sink(rt.alloc(), 16, 2, 3).expect(&rt, "memory");
+    check_put(&rt, &mut sink, b"one ", Ok(()), b"one ");
+    check_put(&rt, &mut sink, b"second ", Err(SinkFailed), b"one sec");
+    check_put(&rt, &mut sink, b" third", Ok(()), b"one sec third");
     assert!(rt; sink.calls == 3 && sink.faults == 1);
-    Ok(())
 }
 
 #[test]
-fn a_sink_without_room_takes_what_fits(rt: HostRuntime) -> Result<(), Fail> {
-    let mut sink = MemSink::new(rt.alloc(), 3, Vec::new(rt.alloc()))?;
-    for (put, said) in [
-        (b"four".as_slice(), Err(SinkFailed)),
-        (b"x", Err(SinkFailed)),
-        (b"", Ok(())),
-    ] {
-        assert!(rt; sink.put(put) == said, "{put:?}");
-        assert!(rt; sink.bytes.as_slice() == b"fou".as_slice(), "{put:?}");
-    }
+fn a_sink_without_room_takes_what_fits(rt: HostRuntime) {
+    let mut sink = failing_sink(rt.alloc(), 3, 9, 0).expect(&rt, "memory");
+    check_put(&rt, &mut sink, b"four", Err(SinkFailed), b"fou");
+    check_put(&rt, &mut sink, b"x", Err(SinkFailed), b"fou");
+    check_put(&rt, &mut sink, b"", Ok(()), b"fou");
     assert!(rt; sink.calls == 3 && sink.faults == 2);
     OpenGate.pass(1, 0);
-    Ok(())
 }

@@ -212,8 +212,8 @@ fn check_routes(rt: &impl Abort, routes: &[StaticRoute], serial: Name) {
 
 #[test]
 fn static_routes_stay_in_order(rt: HostRuntime) -> Result<(), Fail> {
-    let prefix = Prefix::new(Addr::new(167_837_696), 16).ok_or("10.1.0.0/16")?;
-    let serial = Name::new(b"Serial1").ok_or("Serial1")?;
+    let prefix = Prefix::new(Addr::new(167_837_696), 16).expect(&rt, "10.1.0.0/16");
+    let serial = Name::new(b"Serial1").expect(&rt, "Serial1");
     let text = with_routes(RouterText::new(rt.alloc()), prefix, serial)?;
     assert!(rt; text.interfaces.is_empty());
     check_routes(&rt, text.static_routes.as_slice(), serial);

@@ -22,13 +22,12 @@ fn names_are_1_to_63_printed_bytes(rt: HostRuntime) {
 }
 
 #[test]
-fn names_in_byte_order(rt: HostRuntime) -> Result<(), Fail> {
-    let short = Name::new(b"R").ok_or("R")?;
-    let long = Name::new(b"R1").ok_or("R1")?;
+fn names_in_byte_order(rt: HostRuntime) {
+    let short = Name::new(b"R").expect(&rt, "R");
+    let long = Name::new(b"R1").expect(&rt, "R1");
     assert!(rt; short < long);
     assert!(rt; short != long);
     assert!(rt; long.as_bytes() == b"R1".as_slice());
-    Ok(())
 }
 
 #[test]

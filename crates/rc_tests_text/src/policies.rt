@@ -27,7 +27,7 @@ fn two_lines(alloc: Global, prefix: Prefix) -> Result<PrefixList, AllocError> {
 
 #[test]
 fn prefix_lines_by_number(rt: HostRuntime) -> Result<(), Fail> {
-    let prefix = Prefix::new(Addr::new(0x0a00_0000), 8).ok_or("/8")?;
+    let prefix = Prefix::new(Addr::new(0x0a00_0000), 8).expect(&rt, "/8");
     let list = two_lines(rt.alloc(), prefix)?;
     assert!(rt; list.greatest() == Some(20));
     assert!(rt; list.has_line(5));
@@ -47,21 +47,26 @@ fn matching(alloc: Global, name: Name, line: u64) -> Result<MapLine, AllocError>
     })
 }
 
-/// The map with two lines more in its entry 20.
-fn with_two(map: RouteMap, first: MapLine, metric: u32) -> Result<RouteMap, AllocError> {
-    let map = map.with_line(20, first)?;
+/// The map with a condition and a metric in its entry 20.
+fn with_two(
+    alloc: Global,
+    map: RouteMap,
+    name: Name,
+    line: u64,
+    metric: u32,
+) -> Result<RouteMap, AllocError> {
+    let matched = matching(alloc, name, line)?;
+    let map = map.with_line(20, matched)?;
     map.with_line(20, MapLine::Set(SetLine::Metric(metric)))
 }
 
 /// A map whose entry 20 is opened twice, with a condition and a metric each time.
 fn opened_twice(alloc: Global, name: Name) -> Result<RouteMap, AllocError> {
-    let first = matching(alloc, name, 3)?;
-    let second = matching(alloc, name, 7)?;
     let map = RouteMap::new(alloc).opened(alloc, 20, Action::Permit)?;
     let map = map.opened(alloc, 10, Action::Permit)?;
-    let map = with_two(map, first, 5)?;
+    let map = with_two(alloc, map, name, 3, 5)?;
     let map = map.opened(alloc, 20, Action::Deny)?;
-    with_two(map, second, 6)
+    with_two(alloc, map, name, 7, 6)
 }
 
 fn check_entry(rt: &impl Abort, entry: &MapEntry) {
@@ -74,7 +79,7 @@ fn check_entry(rt: &impl Abort, entry: &MapEntry) {
 
 #[test]
 fn entries_opened_again(rt: HostRuntime) -> Result<(), Fail> {
-    let name = Name::new(b"P").ok_or("P")?;
+    let name = Name::new(b"P").expect(&rt, "P");
     let map = opened_twice(rt.alloc(), name)?;
     assert!(rt; map.entries.len() == 2);
     match map.entries.get(20) {

@@ -9,17 +9,22 @@ use rc_grammar::read_file;
 use rc_lines::Lines;
 use rc_openings::{LineError, LineRefusal};
 use std::process::Abort;
-use std::test::Fail;
 
 const BAD: LineError = LineError::Refused(LineRefusal::BadValue);
 
 const UNSUPPORTED: LineError = LineError::Refused(LineRefusal::Unsupported);
 
 /// What the third line of the text says in this block. It says nothing where it isn't there.
-fn third_in(file: &RouterText, block: OpenBlock, text: &[u8]) -> Result<Command, LineError> {
+fn third_in(file: &RouterText, block: &OpenBlock, text: &[u8]) -> Result<Command, LineError> {
     let mut lines = Lines::new(text);
     match (lines.next(), lines.next(), lines.next()) {
-        (Some(_), Some(_), Some(line)) => read_line(&line, Context { block, file }),
+        (Some(_), Some(_), Some(line)) => read_line(
+            &line,
+            Context {
+                block: *block,
+                file,
+            },
+        ),
         _ => Ok(Command::Passed),
     }
 }
@@ -56,9 +61,13 @@ fn check_first(rt: &impl Abort, line: &PrefixLine) {
 
 /// Asserts what two further lines are, where the list P has a line 5.
 fn check_next(rt: &impl Abort, file: &RouterText) {
-    let next = prefix_line_in(file, b"ip prefix-list P deny 0.0.0.0/0 le 32");
-    assert!(rt; next.map(|l| l.sequence) == Some(10));
-    assert!(rt; next.map(|l| l.action) == Some(Action::Deny));
+    match &prefix_line_in(file, b"ip prefix-list P deny 0.0.0.0/0 le 32") {
+        Some(next) => {
+            assert!(rt; next.sequence == 10);
+            assert!(rt; next.action == Action::Deny);
+        }
+        None => assert!(rt; false, "no line"),
+    }
     let twice = said_in(file, b"ip prefix-list P seq 5 permit 10.0.0.0/8");
     assert!(rt; twice.err() == Some(BAD));
 }
@@ -147,26 +156,24 @@ fn check_added(rt: &impl Abort, line: &MapLine, number: u32) {
 }
 
 #[test]
-fn conditions_of_route_maps(rt: HostRuntime) -> Result<(), Fail> {
-    let block = OpenBlock::Map(Name::new(b"M").ok_or("M")?, 10);
+fn conditions_of_route_maps(rt: HostRuntime) {
+    let block = OpenBlock::Map(Name::new(b"M").expect(&rt, "M"), 10);
     let file = RouterText::new(rt.alloc());
     let text = b"!\n!\nmatch ip address prefix-list A 7";
-    match &third_in(&file, block, text) {
+    match &third_in(&file, &block, text) {
         Ok(Command::MapLine { line, .. }) => check_match(&rt, line, 2, 3),
         _ => assert!(rt; false, "no line"),
     }
-    Ok(())
 }
 
 #[test]
-fn changes_of_route_maps(rt: HostRuntime) -> Result<(), Fail> {
-    let block = OpenBlock::Map(Name::new(b"M").ok_or("M")?, 10);
+fn changes_of_route_maps(rt: HostRuntime) {
+    let block = OpenBlock::Map(Name::new(b"M").expect(&rt, "M"), 10);
     let file = RouterText::new(rt.alloc());
-    match &third_in(&file, block, b"!\n!\nset community 65000:2 additive") {
+    match &third_in(&file, &block, b"!\n!\nset community 65000:2 additive") {
         Ok(Command::MapLine { line, .. }) => check_added(&rt, line, 4_259_840_002),
         _ => assert!(rt; false, "no line"),
     }
-    let refused = third_in(&file, block, b"!\n!\nset community additive");
+    let refused = third_in(&file, &block, b"!\n!\nset community additive");
     assert!(rt; refused.err() == Some(BAD));
-    Ok(())
 }

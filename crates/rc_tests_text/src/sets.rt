@@ -53,14 +53,18 @@ fn check_union(rt: &impl Abort, three: &Communities, two: &Communities, both: &C
 }
 
 #[test]
-fn unions_of_communities(rt: HostRuntime) -> Result<(), Fail> {
-    let three = communities(rt.alloc(), &[30, 10, 20, 10])?;
-    let two = communities(rt.alloc(), &[40, 10])?;
-    let both = two.union(rt.alloc(), &three)?;
+fn unions_of_communities(rt: HostRuntime) {
+    let three = communities(rt.alloc(), &[30, 10, 20, 10]).expect(&rt, "memory");
+    let two = communities(rt.alloc(), &[40, 10]).expect(&rt, "memory");
+    let both = two.union(rt.alloc(), &three).expect(&rt, "memory");
     check_union(&rt, &three, &two, &both);
-    let turned = three.union(rt.alloc(), &two)?;
+    let turned = three.union(rt.alloc(), &two).expect(&rt, "memory");
     assert!(rt; both == turned);
-    let copied = both.copy(rt.alloc())?;
-    assert!(rt; both == copied);
-    Ok(())
+}
+
+#[test]
+fn copies_of_communities(rt: HostRuntime) {
+    let three = communities(rt.alloc(), &[30, 10, 20, 10]).expect(&rt, "memory");
+    let copied = three.copy(rt.alloc()).expect(&rt, "memory");
+    assert!(rt; three == copied);
 }

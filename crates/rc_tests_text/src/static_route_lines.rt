@@ -4,7 +4,6 @@ use rc_base::{Addr, Name, Prefix};
 use rc_config::{OpenBlock, RouterText, StaticRoute, Target};
 use rc_openings::LineRefusal;
 use std::process::Abort;
-use std::test::Fail;
 
 /// One route in every order of its options, and with some of them.
 const SAME_ROUTE: &[u8] = b"\
@@ -68,22 +67,21 @@ ip route vrf RED 10.1.2.3 255.255.0.0 Null0
 ";
 
 #[test]
-fn static_routes_take_their_options_in_any_order(rt: HostRuntime) -> Result<(), Fail> {
+fn static_routes_take_their_options_in_any_order(rt: HostRuntime) {
     let wanted = StaticRoute {
-        prefix: Prefix::new(Addr::new(0x0a01_0000), 16).ok_or("10.1.0.0/16")?,
+        prefix: Prefix::new(Addr::new(0x0a01_0000), 16).expect(&rt, "10.1.0.0/16"),
         target: Target::Null,
         distance: 250,
     };
     assert!(rt; all_say_route(rt.alloc(), SAME_ROUTE, &wanted));
-    Ok(())
 }
 
 #[test]
 fn static_routes_are_refused(rt: HostRuntime) {
     let bad = Some(LineRefusal::BadValue);
-    assert!(rt; all_say(rt.alloc(), OpenBlock::Global, BAD_ROUTES, bad));
+    assert!(rt; all_say(rt.alloc(), &OpenBlock::Global, BAD_ROUTES, bad));
     let unsupported = Some(LineRefusal::Unsupported);
-    assert!(rt; all_say(rt.alloc(), OpenBlock::Global, REFUSED_ROUTES, unsupported));
+    assert!(rt; all_say(rt.alloc(), &OpenBlock::Global, REFUSED_ROUTES, unsupported));
 }
 
 /// Asserts the target and the distance of the route that a line says.
@@ -98,11 +96,11 @@ fn check_target(rt: &impl Abort, file: &RouterText, text: &[u8], target: Target,
 }
 
 #[test]
-fn static_routes_have_targets(rt: HostRuntime) -> Result<(), Fail> {
+fn static_routes_have_targets(rt: HostRuntime) {
     let gateway = Addr::new(0x0a00_0001);
-    let serial = Name::new(b"Serial0").ok_or("Serial0")?;
-    let name = Name::new(b"name").ok_or("name")?;
-    let null = Name::new(b"null0").ok_or("null0")?;
+    let serial = Name::new(b"Serial0").expect(&rt, "Serial0");
+    let name = Name::new(b"name").expect(&rt, "name");
+    let null = Name::new(b"null0").expect(&rt, "null0");
     let file = RouterText::new(rt.alloc());
     for (text, target, distance) in [
         (
@@ -134,7 +132,6 @@ fn static_routes_have_targets(rt: HostRuntime) -> Result<(), Fail> {
     ] {
         check_target(&rt, &file, text, target, distance);
     }
-    Ok(())
 }
 
 #[test]

@@ -3,7 +3,6 @@ use crate::line_answers::all_say;
 use rc_base::Name;
 use rc_config::OpenBlock;
 use rc_openings::LineRefusal;
-use std::test::Fail;
 
 /// Lines without indent that are passed over.
 const GLOBAL_IGNORED: &[u8] = b"\
@@ -248,17 +247,17 @@ ip ospf NAME area
 ";
 
 #[test]
-fn every_opening_says_what_its_table_says(rt: HostRuntime) -> Result<(), Fail> {
+fn openings_without_indent(rt: HostRuntime) {
     let unsupported = Some(LineRefusal::Unsupported);
-    let inside = OpenBlock::Interface(Name::new(b"Serial0").ok_or("Serial0")?);
-    for (block, text, refusal) in [
-        (OpenBlock::Global, GLOBAL_IGNORED, None),
-        (OpenBlock::Global, GLOBAL_REFUSED, unsupported),
-        (inside, INTERFACE_IGNORED, None),
-        (inside, INTERFACE_REFUSED, unsupported),
-        (OpenBlock::Ignored, GLOBAL_REFUSED, None),
-    ] {
-        assert!(rt; all_say(rt.alloc(), block, text, refusal), "{text:?}");
-    }
-    Ok(())
+    assert!(rt; all_say(rt.alloc(), &OpenBlock::Global, GLOBAL_IGNORED, None));
+    assert!(rt; all_say(rt.alloc(), &OpenBlock::Global, GLOBAL_REFUSED, unsupported));
+    assert!(rt; all_say(rt.alloc(), &OpenBlock::Ignored, GLOBAL_REFUSED, None));
+}
+
+#[test]
+fn openings_in_an_interface(rt: HostRuntime) {
+    let inside = OpenBlock::Interface(Name::new(b"Serial0").expect(&rt, "Serial0"));
+    let unsupported = Some(LineRefusal::Unsupported);
+    assert!(rt; all_say(rt.alloc(), &inside, INTERFACE_IGNORED, None));
+    assert!(rt; all_say(rt.alloc(), &inside, INTERFACE_REFUSED, unsupported));
 }

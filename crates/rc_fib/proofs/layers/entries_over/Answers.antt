@@ -6,5 +6,5 @@ use Rattle.rc_fib.proofs.layers.entries_over.Goals as goal
 
 pub returns-clause-in_order : goal.returns-clause-in_order
 returns-clause-in_order c =
-    let value : c.from_vec.result ≡ entries_over c.args.entries.now c.args.table.now = grind (arith, common_steps) in
-    in_order_over _ _ _ c.requires.table value (rw c.from_vec.ensures c.loop-route.invariant.canonical)
+    let value : c.loop-route.next ≡ entries_over c.args.entries.now c.args.table.now = grind (arith, common_steps) in
+    in_order_over _ _ _ c.requires.table value c.loop-route.invariant.canonical

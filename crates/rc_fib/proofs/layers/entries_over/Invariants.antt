@@ -7,6 +7,6 @@ use Rattle.rc_fib.proofs.layers.entries_over.Given as goal
 -- the routes so far have their entries
 abbrev pub invariant-loop-route : goal.invariant-loop-route
 invariant-loop-route l = record {
-  value : l.next.items ≡ entries_over l.entries (take l.route-index l.table);
-  canonical : All (λ (e : Entry). IsCidr e.prefix) l.next.items;
+  value : l.next ≡ entries_over l.entries (take l.route-index l.table);
+  canonical : All (λ (e : Entry). IsCidr e.prefix) l.next;
 }

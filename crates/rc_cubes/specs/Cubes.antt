@@ -1,0 +1,75 @@
+-- The cubes of a set of headers: the ways through its tree to true.
+use Rattle.std.specs.Prelude.{◌≡◌, ℕ, ◌-◌, ◌^◌, ◌<◌, ◌⊎◌, Bool, true, false, cond, List, [], ◌∷◌, ◌++◌, map, nat_lt, if◌then◌else◌, bit_or, Option, Some, None}
+use Rattle.rc_base.specs.declared.header.Header.{Header}
+use Rattle.rc_nodes.specs.declared.words.Node.{Node}
+use Rattle.rc_nodes.specs.Seats.{SeatView, SeatKnows}
+use Rattle.rc_trees.specs.Trees.{Tree, never, always, node}
+use Rattle.rc_trees.specs.Headers.{bit}
+use Rattle.rc_cubes.specs.declared.cube.Cube.{Cube}
+
+-- the header with a bit set to 1
+abbrev pub set_bit : Header → ℕ → Header
+set_bit h k =
+    if nat_lt k 32 then record h { dst = bit_or h.dst (2 ^ (31 - k)) }
+    else if nat_lt k 64 then record h { src = bit_or h.src (2 ^ (63 - k)) }
+    else if nat_lt k 72 then record h { proto = bit_or h.proto (2 ^ (71 - k)) }
+    else if nat_lt k 88 then record h { sport = bit_or h.sport (2 ^ (87 - k)) }
+    else record h { dport = bit_or h.dport (2 ^ (103 - k)) }
+
+abbrev pub zeros : Header
+zeros = record { dst = 0; src = 0; proto = 0; sport = 0; dport = 0 }
+
+-- the cube of all headers tests no bit
+abbrev pub all : Cube
+all = record { value = zeros; mask = zeros }
+
+-- a cube that tests one bit more
+unfoldable pub with_test : ℕ → Bool → Cube → Cube
+with_test v x c = record { value = cond x (set_bit c.value v) c.value; mask = set_bit c.mask v }
+
+-- the cubes of a tree: the ways to true, low sides first
+abbrev pub cubes : Tree → List Cube
+cubes never = []
+cubes always = all ∷ []
+cubes (node v l h) = map (with_test v false) (cubes l) ++ map (with_test v true) (cubes h)
+
+-- those behind a cube: it goes to the high side where its bit is 1, else to the low side, and the high side's are behind
+abbrev pub later : Cube → Tree → List Cube
+later c never = []
+later c always = []
+later c (node v l h) = cond (bit c.value v) (map (with_test v true) (later c h)) (map (with_test v false) (later c l) ++ map (with_test v true) (cubes h))
+
+-- the cubes that are left
+abbrev pub left : Option Cube → Tree → List Cube
+left None t = cubes t
+left (Some c) t = later c t
+
+-- what stands first, and what is left without it
+abbrev pub Goes : List Cube → Option Cube → List Cube → Type 0
+Goes before None after = (before ≡ []) × (after ≡ [])
+Goes before (Some c) after = before ≡ c ∷ after
+
+-- the seat knows the node's sides as the tree's
+pub record IsOpened (seat : SeatView) (n : Node) (t : Tree) : Type 0 where
+  pub low : Tree
+  pub high : Tree
+  pub is_node : t ≡ node n.var low high
+  pub knows_low : SeatKnows seat n.lo.index low
+  pub knows_high : SeatKnows seat n.hi.index high
+
+-- the value has 0 in each bit that isn't under the mask
+abbrev pub IsTight : Cube → Type 0
+IsTight c = (k : ℕ) → k < 104 → bit c.mask k ≡ false → bit c.value k ≡ false
+
+-- the bits under the mask are those of the value
+abbrev pub IsIn : Cube → (ℕ → Bool) → Type 0
+IsIn c bits = (k : ℕ) → k < 104 → bit c.mask k ≡ true → bits k ≡ bit c.value k
+
+-- in none of the cubes, and in one of them alone
+abbrev pub IsInNone : List Cube → (ℕ → Bool) → Type 0
+IsInNone [] bits = Unit {0}
+IsInNone (c ∷ cs) bits = (¬ (IsIn c bits)) × IsInNone cs bits
+
+abbrev pub IsInOne : List Cube → (ℕ → Bool) → Type 0
+IsInOne [] bits = ⊥
+IsInOne (c ∷ cs) bits = (IsIn c bits × IsInNone cs bits) ⊎ ((¬ (IsIn c bits)) × IsInOne cs bits)

@@ -1,9 +1,0 @@
-use Rattle.std.proofs.Common.{◌≡◌, take, []}
-use Rattle.std.specs.List.{fold}
-use Rattle.indexmap.specs.IndexSet.{insert_key}
-use Rattle.rc_route.specs.Hops.{same_hop}
-use Rattle.rc_fib.proofs.hop_set.set_of.Given as goal
-
--- the hops so far are put
-abbrev pub invariant-loop-hop : goal.invariant-loop-hop
-invariant-loop-hop l = l.set.keys ≡ fold (insert_key same_hop) [] (take l.hop-index l.hops)

@@ -1,0 +1,27 @@
+//! What sets of headers say of packets.
+ghost use Rattle.std.specs.Prelude.{◌≡◌, List, Option, ℕ};
+ghost use Rattle.rc_base.specs.Header.{IsHeader};
+ghost use Rattle.rc_base.specs.declared.header.Header.{Header};
+ghost use Rattle.rc_config.specs.declared.access_list.AccessList.{AccessList};
+ghost use Rattle.rc_config.specs.declared.access_list.AccessListLine.{AccessListLine};
+ghost use Rattle.rc_filter.specs.Verdict.{first_action, matches, passes};
+ghost use Rattle.rc_sets.specs.AccessLists.{line_set, lines_set, passing_set};
+ghost use Rattle.rc_trees.specs.Recipes.{has, tree};
+ghost use Rattle.rc_trees.specs.Trees.{IsReduced};
+
+/// The set of a line of an access list holds the headers that the line matches.
+pub fn a_line_is_its_set()
+    ensures { (l : AccessListLine) (h : Header) → IsHeader h → has (line_set l) h ≡ matches l h }
+{}
+
+/// The set of the lines of an access list holds the headers that they permit, and is a reduced tree.
+pub fn an_access_list_is_its_set()
+    ensures permits { (lines : List AccessListLine) (h : Header) → IsHeader h → has (lines_set lines) h ≡ first_action lines h }
+    ensures reduced { (lines : List AccessListLine) → IsReduced (tree (lines_set lines)) }
+{}
+
+/// The set of an access group holds the headers that it lets pass, and is a reduced tree.
+pub fn an_access_group_is_its_set()
+    ensures passes { (access_lists : List (List ℕ × AccessList)) (group : Option (List ℕ)) (h : Header) → IsHeader h → has (passing_set access_lists group) h ≡ passes access_lists group h }
+    ensures reduced { (access_lists : List (List ℕ × AccessList)) (group : Option (List ℕ)) → IsReduced (tree (passing_set access_lists group)) }
+{}
