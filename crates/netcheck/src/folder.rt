@@ -29,24 +29,65 @@ fn is_regular<R: Files + AllocGlobal + Clone + Drop>(
     Ok(found.is_file())
 }
 
+/// The name of an entry, where it is a file.
+fn file_name<R: Files + AllocGlobal + Clone + Drop>(
+    rt: &R,
+    alloc: Global,
+    entry: &DirEntry<R>,
+) -> io::Result<Option<FileName>> {
+    if !is_regular(rt, entry)? {
+        return Ok(None);
+    }
+    let text = String::from_str(alloc, entry.file_name())?;
+    Ok(Some(FileName::new(text)))
+}
+
+/// Puts the name of an entry to the others, where it is a file.
+fn put_entry<R: Files + AllocGlobal + Clone + Drop>(
+    rt: &R,
+    entry: &DirEntry<R>,
+    names: &mut Vec<FileName>,
+) -> io::Result<()> {
+    match file_name(rt, *names.allocator(), entry)? {
+        Some(name) => Ok(names.push(name)?),
+        None => Ok(()),
+    }
+}
+
+/// Puts the names of the files in a folder to the others.
+fn put_entries<R: Files + AllocGlobal + Clone + Drop>(
+    rt: &R,
+    dir: &str,
+    names: &mut Vec<FileName>,
+) -> io::Result<()> {
+    for entry in fs::read_dir(rt, dir)? {
+        put_entry(rt, &entry?, names)?;
+    }
+    Ok(())
+}
+
 fn listed<R: Files + AllocGlobal + Clone + Drop>(
     rt: &R,
     alloc: Global,
     dir: &str,
 ) -> io::Result<Vec<FileName>> {
     let mut names = Vec::new(alloc);
-    for entry in fs::read_dir(rt, dir)? {
-        let entry = entry?;
-        if is_regular(rt, &entry)? {
-            let text = String::from_str(alloc, entry.file_name())?;
-            names.push(FileName::new(text))?;
-        }
-    }
+    put_entries(rt, dir, &mut names)?;
     Ok(names)
 }
 
 /// The room with which the reading of a file begins: most configurations fit, so they are read at once.
 const ROOM: usize = 16_384;
+
+fn opened<R: Files + AllocGlobal>(
+    rt: &R,
+    alloc: Global,
+    dir: &str,
+    name: &str,
+) -> io::Result<R::File> {
+    let path = format!(in alloc; "{dir}/{name}")?;
+    fs::open(rt, path.as_str())
+}
 
 /// The first bytes of a file, at most `most + 1` of them: no more are read, however long the file is.
 fn front<R: Files + AllocGlobal>(
@@ -56,8 +97,7 @@ fn front<R: Files + AllocGlobal>(
     name: &str,
     most: usize,
 ) -> io::Result<Vec<u8>> {
-    let path = format!(in alloc; "{dir}/{name}")?;
-    let file = fs::open(rt, path.as_str())?;
+    let file = opened(rt, alloc, dir, name)?;
     let mut bytes = Vec::with_capacity(alloc, ROOM)?;
     let limit = (most as u64).saturating_add(1);
     file.take(limit).read_to_end(&mut bytes)?;
@@ -120,41 +160,70 @@ mod tests {
     use rc_outside::{Folder, SourceError};
     use std::fs;
     use std::os::unix::fs::symlink;
+    use std::process::Abort;
+    use std::rt::Files;
     use std::test::Fail;
 
-    #[test]
-    fn a_real_folder(rt: HostRuntime) -> Result<(), Fail> {
-        let _ = fs::remove_dir_all(&rt, "tried");
-        fs::create_dir(&rt, "tried")?;
-        fs::write(&rt, "tried/a.cfg", "hostname R1\n")?;
-        symlink(&rt, "a.cfg", "tried/b.cfg")?;
-        fs::create_dir(&rt, "tried/c.cfg")?;
-        let mut folder = RealFolder::new(rt.clone()?);
+    /// A file, a link to it and one that leads nowhere, each of a configuration's name, and a folder of such a name.
+    fn make_files<R: Files + AllocGlobal>(rt: &R) -> Result<(), Fail> {
+        let _ = fs::remove_dir_all(rt, "tried");
+        fs::create_dir(rt, "tried")?;
+        fs::write(rt, "tried/a.cfg", "hostname R1\n")?;
+        symlink(rt, "a.cfg", "tried/b.cfg")?;
+        fs::create_dir(rt, "tried/c.cfg")?;
+        Ok(())
+    }
 
+    fn names_are_files<R: Files + AllocGlobal + Abort + Clone + Drop>(
+        rt: &R,
+        folder: &mut RealFolder<R>,
+    ) -> Result<(), Fail> {
         let names = folder.names(rt.alloc(), "tried/").ok().ok_or("names")?;
         let mut names = names.into_vec();
         names.sort()?;
-        assert_eq!(rt; names.len(), 2);
-        assert_eq!(rt; names[0].as_str(), "a.cfg");
-        assert_eq!(rt; names[1].as_str(), "b.cfg");
+        assert!(rt; names.len() == 2);
+        assert!(rt; names[0].as_str() == "a.cfg");
+        assert!(rt; names[1].as_str() == "b.cfg");
+        Ok(())
+    }
 
+    fn fronts_are_read<R: Files + AllocGlobal + Abort + Clone + Drop>(
+        rt: &R,
+        folder: &mut RealFolder<R>,
+    ) -> Result<(), Fail> {
         for (most, text) in [(0, "h"), (7, "hostname"), (100, "hostname R1\n")] {
             let read = folder.read(rt.alloc(), "tried", "b.cfg", most);
             let bytes = read.ok().ok_or("read")?;
-            assert_eq!(rt; bytes.as_slice(), text.as_bytes());
+            assert!(rt; bytes.as_slice() == text.as_bytes());
         }
-        assert_eq!(rt; folder.faults, 0);
+        assert!(rt; folder.faults == 0);
+        Ok(())
+    }
 
-        // A folder that isn't there, a file in the place of a folder, and a link that leads nowhere.
-        symlink(&rt, "gone.cfg", "tried/d.cfg")?;
+    /// A folder that isn't there, a file in the place of a folder, a link that leads nowhere, and a file that isn't there.
+    fn failures_are_counted<R: Files + AllocGlobal + Abort + Clone + Drop>(
+        rt: &R,
+        folder: &mut RealFolder<R>,
+    ) -> Result<(), Fail> {
+        symlink(rt, "gone.cfg", "tried/d.cfg")?;
         for (dir, faults) in [("none", 1), ("tried/a.cfg", 2), ("tried", 3)] {
             let listing = folder.names(rt.alloc(), dir);
-            assert_eq!(rt; listing.err(), Some(SourceError::Failed));
-            assert_eq!(rt; folder.faults, faults);
+            assert!(rt; listing.err() == Some(SourceError::Failed));
+            assert!(rt; folder.faults == faults);
         }
         let read = folder.read(rt.alloc(), "tried", "none.cfg", 100);
-        assert_eq!(rt; read.err(), Some(SourceError::Failed));
-        assert_eq!(rt; folder.faults, 4);
+        assert!(rt; read.err() == Some(SourceError::Failed));
+        assert!(rt; folder.faults == 4);
+        Ok(())
+    }
+
+    #[test]
+    fn a_real_folder(rt: HostRuntime) -> Result<(), Fail> {
+        make_files(&rt)?;
+        let mut folder = RealFolder::new(rt.clone()?);
+        names_are_files(&rt, &mut folder)?;
+        fronts_are_read(&rt, &mut folder)?;
+        failures_are_counted(&rt, &mut folder)?;
         fs::remove_dir_all(&rt, "tried")?;
         Ok(())
     }

@@ -1,7 +1,6 @@
 mod Listed
 mod FileFronts
 mod ReadLaws
-mod Puts
 mod RouteLaws
 mod AnswerLaws
 mod OneAnswer

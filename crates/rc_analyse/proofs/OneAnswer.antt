@@ -17,12 +17,12 @@ use Rattle.rc_walk.specs.Moves.{plane_of}
 use Rattle.rc_words.specs.declared.request.Limits.{Limits}
 use Rattle.rc_words.specs.declared.request.Request.{Request}
 use Rattle.rc_analyse.specs.Net.{most_files, models_of, bytes_in, IsNetOfModels, IsNetOf, IsNetOfFew, IsNetOfConfigs, HasOneNet}
-use Rattle.rc_analyse.specs.Answer.{IsTold, IsToldAtFixed, IsFoundIn, IsFound, HasOneAnswer, dir_of}
+use Rattle.rc_analyse.specs.Answer.{IsShown, IsShownAtFixed, IsFoundIn, IsFound, HasOneAnswer, dir_of}
 use Rattle.rc_analyse.specs.Subject.{subject_of}
 use Rattle.rc_analyse.specs.declared.findings.Findings.{Findings}
 use Rattle.rc_analyse.specs.declared.findings.Findings.TheVariants as found
-use Rattle.rc_analyse.specs.declared.findings.Told.{Told}
-use Rattle.rc_analyse.specs.declared.findings.Told.TheVariants.{WalkOf}
+use Rattle.rc_analyse.specs.declared.findings.Shown.{Shown}
+use Rattle.rc_analyse.specs.declared.findings.Shown.TheVariants.{WalkOf}
 use Rattle.rc_analyse.specs.declared.subject.Subject.{Subject}
 use Rattle.rc_analyse.specs.declared.subject.Subject.TheVariants.{AllRouters, OneRouter, Packet}
 
@@ -47,23 +47,23 @@ one_net dir files this that h g =
     net_of_few (nat_lt most_files (length (filter is_config g.names))) (models_of (bytes_in dir files) (filter is_config g.names)) this that here g.is
 
 module _ (net : Network) where
-  told_at_fixed : (state : List RouterState) (subject : Subject) (this that : Told) → IsToldAtFixed net state subject this → IsToldAtFixed net state subject that → this ≡ that
-  told_at_fixed state AllRouters this that h g = h ∙ sym g
-  told_at_fixed state (OneRouter r) this that h g = h ∙ sym g
-  told_at_fixed state (Packet place header) this that (walk, first, is) (other, first_too, is_too) = is ∙ ap WalkOf (one_first_walk (plane_of net state) header place walk other first first_too) ∙ sym is_too
+  shown_at_fixed : (state : List RouterState) (subject : Subject) (this that : Shown) → IsShownAtFixed net state subject this → IsShownAtFixed net state subject that → this ≡ that
+  shown_at_fixed state AllRouters this that h g = h ∙ sym g
+  shown_at_fixed state (OneRouter r) this that h g = h ∙ sym g
+  shown_at_fixed state (Packet position header) this that (walk, first, is) (other, first_too, is_too) = is ∙ ap WalkOf (one_first_walk (plane_of net state) header position walk other first first_too) ∙ sym is_too
 
-  told_after : (outcome : Outcome) (subject : Subject) (this that : Told) → IsTold net outcome subject this → IsTold net outcome subject that → this ≡ that
-  told_after (ended.Fixed k state) subject this that h g = told_at_fixed state subject this that h g
-  told_after (ended.Repeats i k) subject this that h g = h ∙ sym g
-  told_after (ended.Limit n) subject this that h g = h ∙ sym g
+  shown_after : (outcome : Outcome) (subject : Subject) (this that : Shown) → IsShown net outcome subject this → IsShown net outcome subject that → this ≡ that
+  shown_after (ended.Fixed k state) subject this that h g = shown_at_fixed state subject this that h g
+  shown_after (ended.Repeats i k) subject this that h g = h ∙ sym g
+  shown_after (ended.Limit n) subject this that h g = h ∙ sym g
 
   found_in : (limits : Limits) (subject : Option Subject) (this that : Findings) → IsFoundIn net limits subject this → IsFoundIn net limits subject that → this ≡ that
   found_in limits None this that h g = h ∙ sym g
-  found_in limits (Some subject) this that (outcome, told, is, ended, after) (other, told_too, is_too, ended_too, after_too) =
+  found_in limits (Some subject) this that (outcome, shown, is, ended, after) (other, shown_too, is_too, ended_too, after_too) =
       let outcomes : outcome ≡ other = one_outcome net limits.rounds outcome other ended ended_too in
-      let here : IsTold net other subject told = subst (λ o. IsTold net o subject told) outcomes after in
-      let tolds : told ≡ told_too = told_after other subject told told_too here after_too in
-      is ∙ (λ i. found.Ended net (outcomes i) (tolds i)) ∙ sym is_too
+      let here : IsShown net other subject shown = subst (λ o. IsShown net o subject shown) outcomes after in
+      let all_shown : shown ≡ shown_too = shown_after other subject shown shown_too here after_too in
+      is ∙ (λ i. found.Ended net (outcomes i) (all_shown i)) ∙ sym is_too
 
 found_one : (r : Request) (net : Result Network NetRefusal) (this that : Findings) → IsFound r net this → IsFound r net that → this ≡ that
 found_one r (Err refusal) this that h g = h ∙ sym g

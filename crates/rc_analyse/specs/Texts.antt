@@ -11,8 +11,8 @@ use Rattle.rc_report.specs.WalkText.{walk_text}
 use Rattle.rc_rounds.specs.declared.outcome.Outcome.{Outcome}
 use Rattle.rc_rounds.specs.declared.outcome.Outcome.TheVariants.{Fixed, Repeats, Limit}
 use Rattle.rc_route.specs.declared.state.RouterState.{RouterState}
-use Rattle.rc_analyse.specs.declared.findings.Told.{Told}
-use Rattle.rc_analyse.specs.declared.findings.Told.TheVariants.{Nothing, AllRoutes, RoutesOf, WalkOf}
+use Rattle.rc_analyse.specs.declared.findings.Shown.{Shown}
+use Rattle.rc_analyse.specs.declared.findings.Shown.TheVariants.{Nothing, AllRoutes, RoutesOf, WalkOf}
 
 unfoldable pub usage_text : List ℕ
 usage_text = codes "usage: netcheck routes DIR [--router R]\n"
@@ -43,7 +43,7 @@ routes_in net state r = option_map_or (λ (s : RouterState). routes_text net r s
 unfoldable pub all_routes : Network → List RouterState → List ℕ
 all_routes net state = flat_map (routes_in net state) (router_ids net)
 
--- only at a fixed point are there routes to tell
+-- only at a fixed point are there routes to show
 abbrev pub routes_after : Network → Outcome → List ℕ
 routes_after net (Fixed k state) = all_routes net state
 routes_after net (Repeats i k) = []
@@ -55,12 +55,12 @@ routes_of_after net (Fixed k state) r = routes_in net state r
 routes_of_after net (Repeats i k) r = []
 routes_of_after net (Limit n) r = []
 
-abbrev pub told_text : Network → Outcome → Told → List ℕ
-told_text net outcome Nothing = []
-told_text net outcome AllRoutes = routes_after net outcome
-told_text net outcome (RoutesOf r) = routes_of_after net outcome r
-told_text net outcome (WalkOf walk) = walk_text net walk
+abbrev pub shown_text : Network → Outcome → Shown → List ℕ
+shown_text net outcome Nothing = []
+shown_text net outcome AllRoutes = routes_after net outcome
+shown_text net outcome (RoutesOf r) = routes_of_after net outcome r
+shown_text net outcome (WalkOf walk) = walk_text net walk
 
--- the outcome, and what is told after it
-abbrev pub outcome_text : Network → Outcome → Told → List ℕ
-outcome_text net outcome told = outcome_line outcome ++ told_text net outcome told
+-- the outcome, and what is shown after it
+abbrev pub outcome_text : Network → Outcome → Shown → List ℕ
+outcome_text net outcome shown = outcome_line outcome ++ shown_text net outcome shown

@@ -1,9 +1,9 @@
 //! What the words ask for is found and written.
-ghost use Rattle.std.specs.Prelude.{◌≡◌, ◌≢◌, ◌<◌, IsTrue, IfSome};
+ghost use Rattle.std.specs.Prelude.{◌≡◌, ◌≢◌, ◌<◌, IfSome};
 ghost use Rattle.rc_outside.specs.Causes.{Rose};
 ghost use Rattle.rc_words.specs.Request.{AreInRange};
 ghost use Rattle.rc_analyse.specs.Texts.{usage_text};
-ghost use Rattle.rc_analyse.specs.Answer.{IsPut, IsAnswer, IsCompleteWithout, IsSilent, dir_of, status_of, status_after, text_of};
+ghost use Rattle.rc_analyse.specs.Answer.{IsWrittenOrMemory, IsAnswer, IsCompleteWithout, IsSilent, MayAsk, files_asked, status_of, status_after, text_of};
 
 use crate::Status;
 use crate::findings::{Findings, analyse_folder};
@@ -17,7 +17,7 @@ use std::thread::Threads;
 
 /// Answers words that are not taken.
 pub(crate) fn answer_usage<S: Sink>(alloc: Global, out: &mut S) -> Status
-    ensures put { IsPut Status.Usage usage_text result (S.told out.old) (S.told out.new) }
+    ensures put { IsWrittenOrMemory Status.Usage usage_text result (S.told out.old) (S.told out.new) }
     ensures sink_only { result ≡ Status.Sink → Rose (S.faults out.old) (S.faults out.new) }
     ensures sink_always { S.faults out.old < S.faults out.new → result ≡ Status.Sink }
 {
@@ -53,7 +53,7 @@ fn status_of(found: &Findings) -> Status
 
 /// Answers what the files of a folder give. All of its memory is taken before the first line is put.
 fn answer_findings<S: Sink>(alloc: Global, ask: &Ask, found: &Findings, out: &mut S) -> Status
-    ensures put { IsPut (status_of found.now) (text_of ask.now found.now) result (S.told out.old) (S.told out.new) }
+    ensures put { IsWrittenOrMemory (status_of found.now) (text_of ask.now found.now) result (S.told out.old) (S.told out.new) }
     ensures sink_only { result ≡ Status.Sink → Rose (S.faults out.old) (S.faults out.new) }
     ensures sink_always { S.faults out.old < S.faults out.new → result ≡ Status.Sink }
 {
@@ -76,10 +76,10 @@ pub(crate) fn answer_folder<R: Threads + Sync + AllocGlobal, F: Folder, S: Sink,
     out: &mut S,
     gate: &G,
 ) -> Status
-    requires allowed { IsTrue (F.allows folder.old (dir_of request.now.ask)) }
+    requires allowed { MayAsk (F.allows folder.old) request.now.ask }
     requires limits { AreInRange request.now.limits }
-    ensures answer { IfSome (F.told folder.old) (λ files. IsAnswer files request.now result (S.told out.old) (S.told out.new)) }
-    ensures complete { IfSome (F.told folder.old) (λ files. IsCompleteWithout (Rose (F.faults folder.old) (F.faults folder.new)) (Rose (S.faults out.old) (S.faults out.new)) files request.now result (S.told out.old) (S.told out.new)) }
+    ensures answer { IfSome (files_asked request.now.ask (F.told folder.old)) (λ files. IsAnswer files request.now result (S.told out.old) (S.told out.new)) }
+    ensures complete { IfSome (files_asked request.now.ask (F.told folder.old)) (λ files. IsCompleteWithout (Rose (F.faults folder.old) (F.faults folder.new)) (Rose (S.faults out.old) (S.faults out.new)) files request.now result (S.told out.old) (S.told out.new)) }
     ensures never_usage { result ≢ Status.Usage }
     ensures silent { IsSilent result → S.told out.new ≡ S.told out.old }
     ensures source_only { result ≡ Status.Source → Rose (F.faults folder.old) (F.faults folder.new) }

@@ -1,5 +1,5 @@
 //! What the files of a folder give.
-ghost use Rattle.std.specs.Prelude.{◌≡◌, Ok, Err, IsTrue, IfOk, IfSome, length};
+ghost use Rattle.std.specs.Prelude.{◌≡◌, Ok, Err, IfOk, IfSome, length};
 ghost use Rattle.rc_config.specs.Lawful.{IsLawful};
 ghost use Rattle.rc_outside.specs.Causes.{HasCause};
 ghost use Rattle.rc_route.specs.Tables.{IsStateOf};
@@ -7,7 +7,8 @@ ghost use Rattle.rc_rounds.specs.Rounds.{IsInOrder};
 ghost use Rattle.rc_walk.specs.Moves.{plane_of};
 ghost use Rattle.rc_walk.specs.Walks.{IsFirstWalk};
 ghost use Rattle.rc_words.specs.Request.{AreInRange};
-ghost use Rattle.rc_analyse.specs.Answer.{AreFindings, HasOneAnswer, IsTold, HasEnded, IsToldAtFixed, dir_of};
+ghost use Rattle.rc_analyse.specs.Answer.{AreFindings, HasOneAnswer, IsShown, HasEnded, IsShownAtFixed, MayAsk, dir_of, files_asked};
+ghost use Rattle.rc_analyse.specs.Net.{IsNet};
 
 use crate::loading::read_network;
 use crate::subject::{Subject, subject_of};
@@ -25,7 +26,7 @@ use std::thread::Threads;
 
 /// What follows the outcome of the rounds in an answer.
 #[derive(Drop)]
-pub enum Told {
+pub enum Shown {
     /// Nothing, where the tables reached no fixed point.
     Nothing,
     /// The routes of all routers.
@@ -44,20 +45,28 @@ pub enum Findings {
     /// The network has no router or interface of the name that is asked for.
     NoPlace,
     /// The network, how its rounds end, and what follows that.
-    Ended(Network, Outcome, Told),
+    Ended(Network, Outcome, Shown),
 }
 
-/// The text of the folder that is asked about.
-pub(crate) fn dir_of(ask: &Ask) -> &str
-    ensures { result.now ≡ dir_of ask.now }
+/// The network of the files that are asked about, or their first refusal. Every command so far asks for the files under
+/// its DIR.
+fn network_asked<F: Folder>(
+    alloc: Global,
+    ask: &Ask,
+    folder: &mut F,
+) -> Result<Result<Network, NetRefusal>, SourceError>
+    requires { MayAsk (F.allows folder.old) ask.now }
+    ensures net { IfOk result (λ net. IfSome (files_asked ask.now (F.told folder.old)) (λ files. IsNet (dir_of ask.now) files net)) }
+    ensures lawful { IfOk result (λ net. IfOk net IsLawful) }
+    ensures cause { HasCause (F.faults folder.old) (F.faults folder.new) result }
 {
     match ask {
-        Ask::Routes { dir, router: _ } => dir.as_str(),
+        Ask::Routes { dir, router: _ } => read_network(alloc, dir.as_str(), folder),
         Ask::Trace {
             dir,
             place: _,
             header: _,
-        } => dir.as_str(),
+        } => read_network(alloc, dir.as_str(), folder),
     }
 }
 
@@ -66,54 +75,54 @@ fn first_walk(
     alloc: Global,
     net: &Network,
     state: &State,
-    place: Pos,
+    position: Pos,
     header: &Header,
 ) -> Result<Walk, AllocError>
     requires lawful { IsLawful net.now }
     requires state { IsStateOf (length net.now.routers) state.now }
-    ensures { IfOk result (IsFirstWalk (plane_of net.now state.now) header.now place) }
+    ensures { IfOk result (IsFirstWalk (plane_of net.now state.now) header.now position) }
 {
     let links = Links::of(alloc, net)?;
     let plane = Plane::of(alloc, net, &links, state)?;
-    trace(alloc, &plane, place, header)
+    trace(alloc, &plane, position, header)
 }
 
-/// What is told of a fixed point.
-fn told_at_fixed(
+/// What is shown of a fixed point.
+fn shown_at_fixed(
     alloc: Global,
     net: &Network,
     state: &State,
     subject: &Subject,
-) -> Result<Told, AllocError>
+) -> Result<Shown, AllocError>
     requires lawful { IsLawful net.now }
     requires state { IsStateOf (length net.now.routers) state.now }
-    ensures { IfOk result (IsToldAtFixed net.now state.now subject.now) }
+    ensures { IfOk result (IsShownAtFixed net.now state.now subject.now) }
 {
     match subject {
-        Subject::AllRouters => Ok(Told::AllRoutes),
-        Subject::OneRouter(router) => Ok(Told::RoutesOf(*router)),
-        Subject::Packet(place, header) => {
-            let walk = first_walk(alloc, net, state, *place, header)?;
-            Ok(Told::WalkOf(walk))
+        Subject::AllRouters => Ok(Shown::AllRoutes),
+        Subject::OneRouter(router) => Ok(Shown::RoutesOf(*router)),
+        Subject::Packet(position, header) => {
+            let walk = first_walk(alloc, net, state, *position, header)?;
+            Ok(Shown::WalkOf(walk))
         }
     }
 }
 
 /// What follows an outcome where this is asked.
-fn told_after(
+fn shown_after(
     alloc: Global,
     net: &Network,
     outcome: &Outcome,
     subject: &Subject,
-) -> Result<Told, AllocError>
+) -> Result<Shown, AllocError>
     requires lawful { IsLawful net.now }
     requires state { IsInOrder (length net.now.routers) outcome.now }
-    ensures { IfOk result (IsTold net.now outcome.now subject.now) }
+    ensures { IfOk result (IsShown net.now outcome.now subject.now) }
 {
     match outcome {
-        Outcome::Fixed(_, state) => told_at_fixed(alloc, net, state, subject),
-        Outcome::Repeats(_, _) => Ok(Told::Nothing),
-        Outcome::Limit(_) => Ok(Told::Nothing),
+        Outcome::Fixed(_, state) => shown_at_fixed(alloc, net, state, subject),
+        Outcome::Repeats(_, _) => Ok(Shown::Nothing),
+        Outcome::Limit(_) => Ok(Shown::Nothing),
     }
 }
 
@@ -130,8 +139,8 @@ fn analyse_network<R: Threads + Sync + AllocGlobal, G: Gate>(
     ensures { IfOk result (HasEnded net limits.now subject.now) }
 {
     let outcome = run_rounds(rt, &net, limits.rounds, limits.workers, gate)?;
-    let told = told_after(rt.alloc(), &net, &outcome, subject)?;
-    Ok(Findings::Ended(net, outcome, told))
+    let shown = shown_after(rt.alloc(), &net, &outcome, subject)?;
+    Ok(Findings::Ended(net, outcome, shown))
 }
 
 /// What the files of a folder give to a request.
@@ -141,16 +150,12 @@ pub(crate) fn analyse_folder<R: Threads + Sync + AllocGlobal, F: Folder, G: Gate
     folder: &mut F,
     gate: &G,
 ) -> Result<Findings, SourceError>
-    requires allowed { IsTrue (F.allows folder.old (dir_of request.now.ask)) }
+    requires allowed { MayAsk (F.allows folder.old) request.now.ask }
     requires limits { AreInRange request.now.limits }
-    ensures findings { IfOk result (λ found. IfSome (F.told folder.old) (λ files. AreFindings files request.now found)) }
+    ensures findings { IfOk result (λ found. IfSome (files_asked request.now.ask (F.told folder.old)) (λ files. AreFindings files request.now found)) }
     ensures cause { HasCause (F.faults folder.old) (F.faults folder.new) result }
 {
-    let said = match read_network(rt.alloc(), dir_of(&request.ask), folder) {
-        Ok(said) => said,
-        Err(error) => return Err(error),
-    };
-    let net = match said {
+    let net = match network_asked(rt.alloc(), &request.ask, folder)? {
         Ok(net) => net,
         Err(refusal) => return Ok(Findings::Refused(refusal)),
     };

@@ -13,7 +13,7 @@ mod status;
 mod subject;
 mod writing;
 
-pub use findings::{Findings, Told, one_answer};
+pub use findings::{Findings, Shown, one_answer};
 pub use listing::one_listing;
 pub use rc_words::{
     Ask, Limits, PlaceName, Request, WordText, WordsFault, first_word_is_a_command,

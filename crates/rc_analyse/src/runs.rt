@@ -1,9 +1,9 @@
 //! The top call.
-ghost use Rattle.std.specs.Prelude.{◌≡◌, ◌<◌, map, IsTrue, IsNone, IfSome, IfNone};
+ghost use Rattle.std.specs.Prelude.{◌≡◌, ◌<◌, map, IsNone, IfSome, IfNone};
 ghost use Rattle.rc_outside.specs.Causes.{Rose};
 ghost use Rattle.rc_words.specs.Request.{request_of};
 ghost use Rattle.rc_analyse.specs.Texts.{usage_text};
-ghost use Rattle.rc_analyse.specs.Answer.{dir_of, IsPut, IsAnswer, IsSilent, IsCompleteWithout, IsTakenWhenPlain};
+ghost use Rattle.rc_analyse.specs.Answer.{MayAsk, files_asked, IsWrittenOrMemory, IsAnswer, IsSilent, IsCompleteWithout, IsTakenWhenPlain};
 
 use crate::Status;
 use crate::answering::{answer_folder, answer_usage};
@@ -31,10 +31,10 @@ pub fn run<R: Threads + Sync + AllocGlobal, F: Folder, S: Sink, G: Gate>(
     out: &mut S,
     gate: &G,
 ) -> Status
-    requires { IfSome (request_of (map (λ w. w.now) words.now)) (λ r. IsTrue (F.allows folder.old (dir_of r.ask))) }
+    requires { IfSome (request_of (map (λ w. w.now) words.now)) (λ r. MayAsk (F.allows folder.old) r.ask) }
 
     // Words that clap refuses, or in which a place or an address isn't read, get the usage text, and no others do.
-    ensures usage { IfNone (request_of (map (λ w. w.now) words.now)) (IsPut Status.Usage usage_text result (S.told out.old) (S.told out.new)) }
+    ensures usage { IfNone (request_of (map (λ w. w.now) words.now)) (IsWrittenOrMemory Status.Usage usage_text result (S.told out.old) (S.told out.new)) }
     ensures usage_only { result ≡ Status.Usage → IsNone (request_of (map (λ w. w.now) words.now)) }
 
     // Plain words are taken, with the values that they say and else the defaults, where their place and addresses are read.
@@ -42,13 +42,13 @@ pub fn run<R: Threads + Sync + AllocGlobal, F: Folder, S: Sink, G: Gate>(
 
     // Where the files are told, the text and the status are those of the first refusal, or of the place that isn't there, or of
     // the rounds' outcome with the routes or the walk that are asked for.
-    ensures answer { IfSome (request_of (map (λ w. w.now) words.now)) (λ r. IfSome (F.told folder.old) (λ files. IsAnswer files r result (S.told out.old) (S.told out.new))) }
+    ensures answer { IfSome (request_of (map (λ w. w.now) words.now)) (λ r. IfSome (files_asked r.ask (F.told folder.old)) (λ files. IsAnswer files r result (S.told out.old) (S.told out.new))) }
 
     // Where reading or memory failed, nothing is written.
     ensures silent { IsSilent result → S.told out.new ≡ S.told out.old }
 
     // Without a fault the whole text is written, unless memory runs out.
-    ensures complete { IfSome (request_of (map (λ w. w.now) words.now)) (λ r. IfSome (F.told folder.old) (λ files.
+    ensures complete { IfSome (request_of (map (λ w. w.now) words.now)) (λ r. IfSome (files_asked r.ask (F.told folder.old)) (λ files.
         IsCompleteWithout (Rose (F.faults folder.old) (F.faults folder.new)) (Rose (S.faults out.old) (S.faults out.new)) files r result (S.told out.old) (S.told out.new))) }
 
     ensures source_only { result ≡ Status.Source → Rose (F.faults folder.old) (F.faults folder.new) }

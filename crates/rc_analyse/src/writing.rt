@@ -1,14 +1,13 @@
 //! Texts go to the sink line by line.
-ghost use Rattle.std.specs.Prelude.{◌≡◌, ◌≤◌, ◌++◌, [], flat_map, OnOk, OnErr};
+ghost use Rattle.std.specs.Prelude.{◌≡◌, ◌++◌, [], flat_map};
 ghost use Rattle.std.specs.Option.{option_map_or};
-ghost use Rattle.rc_outside.specs.Causes.{Rose};
-ghost use Rattle.rc_outside.specs.Sink.{appended, AppendsFront};
+ghost use Rattle.rc_outside.specs.Put.{IsPut};
 ghost use Rattle.rc_report.specs.Parts.{part_text};
-ghost use Rattle.rc_analyse.specs.Texts.{usage_text, refused_line, no_place_line, outcome_line, routes_in, all_routes, routes_after, routes_of_after, told_text, outcome_text};
+ghost use Rattle.rc_analyse.specs.Texts.{usage_text, refused_line, no_place_line, outcome_line, routes_in, all_routes, routes_after, routes_of_after, shown_text, outcome_text};
 ghost use Rattle.rc_analyse.specs.Subject.{behind_colon, place_text};
 ghost use Rattle.rc_analyse.specs.Answer.{text_of};
 
-use crate::{Findings, Told};
+use crate::{Findings, Shown};
 use rc_base::{FileName, RouterId};
 use rc_config::Network;
 use rc_network::{NetCause, NetRefusal};
@@ -20,11 +19,7 @@ use rc_words::{Ask, PlaceName, WordText};
 
 /// Puts a line of bytes as they are.
 fn put_text<S: Sink>(out: &mut S, line: &mut Buffer, text: &[u8]) -> Result<(), SinkFault>
-    ensures ok { OnOk result (S.told out.new ≡ appended (S.told out.old) text.now) }
-    ensures err { OnErr result (AppendsFront (S.told out.old) (S.told out.new) text.now) }
-    ensures left { OnOk result (S.faults out.new ≡ S.faults out.old) }
-    ensures later { S.faults out.old ≤ S.faults out.new }
-    ensures cause { OnErr result (Rose (S.faults out.old) (S.faults out.new)) }
+    ensures { IsPut S.Sink out.old out.new result text.now }
 {
     put_line(out, line, &[Part::Text(text)])
 }
@@ -45,18 +40,11 @@ fn usage_lines() -> [&'static [u8]; 5]
 
 /// Puts the usage text.
 pub(crate) fn put_usage<S: Sink>(out: &mut S, line: &mut Buffer) -> Result<(), SinkFault>
-    ensures ok { OnOk result (S.told out.new ≡ appended (S.told out.old) usage_text) }
-    ensures err { OnErr result (AppendsFront (S.told out.old) (S.told out.new) usage_text) }
-    ensures left { OnOk result (S.faults out.new ≡ S.faults out.old) }
-    ensures later { S.faults out.old ≤ S.faults out.new }
-    ensures cause { OnErr result (Rose (S.faults out.old) (S.faults out.new)) }
+    ensures { IsPut S.Sink out.old out.new result usage_text }
 {
     let lines = usage_lines();
     for text in &lines {
-        match put_text(out, line, text) {
-            Ok(()) => {}
-            Err(fault) => return Err(fault),
-        }
+        put_text(out, line, text)?;
     }
     Ok(())
 }
@@ -84,11 +72,7 @@ fn put_refusal<S: Sink>(
     line: &mut Buffer,
     refusal: &NetRefusal,
 ) -> Result<(), SinkFault>
-    ensures ok { OnOk result (S.told out.new ≡ appended (S.told out.old) (refused_line refusal.now)) }
-    ensures err { OnErr result (AppendsFront (S.told out.old) (S.told out.new) (refused_line refusal.now)) }
-    ensures left { OnOk result (S.faults out.new ≡ S.faults out.old) }
-    ensures later { S.faults out.old ≤ S.faults out.new }
-    ensures cause { OnErr result (Rose (S.faults out.old) (S.faults out.new)) }
+    ensures { IsPut S.Sink out.old out.new result (refused_line refusal.now) }
 {
     match refusal {
         NetRefusal::TooManyFiles => put_text(out, line, b"refused folder: 10\n"),
@@ -131,32 +115,24 @@ fn outcome_parts(outcome: &Outcome) -> [Part<'static>; 5]
 
 /// Puts the line of an outcome.
 fn put_outcome<S: Sink>(out: &mut S, line: &mut Buffer, outcome: &Outcome) -> Result<(), SinkFault>
-    ensures ok { OnOk result (S.told out.new ≡ appended (S.told out.old) (outcome_line outcome.now)) }
-    ensures err { OnErr result (AppendsFront (S.told out.old) (S.told out.new) (outcome_line outcome.now)) }
-    ensures left { OnOk result (S.faults out.new ≡ S.faults out.old) }
-    ensures later { S.faults out.old ≤ S.faults out.new }
-    ensures cause { OnErr result (Rose (S.faults out.old) (S.faults out.new)) }
+    ensures { IsPut S.Sink out.old out.new result (outcome_line outcome.now) }
 {
     let parts = outcome_parts(outcome);
     put_line(out, line, &parts)
 }
 
-/// Puts the routes of the router at a place, where the state has it.
+/// Puts the routes of the router of an index, where the state has it.
 fn put_routes_at<S: Sink>(
     out: &mut S,
     line: &mut Buffer,
     net: &Network,
     state: &State,
-    place: usize,
+    index: usize,
 ) -> Result<(), SinkFault>
-    ensures ok { OnOk result (S.told out.new ≡ appended (S.told out.old) (routes_in net.now state.now place)) }
-    ensures err { OnErr result (AppendsFront (S.told out.old) (S.told out.new) (routes_in net.now state.now place)) }
-    ensures left { OnOk result (S.faults out.new ≡ S.faults out.old) }
-    ensures later { S.faults out.old ≤ S.faults out.new }
-    ensures cause { OnErr result (Rose (S.faults out.old) (S.faults out.new)) }
+    ensures { IsPut S.Sink out.old out.new result (routes_in net.now state.now index) }
 {
-    match state.as_slice().get(place) {
-        Some(known) => put_routes(out, line, net, RouterId::at(place), &known.table),
+    match state.as_slice().get(index) {
+        Some(known) => put_routes(out, line, net, RouterId::at(index), &known.table),
         None => Ok(()),
     }
 }
@@ -168,17 +144,10 @@ fn put_all_routes<S: Sink>(
     net: &Network,
     state: &State,
 ) -> Result<(), SinkFault>
-    ensures ok { OnOk result (S.told out.new ≡ appended (S.told out.old) (all_routes net.now state.now)) }
-    ensures err { OnErr result (AppendsFront (S.told out.old) (S.told out.new) (all_routes net.now state.now)) }
-    ensures left { OnOk result (S.faults out.new ≡ S.faults out.old) }
-    ensures later { S.faults out.old ≤ S.faults out.new }
-    ensures cause { OnErr result (Rose (S.faults out.old) (S.faults out.new)) }
+    ensures { IsPut S.Sink out.old out.new result (all_routes net.now state.now) }
 {
-    for place in 0..net.routers.len() {
-        match put_routes_at(out, line, net, state, place) {
-            Ok(()) => {}
-            Err(fault) => return Err(fault),
-        }
+    for index in 0..net.routers.len() {
+        put_routes_at(out, line, net, state, index)?;
     }
     Ok(())
 }
@@ -190,11 +159,7 @@ fn put_routes_after<S: Sink>(
     net: &Network,
     outcome: &Outcome,
 ) -> Result<(), SinkFault>
-    ensures ok { OnOk result (S.told out.new ≡ appended (S.told out.old) (routes_after net.now outcome.now)) }
-    ensures err { OnErr result (AppendsFront (S.told out.old) (S.told out.new) (routes_after net.now outcome.now)) }
-    ensures left { OnOk result (S.faults out.new ≡ S.faults out.old) }
-    ensures later { S.faults out.old ≤ S.faults out.new }
-    ensures cause { OnErr result (Rose (S.faults out.old) (S.faults out.new)) }
+    ensures { IsPut S.Sink out.old out.new result (routes_after net.now outcome.now) }
 {
     match outcome {
         Outcome::Fixed(_, state) => put_all_routes(out, line, net, state),
@@ -211,11 +176,7 @@ fn put_routes_of_after<S: Sink>(
     outcome: &Outcome,
     router: RouterId,
 ) -> Result<(), SinkFault>
-    ensures ok { OnOk result (S.told out.new ≡ appended (S.told out.old) (routes_of_after net.now outcome.now router)) }
-    ensures err { OnErr result (AppendsFront (S.told out.old) (S.told out.new) (routes_of_after net.now outcome.now router)) }
-    ensures left { OnOk result (S.faults out.new ≡ S.faults out.old) }
-    ensures later { S.faults out.old ≤ S.faults out.new }
-    ensures cause { OnErr result (Rose (S.faults out.old) (S.faults out.new)) }
+    ensures { IsPut S.Sink out.old out.new result (routes_of_after net.now outcome.now router) }
 {
     match outcome {
         Outcome::Fixed(_, state) => put_routes_at(out, line, net, state, router.index()),
@@ -225,24 +186,20 @@ fn put_routes_of_after<S: Sink>(
 }
 
 /// Puts what follows an outcome.
-fn put_told<S: Sink>(
+fn put_shown<S: Sink>(
     out: &mut S,
     line: &mut Buffer,
     net: &Network,
     outcome: &Outcome,
-    told: &Told,
+    shown: &Shown,
 ) -> Result<(), SinkFault>
-    ensures ok { OnOk result (S.told out.new ≡ appended (S.told out.old) (told_text net.now outcome.now told.now)) }
-    ensures err { OnErr result (AppendsFront (S.told out.old) (S.told out.new) (told_text net.now outcome.now told.now)) }
-    ensures left { OnOk result (S.faults out.new ≡ S.faults out.old) }
-    ensures later { S.faults out.old ≤ S.faults out.new }
-    ensures cause { OnErr result (Rose (S.faults out.old) (S.faults out.new)) }
+    ensures { IsPut S.Sink out.old out.new result (shown_text net.now outcome.now shown.now) }
 {
-    match told {
-        Told::Nothing => Ok(()),
-        Told::AllRoutes => put_routes_after(out, line, net, outcome),
-        Told::RoutesOf(router) => put_routes_of_after(out, line, net, outcome, *router),
-        Told::WalkOf(walk) => put_walk(out, line, net, walk),
+    match shown {
+        Shown::Nothing => Ok(()),
+        Shown::AllRoutes => put_routes_after(out, line, net, outcome),
+        Shown::RoutesOf(router) => put_routes_of_after(out, line, net, outcome, *router),
+        Shown::WalkOf(walk) => put_walk(out, line, net, walk),
     }
 }
 
@@ -252,18 +209,12 @@ fn put_ended<S: Sink>(
     line: &mut Buffer,
     net: &Network,
     outcome: &Outcome,
-    told: &Told,
+    shown: &Shown,
 ) -> Result<(), SinkFault>
-    ensures ok { OnOk result (S.told out.new ≡ appended (S.told out.old) (outcome_text net.now outcome.now told.now)) }
-    ensures err { OnErr result (AppendsFront (S.told out.old) (S.told out.new) (outcome_text net.now outcome.now told.now)) }
-    ensures left { OnOk result (S.faults out.new ≡ S.faults out.old) }
-    ensures later { S.faults out.old ≤ S.faults out.new }
-    ensures cause { OnErr result (Rose (S.faults out.old) (S.faults out.new)) }
+    ensures { IsPut S.Sink out.old out.new result (outcome_text net.now outcome.now shown.now) }
 {
-    match put_outcome(out, line, outcome) {
-        Ok(()) => put_told(out, line, net, outcome, told),
-        Err(fault) => Err(fault),
-    }
+    put_outcome(out, line, outcome)?;
+    put_shown(out, line, net, outcome, shown)
 }
 
 /// What stands in the line of a place that isn't there, by its names. What it doesn't have is an empty text.
@@ -322,11 +273,7 @@ fn no_place_parts(ask: &Ask) -> [Part<'_>; 5]
 
 /// Puts the line of a place that isn't there.
 fn put_no_place<S: Sink>(out: &mut S, line: &mut Buffer, ask: &Ask) -> Result<(), SinkFault>
-    ensures ok { OnOk result (S.told out.new ≡ appended (S.told out.old) (no_place_line (place_text ask.now))) }
-    ensures err { OnErr result (AppendsFront (S.told out.old) (S.told out.new) (no_place_line (place_text ask.now))) }
-    ensures left { OnOk result (S.faults out.new ≡ S.faults out.old) }
-    ensures later { S.faults out.old ≤ S.faults out.new }
-    ensures cause { OnErr result (Rose (S.faults out.old) (S.faults out.new)) }
+    ensures { IsPut S.Sink out.old out.new result (no_place_line (place_text ask.now)) }
 {
     let parts = no_place_parts(ask);
     put_line(out, line, &parts)
@@ -339,15 +286,11 @@ pub(crate) fn put_findings<S: Sink>(
     ask: &Ask,
     found: &Findings,
 ) -> Result<(), SinkFault>
-    ensures ok { OnOk result (S.told out.new ≡ appended (S.told out.old) (text_of ask.now found.now)) }
-    ensures err { OnErr result (AppendsFront (S.told out.old) (S.told out.new) (text_of ask.now found.now)) }
-    ensures left { OnOk result (S.faults out.new ≡ S.faults out.old) }
-    ensures later { S.faults out.old ≤ S.faults out.new }
-    ensures cause { OnErr result (Rose (S.faults out.old) (S.faults out.new)) }
+    ensures { IsPut S.Sink out.old out.new result (text_of ask.now found.now) }
 {
     match found {
         Findings::Refused(refusal) => put_refusal(out, line, refusal),
         Findings::NoPlace => put_no_place(out, line, ask),
-        Findings::Ended(net, outcome, told) => put_ended(out, line, net, outcome, told),
+        Findings::Ended(net, outcome, shown) => put_ended(out, line, net, outcome, shown),
     }
 }

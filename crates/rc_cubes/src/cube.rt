@@ -25,52 +25,30 @@ fn set_bit(header: &Header, place: u8) -> Header
     requires { place < 104 }
     ensures { result ≡ set_bit header.now place }
 {
-    let Header {
-        dst,
-        src,
-        proto,
-        sport,
-        dport,
-    } = *header;
     if place < 32 {
         Header {
-            dst: with_address_bit(dst, place),
-            src,
-            proto,
-            sport,
-            dport,
+            dst: with_address_bit(header.dst, place),
+            ..*header
         }
     } else if place < 64 {
         Header {
-            dst,
-            src: with_address_bit(src, place - 32),
-            proto,
-            sport,
-            dport,
+            src: with_address_bit(header.src, place - 32),
+            ..*header
         }
     } else if place < 72 {
         Header {
-            dst,
-            src,
-            proto: proto | (1 << (71 - place)),
-            sport,
-            dport,
+            proto: header.proto | (1 << (71 - place)),
+            ..*header
         }
     } else if place < 88 {
         Header {
-            dst,
-            src,
-            proto,
-            sport: sport | (1 << (87 - place)),
-            dport,
+            sport: header.sport | (1 << (87 - place)),
+            ..*header
         }
     } else {
         Header {
-            dst,
-            src,
-            proto,
-            sport,
-            dport: dport | (1 << (103 - place)),
+            dport: header.dport | (1 << (103 - place)),
+            ..*header
         }
     }
 }

@@ -17,7 +17,7 @@ use std::alloc::{AllocError, Global};
 
 /// How far the rounds are.
 ///
-/// Four states are kept while the next one is made: those after the last two rounds, and that of the checkpoint, the round of the
+/// Beside the state that is made three are kept: those after the last two rounds, and that of the checkpoint, the round of the
 /// greatest power of two below. Where the checkpoint is one of these two rounds, its state is kept once, so none is ever copied.
 pub(crate) struct Progress {
     /// How many rounds are made.

@@ -1,2 +1,4 @@
 pub mod Builds
 pub mod AccessLists
+pub mod Regions
+pub mod Rows

@@ -4,4 +4,6 @@
 #[cfg(test)]
 mod chains;
 #[cfg(test)]
+mod cubes;
+#[cfg(test)]
 mod operations;

@@ -13,9 +13,9 @@ use std::test::Fail;
 
 /// The trees that the operations on the chains of two prefixes may make.
 #[derive(Drop)]
-struct Pair {
-    left: Prefix,
-    right: Prefix,
+pub(crate) struct Pair {
+    pub left: Prefix,
+    pub right: Prefix,
 }
 
 impl May for Pair {
@@ -26,14 +26,14 @@ impl May for Pair {
 
 /// The sets of the headers of both prefixes, of either, and of the first alone.
 #[derive(Clone, Copy)]
-struct Sets {
-    both: Ref,
-    either: Ref,
-    alone: Ref,
+pub(crate) struct Sets {
+    pub both: Ref,
+    pub either: Ref,
+    pub alone: Ref,
 }
 
 /// Makes the sets by one work, whose memo serves all three operations.
-fn sets_of(
+pub(crate) fn sets_of(
     work: &mut Work<Pair>,
     nodes: &Nodes<Pair>,
     left: Prefix,
@@ -109,11 +109,11 @@ fn holders_of(alloc: Global, left: Prefix, right: Prefix, to: &[u32]) -> Result<
     Ok(found)
 }
 
-fn prefix(address: u32, len: u8) -> Option<Prefix> {
+pub(crate) fn prefix(address: u32, len: u8) -> Option<Prefix> {
     Prefix::new(Addr::new(address), len)
 }
 
-const TEN: u32 = 10 << 24;
+pub(crate) const TEN: u32 = 10 << 24;
 
 #[test]
 fn a_prefix_and_one_inside_it(rt: HostRuntime) -> Result<(), Fail> {

@@ -91,3 +91,14 @@ fn a_prepared_table_has_routes_by_index(rt: HostRuntime) -> Result<(), Fail> {
     assert!(rt; fib.route(4).is_none());
     Ok(())
 }
+
+#[test]
+fn a_prepared_table_has_an_entry_for_each_route(rt: HostRuntime) -> Result<(), Fail> {
+    let fib = prepared(rt.alloc())?;
+    assert!(rt; fib.entries().len() == 4);
+    for (entry, len) in fib.entries().iter().zip([0, 8, 24, 24]) {
+        assert!(rt; entry.prefix.len() == len, "{len}");
+        assert!(rt; entry.hops.len() == 1, "{len}");
+    }
+    Ok(())
+}

@@ -4,7 +4,7 @@ ghost use Rattle.std.specs.Prelude.{◌≡◌, ◌≤◌, ◌∷◌, ◌++◌, [
 use rc_base::{Addr, Communities, IfId, Items, Origin, Prefix, RouterId};
 use rc_route::{
     BgpPath, Hop, Hops, PathSource, Route, RouterState, Source, State, Table, compare_hops,
-    compare_path_sources, compare_sources, copy, equal, same_hop,
+    compare_path_sources, compare_sources, copy, equal, same_hop, same_table,
 };
 use std::alloc::{AllocError, Global};
 use std::process::Abort;
@@ -171,6 +171,15 @@ fn states_differ_in_what_they_lack(rt: HostRuntime) -> Result<(), Fail> {
     ] {
         check_equal(&rt, &state, &other, false, FIELDS);
     }
+    Ok(())
+}
+
+#[test]
+fn tables_are_the_same(rt: HostRuntime) -> Result<(), Fail> {
+    let router = router_at(rt.alloc(), FIELDS)?;
+    let other = router_at(rt.alloc(), 4)?;
+    assert!(rt; same_table(&router.table, &router.table));
+    assert!(rt; !same_table(&router.table, &other.table));
     Ok(())
 }
 

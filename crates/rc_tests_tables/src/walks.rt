@@ -170,15 +170,15 @@ fn a_walk_ends_in_each_way(rt: HostRuntime) -> Result<(), Fail> {
     let unresolved = Hop::Via(Addr::new(0x0a00_0002), None);
     let loopback = Hop::Dev(device(0, 1));
     for (hop, dst, kind) in [
-        (straight, 0x0101_0101, Kind::Accepted),
-        (unresolved, 0x0808_0808, Kind::NoRoute),
-        (Hop::Null, 0x0808_0808, Kind::NullRouted),
-        (loopback, 0x0101_0109, Kind::Unreachable),
-        (nobody, 0x0808_0808, Kind::Exits),
-        (straight, 0x0808_0808, Kind::Exits),
-        (straight, 0x0a00_0009, Kind::Delivered),
+        (&straight, 0x0101_0101, Kind::Accepted),
+        (&unresolved, 0x0808_0808, Kind::NoRoute),
+        (&Hop::Null, 0x0808_0808, Kind::NullRouted),
+        (&loopback, 0x0101_0109, Kind::Unreachable),
+        (&nobody, 0x0808_0808, Kind::Exits),
+        (&straight, 0x0808_0808, Kind::Exits),
+        (&straight, 0x0a00_0009, Kind::Delivered),
     ] {
-        check_end(&rt, rt.alloc(), &hop, dst, kind)?;
+        check_end(&rt, rt.alloc(), hop, dst, kind)?;
     }
     Ok(())
 }

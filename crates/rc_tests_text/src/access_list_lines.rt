@@ -15,12 +15,8 @@ const BAD: Option<LineError> = Some(LineError::Refused(LineRefusal::BadValue));
 
 const UNSUPPORTED: Option<LineError> = Some(LineError::Refused(LineRefusal::Unsupported));
 
-/// The line of an access list that the text is in this block, and the kind of the list.
-fn line_in(
-    file: &RouterText,
-    block: &OpenBlock,
-    text: &[u8],
-) -> Option<(AccessListKind, AccessListLine)>
+/// The line of an access list that the text is in this block.
+fn line_in(file: &RouterText, block: &OpenBlock, text: &[u8]) -> Option<AccessListLine>
     requires { HasLawfulLists file.now }
 {
     let line = Lines::new(text).next()?;
@@ -31,13 +27,36 @@ fn line_in(
             file,
         },
     ) {
-        Ok(
-            Command::AccessListLine {
-                list: _,
-                kind,
-                line,
-            },
-        ) => Some((*kind, *line)),
+        Ok(Command::AccessListLine { line, .. }) => Some(*line),
+        _ => None,
+    }
+}
+
+/// The number of that line.
+fn sequence_in(file: &RouterText, block: &OpenBlock, text: &[u8]) -> Option<u32>
+    requires { HasLawfulLists file.now }
+{
+    let line = Lines::new(text).next()?;
+    match &read_line(
+        &line,
+        Context {
+            block: *block,
+            file,
+        },
+    ) {
+        Ok(Command::AccessListLine { line, .. }) => Some(line.sequence),
+        _ => None,
+    }
+}
+
+/// The kind of the list to which the text adds a line, where it stands without indent.
+fn kind_in(file: &RouterText, text: &[u8]) -> Option<AccessListKind>
+    requires { HasLawfulLists file.now }
+{
+    let block = OpenBlock::Global;
+    let line = Lines::new(text).next()?;
+    match &read_line(&line, Context { block, file }) {
+        Ok(Command::AccessListLine { kind, .. }) => Some(*kind),
         _ => None,
     }
 }
@@ -71,7 +90,7 @@ fn a_line_has_its_tests(rt: HostRuntime) {
     let file = RouterText::new(rt.alloc());
     let text = b"permit tcp any host 10.0.0.1 range 22 telnet log";
     match &line_in(&file, &block, text) {
-        Some((_, line)) => check_range(&rt, line),
+        Some(line) => check_range(&rt, line),
         None => assert!(rt; false, "no line"),
     }
 }
@@ -106,8 +125,7 @@ fn numbers_tell_kinds_of_lists(rt: HostRuntime) {
             AccessListKind::Extended,
         ),
     ] {
-        let found = line_in(&file, &OpenBlock::Global, text);
-        assert!(rt; found.map(|l| l.0) == Some(kind), "{text:?}");
+        assert!(rt; kind_in(&file, text) == Some(kind), "{text:?}");
     }
 }
 
@@ -140,8 +158,7 @@ ip access-list standard 5
 fn check_next(rt: &impl Abort, file: &RouterText, block: &OpenBlock)
     requires { HasLawfulLists file.now }
 {
-    let next = line_in(file, block, b"deny any");
-    assert!(rt; next.map(|l| l.1.sequence) == Some(25));
+    assert!(rt; sequence_in(file, block, b"deny any") == Some(25));
     assert!(rt; refusal_in(file, block, b"15 deny any") == BAD);
 }
 
@@ -149,8 +166,8 @@ fn check_next(rt: &impl Abort, file: &RouterText, block: &OpenBlock)
 fn lines_get_numbers(rt: HostRuntime) {
     let list = Name::new(b"5").expect(&rt, "5");
     let block = OpenBlock::AccessList(list, AccessListKind::Standard);
-    let first = line_in(&RouterText::new(rt.alloc()), &block, b"deny any");
-    assert!(rt; first.map(|l| l.1.sequence) == Some(10));
+    let empty = RouterText::new(rt.alloc());
+    assert!(rt; sequence_in(&empty, &block, b"deny any") == Some(10));
     match &read_file(rt.alloc(), FIFTEEN) {
         Ok(file) => check_next(&rt, file, &block),
         Err(_) => assert!(rt; false, "refused"),

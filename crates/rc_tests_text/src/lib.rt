@@ -17,6 +17,8 @@ mod files_with_lists;
 #[cfg(test)]
 mod files_with_policies;
 #[cfg(test)]
+mod forms;
+#[cfg(test)]
 mod interface_lines;
 #[cfg(test)]
 mod line_answers;
@@ -32,6 +34,8 @@ mod names;
 mod numbered;
 #[cfg(test)]
 mod openings;
+#[cfg(test)]
+mod orders;
 #[cfg(test)]
 mod policies;
 #[cfg(test)]

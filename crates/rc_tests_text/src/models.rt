@@ -182,12 +182,8 @@ fn masks_have_1_to_32_bits(rt: HostRuntime) {
     assert!(rt; network == Some(167_772_160));
 }
 
-/// The model with three static routes, of which two are alike.
-fn with_routes(
-    mut text: RouterText,
-    prefix: Prefix,
-    serial: Name,
-) -> Result<RouterText, AllocError> {
+/// Puts three static routes, of which two are alike.
+fn put_routes(text: &mut RouterText, prefix: Prefix, serial: Name) -> Result<(), AllocError> {
     for (target, distance) in [
         (Target::Dev(serial), 250),
         (Target::Null, 1),
@@ -198,9 +194,9 @@ fn with_routes(
             target,
             distance,
         };
-        text = text.put(Command::StaticRoute { route })?;
+        text.apply(Command::StaticRoute { route })?;
     }
-    Ok(text)
+    Ok(())
 }
 
 fn check_routes(rt: &impl Abort, routes: &[StaticRoute], serial: Name) {
@@ -214,7 +210,8 @@ fn check_routes(rt: &impl Abort, routes: &[StaticRoute], serial: Name) {
 fn static_routes_stay_in_order(rt: HostRuntime) -> Result<(), Fail> {
     let prefix = Prefix::new(Addr::new(167_837_696), 16).expect(&rt, "10.1.0.0/16");
     let serial = Name::new(b"Serial1").expect(&rt, "Serial1");
-    let text = with_routes(RouterText::new(rt.alloc()), prefix, serial)?;
+    let mut text = RouterText::new(rt.alloc());
+    put_routes(&mut text, prefix, serial)?;
     assert!(rt; text.interfaces.is_empty());
     check_routes(&rt, text.static_routes.as_slice(), serial);
     Ok(())

@@ -1,26 +1,27 @@
-use Rattle.std.proofs.Common.{◌+◌, ◌-◌, ◌∙◌, refl, length, flat_map, arith}
-use Rattle.std.specs.List.{range_with_len}
-use Rattle.rc_analyse.specs.Texts.{routes_in}
-use Rattle.rc_report.proofs.InHandLaws.{put-more, put-more-failed}
-use Rattle.rc_analyse.proofs.RouteLaws.{all_left, next_left}
+use Rattle.std.proofs.Common.{Ok, subst, flat_map, arith}
+use Rattle.rc_config.specs.Members.{router_ids}
+use Rattle.rc_outside.specs.Put.{IsPut}
+use Rattle.rc_outside.proofs.PutLaws.{each_put, each_stopped}
+use Rattle.rc_report.specs.declared.put.SinkFault.{SinkFault}
+use Rattle.rc_analyse.specs.Texts.{routes_in, all_routes}
+use Rattle.rc_analyse.proofs.RouteLaws.{within, at_index, all_taken}
 use Rattle.rc_analyse.proofs.writing.put_all_routes.Goals as goal
 
-pub loop-place-init : goal.loop-place-init
-loop-place-init g c = record { put = all_left _ c.args.net.now c.args.state.now; same_faults = refl }
-
-pub returns-in-Err-clause-err : goal.returns-in-Err-clause-err
-returns-in-Err-clause-err g c =
+pub returns-in_err-put_routes_at : goal.returns-in_err-put_routes_at
+unfolding all_routes
+returns-in_err-put_routes_at g c =
     let net = c.args.net.now in
-    let state = c.args.state.now in
-    let place = c.loop-place.place in
-    put-more-failed (routes_in net state place) (flat_map (routes_in net state) (range_with_len (place + 1) (length net.routers - (place + 1)))) (next_left net state place (omega arith) c.loop-place.invariant.put) c.in-Err.ensures.err
+    let r = c.loop-index.index in
+    each_stopped (routes_in net c.args.state.now) (router_ids net) r r c.from_residual.ensures.0 (within net r (omega arith)) (at_index net r (omega arith)) c.loop-index.invariant c.in_err-put_routes_at.ensures
 
-pub loop-place-preserved : goal.loop-place-preserved
-loop-place-preserved g c =
+pub loop-index-preserved : goal.loop-index-preserved
+loop-index-preserved g c =
     let net = c.args.net.now in
-    let state = c.args.state.now in
-    let place = c.loop-place.place in
-    record {
-      put = put-more (routes_in net state place) (flat_map (routes_in net state) (range_with_len (place + 1) (length net.routers - (place + 1)))) (next_left net state place (omega arith) c.loop-place.invariant.put) c.in-Ok.ensures.ok;
-      same_faults = c.in-Ok.ensures.left ∙ c.loop-place.invariant.same_faults;
-    }
+    let r = c.loop-index.index in
+    each_put (routes_in net c.args.state.now) (router_ids net) r r (within net r (omega arith)) (at_index net r (omega arith)) c.loop-index.invariant c.in_ok-put_routes_at.ensures
+
+pub returns : goal.returns
+unfolding all_routes
+returns g c =
+    let net = c.args.net.now in
+    subst (λ ids. IsPut g.S.Sink {E = SinkFault} c.args.out.now c.loop-index.out (Ok tt) (flat_map (routes_in net c.args.state.now) ids)) (all_taken net c.loop-index.index (omega arith)) c.loop-index.invariant
