@@ -1,0 +1,63 @@
+//! Hops in their order.
+ghost use Rattle.std.specs.Prelude.{◌≡◌, ◌++◌, IfOk, OnOk};
+ghost use Rattle.std.specs.BTreeSet.{keys, insert_key};
+ghost use Rattle.rc_base.specs.Lists.{in_order};
+ghost use Rattle.rc_route.specs.Hops.{hop_cmp};
+
+use rc_base::IfId;
+use rc_route::{Hop, Hops};
+use std::alloc::{AllocError, Global};
+use std::collections::BTreeSet;
+
+/// Puts hops at the end.
+pub(crate) fn add_hops(hops: &mut Hops, alloc: Global, more: &[Hop]) -> Result<(), AllocError>
+    ensures { OnOk result (hops.new ≡ hops.old ++ more.now) }
+{
+    for hop in more {
+        hops.push(alloc, *hop)?;
+    }
+    Ok(())
+}
+
+/// Puts a hop into a set.
+fn insert_hop(set: &mut BTreeSet<Hop>, hop: Hop) -> Result<(), AllocError>
+    ensures { OnOk result (keys set.new ≡ insert_key hop_cmp (keys set.old) hop) }
+{
+    // For the proof: that of an insertion wants each enum within the element named in the function.
+    let _interface: Option<IfId> = None;
+    set.insert(hop)?;
+    Ok(())
+}
+
+/// Hops as a set.
+fn hop_set(alloc: Global, hops: &[Hop]) -> Result<BTreeSet<Hop>, AllocError>
+    ensures { IfOk result (λ set. keys set ≡ in_order hop_cmp hops.now) }
+{
+    let mut set = BTreeSet::new(alloc);
+    for hop in hops {
+        insert_hop(&mut set, *hop)?;
+    }
+    Ok(set)
+}
+
+/// Hops in their order, each once, by way of a set.
+fn sorted_hops(alloc: Global, hops: &[Hop]) -> Result<Hops, AllocError>
+    ensures { IfOk result (λ ordered. ordered ≡ in_order hop_cmp hops.now) }
+{
+    let set = hop_set(alloc, hops)?;
+    let mut ordered = Hops::none();
+    for hop in set {
+        ordered.push(alloc, hop)?;
+    }
+    Ok(ordered)
+}
+
+/// Hops in their order, each once. Most routers have one, which is in order already.
+pub(crate) fn hops_in_order(alloc: Global, hops: &[Hop]) -> Result<Hops, AllocError>
+    ensures { IfOk result (λ ordered. ordered ≡ in_order hop_cmp hops.now) }
+{
+    match hops {
+        [hop] => Ok(Hops::one(*hop)),
+        _ => sorted_hops(alloc, hops),
+    }
+}

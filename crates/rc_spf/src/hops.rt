@@ -1,0 +1,106 @@
+//! The first hops of least walks. A node's stand together: from where to where is its span.
+ghost use Rattle.std.specs.Prelude.{◌≡◌, ℕ, ◌<◌, ◌↔◌, ◌⊎◌, ◌++◌, map, length, IsTrue, IfOk, All, Contains};
+ghost use Rattle.rc_spf.specs.Steps.{IsTight, IsFound, first_of, AreSpans, HasFirstsOf, HasNoFirsts};
+
+use crate::{Edge, First};
+use std::alloc::{AllocError, Global};
+
+/// Whether the edge ends a walk of that cost to the node.
+fn is_tight(costs: &[Option<u32>], node: usize, cost: u32, edge: Edge) -> bool
+    requires { edge.from < length costs.now }
+    ensures { IsTrue result ↔ IsTight costs.now node cost edge }
+{
+    match costs[edge.from] {
+        Some(before) => edge.to == node && edge.cost <= cost && before == cost - edge.cost,
+        None => false,
+    }
+}
+
+/// Adds a hop, unless it is there.
+fn add(found: &mut Vec<usize>, hop: usize) -> Result<(), AllocError>
+    ensures { IfOk result (λ u. (h : ℕ) → Contains found.new.items h ↔ (Contains found.old.items h ⊎ (h ≡ hop))) }
+{
+    if !found.contains(&hop) {
+        found.push(hop)?;
+    }
+    Ok(())
+}
+
+/// Adds the first hops of a node.
+fn add_hops(firsts: &[First], from: usize, found: &mut Vec<usize>) -> Result<(), AllocError>
+    ensures { IfOk result (λ u. (h : ℕ) → Contains found.new.items h ↔ (Contains found.old.items h ⊎ Contains firsts.now (first_of from h))) }
+{
+    for first in firsts {
+        if first.node == from {
+            add(found, first.hop)?;
+        }
+    }
+    Ok(())
+}
+
+/// The first hops of a node: all of them stand in its span.
+pub fn firsts_at<'a>(firsts: &'a [First], spans: &[(usize, usize)], node: usize) -> &'a [First]
+    requires spans { AreSpans spans.now firsts.now }
+    requires node { node < length spans.now }
+    ensures { HasFirstsOf node firsts.now result.now }
+{
+    let (from, to) = spans[node];
+    &firsts[from..to]
+}
+
+/// The hops by which walks of that cost to a node begin, from the edges that lead there.
+pub(crate) fn hops_of(
+    alloc: Global,
+    edges: &[Edge],
+    root: usize,
+    node: usize,
+    cost: u32,
+    costs: &[Option<u32>],
+    firsts: &[First],
+    spans: &[(usize, usize)],
+) -> Result<Vec<usize>, AllocError>
+    requires ends { All (λ e. e.from < length costs.now) edges.now }
+    requires len { length spans.now ≡ length costs.now }
+    requires spans { AreSpans spans.now firsts.now }
+    ensures { IfOk result (λ found. IsFound edges.now root node cost costs.now firsts.now found.items) }
+{
+    let mut found = Vec::new(alloc);
+    for edge in edges {
+        if is_tight(costs, node, cost, *edge) {
+            if edge.from == root {
+                add(&mut found, edge.hop)?;
+            }
+            add_hops(firsts_at(firsts, spans, edge.from), edge.from, &mut found)?;
+        }
+    }
+    Ok(found)
+}
+
+/// Records the first hops of a node.
+fn record_hops(firsts: &mut Vec<First>, node: usize, found: &[usize]) -> Result<(), AllocError>
+    ensures { IfOk result (λ u. firsts.new.items ≡ firsts.old.items ++ map (first_of node) found.now) }
+{
+    for hop in found {
+        firsts.push(First { node, hop: *hop })?;
+    }
+    Ok(())
+}
+
+/// Records the first hops of a node that has none, and their span.
+pub(crate) fn record_span(
+    firsts: &mut Vec<First>,
+    spans: &mut [(usize, usize)],
+    node: usize,
+    found: &[usize],
+) -> Result<(), AllocError>
+    requires node { node < length spans.old }
+    requires spans { AreSpans spans.old firsts.old.items }
+    requires none { HasNoFirsts node firsts.old.items }
+    ensures items { IfOk result (λ u. firsts.new.items ≡ firsts.old.items ++ map (first_of node) found.now) }
+    ensures spans { IfOk result (λ u. AreSpans spans.new firsts.new.items) }
+{
+    let from = firsts.len();
+    record_hops(firsts, node, found)?;
+    spans[node] = (from, firsts.len());
+    Ok(())
+}
