@@ -37,6 +37,12 @@ mod openings;
 #[cfg(test)]
 mod orders;
 #[cfg(test)]
+mod ospf_files;
+#[cfg(test)]
+mod ospf_interfaces;
+#[cfg(test)]
+mod ospf_lines;
+#[cfg(test)]
 mod policies;
 #[cfg(test)]
 mod policy_lines;

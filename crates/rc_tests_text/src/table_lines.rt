@@ -145,7 +145,6 @@ ip inspect
 bridge
 no ip routing
 no ip classless
-router ospf
 router bgp
 ";
 
@@ -237,13 +236,6 @@ ip ospf
 bridge-group
 xconnect
 backup
-ip ospf cost
-ip ospf hello-interval
-ip ospf dead-interval
-ip ospf network
-ip ospf network broadcast
-ip ospf network point-to-point
-ip ospf NAME area
 ";
 
 #[test]

@@ -1,0 +1,148 @@
+//! Files with an OSPF process, and the model that commands of OSPF fill.
+use crate::refused_files::{BAD, OUT_OF_PLACE, UNKNOWN, UNSUPPORTED, check_all_refused};
+use rc_base::{Addr, Name};
+use rc_config::{
+    Command, Interface, NetworkType, OspfArea, OspfLine, OspfProcess, OspfSettings, RouterText,
+};
+use rc_grammar::{FileCause, read_file};
+use std::process::Abort;
+
+const FILE: &[u8] = b"hostname X
+router ospf 7
+ router-id 1.1.1.1
+ network 10.0.0.0 0.0.0.255 area 0
+ network 10.0.1.0 0.0.0.255 area 0.0.0.3
+ passive-interface default
+ no passive-interface Serial0/0
+ auto-cost reference-bandwidth 1000
+ log-adjacency-changes
+interface Serial0/0
+ ip ospf cost 10
+ ip ospf cost 20
+ ip ospf hello-interval 5
+ ip ospf network broadcast
+ ip ospf network point-to-point
+ ip ospf priority 0
+ ip ospf 7 area 0.0.1.0
+router ospf 7
+ network 0.0.0.0 255.255.255.255 area 9
+";
+
+fn check_process(rt: &impl Abort, process: &OspfProcess) {
+    assert!(rt; process.process == 7);
+    assert!(rt; process.router_id == Some(Addr::new(0x0101_0101)));
+    assert!(rt; process.reference_bandwidth == 1000);
+    assert!(rt; process.networks.len() == 3);
+    for (network, area) in process.networks.as_slice().iter().zip([0, 3, 9]) {
+        assert!(rt; network.area == area);
+    }
+}
+
+fn check_passive(rt: &impl Abort, process: &OspfProcess, first: &Name, second: &Name) {
+    assert!(rt; !process.is_passive(first));
+    assert!(rt; process.is_passive(second));
+}
+
+fn check_settings(rt: &impl Abort, block: &Interface) {
+    let wanted = OspfSettings {
+        cost: Some(20),
+        hello: Some(5),
+        dead: None,
+        network: Some(NetworkType::PointToPoint),
+        area: Some(OspfArea {
+            process: 7,
+            area: 256,
+        }),
+    };
+    assert!(rt; block.ospf == wanted);
+}
+
+fn check_file(rt: &impl Abort, file: &RouterText, first: &Name, second: &Name) {
+    match &file.ospf {
+        Some(process) => {
+            check_process(rt, process);
+            check_passive(rt, process, first, second);
+        }
+        None => assert!(rt; false, "no process"),
+    }
+    match file.interfaces.get(first) {
+        Some(block) => check_settings(rt, block),
+        None => assert!(rt; false, "no interface"),
+    }
+}
+
+#[test]
+fn a_file_with_a_process(rt: HostRuntime) {
+    let first = Name::new(b"Serial0/0").expect(&rt, "Serial0/0");
+    let second = Name::new(b"Serial0/1").expect(&rt, "Serial0/1");
+    match &read_file(rt.alloc(), FILE) {
+        Ok(file) => check_file(&rt, file, &first, &second),
+        Err(_) => assert!(rt; false, "refused"),
+    }
+}
+
+#[test]
+fn files_with_a_process_are_refused(rt: HostRuntime) {
+    let files: [(&[u8], u64, FileCause); 5] = [
+        (
+            b"hostname X\nrouter ospf 1\nrouter ospf 2\n",
+            3,
+            UNSUPPORTED,
+        ),
+        (
+            b"hostname X\nrouter ospf 1\n network 10.0.0.0 0.0.0.255\n",
+            3,
+            BAD,
+        ),
+        (b"hostname X\nrouter ospf 1\n area 1 stub\n", 3, UNSUPPORTED),
+        (b"hostname X\nrouter ospf 1\n nothing\n", 3, UNKNOWN),
+        (
+            b"hostname X\nrouter ospf 1\n!\n ip ospf cost 5\n",
+            4,
+            OUT_OF_PLACE,
+        ),
+    ];
+    check_all_refused(&rt, rt.alloc(), &files);
+}
+
+#[test]
+fn lines_of_ospf_in_other_blocks_are_refused(rt: HostRuntime) {
+    let files: [(&[u8], u64, FileCause); 4] = [
+        (
+            b"hostname X\n network 10.0.0.0 0.0.0.255 area 0\n",
+            2,
+            OUT_OF_PLACE,
+        ),
+        (
+            b"hostname X\ninterface Serial0\n passive-interface default\n",
+            3,
+            OUT_OF_PLACE,
+        ),
+        (
+            b"hostname X\ninterface Serial0\n ip ospf network non-broadcast\n",
+            3,
+            UNSUPPORTED,
+        ),
+        (b"hostname X\ninterface Serial0\n ip ospf cost 0\n", 3, BAD),
+    ];
+    check_all_refused(&rt, rt.alloc(), &files);
+}
+
+#[test]
+fn a_process_without_lines(rt: HostRuntime) {
+    let interface = Name::new(b"Serial0").expect(&rt, "Serial0");
+    let process = &OspfProcess::new(rt.alloc(), 7);
+    assert!(rt; process.networks.is_empty());
+    assert!(rt; !process.is_passive(&interface));
+    assert!(rt; process.reference_bandwidth == 100);
+    assert!(rt; process.stub_areas.iter().next().is_none());
+}
+
+#[test]
+fn a_line_without_a_process_changes_nothing(rt: HostRuntime) {
+    let line = OspfLine::ReferenceBandwidth(5);
+    match &RouterText::new(rt.alloc()).put(Command::OspfLine { line }) {
+        Ok(file) => assert!(rt; file.ospf.is_none()),
+        Err(_) => assert!(rt; false, "no memory"),
+    }
+}

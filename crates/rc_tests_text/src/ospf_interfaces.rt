@@ -1,0 +1,126 @@
+//! Lines `ip ospf` in the block of an interface.
+use crate::line_answers::check_lines;
+use rc_base::Name;
+use rc_config::{
+    Command, Context, NetworkType, OpenBlock, OspfArea, OspfSetting, OspfSettings, RouterText,
+};
+use rc_gram_if::read_line;
+use rc_lines::Lines;
+use rc_openings::LineRefusal;
+
+const BAD: Option<LineRefusal> = Some(LineRefusal::BadValue);
+
+const UNSUPPORTED: Option<LineRefusal> = Some(LineRefusal::Unsupported);
+
+/// What the text sets in the block of an interface.
+fn setting_in(file: &RouterText, block: &OpenBlock, text: &[u8]) -> Option<OspfSetting> {
+    let line = Lines::new(text).next()?;
+    let block = *block;
+    match &read_line(&line, Context { block, file }) {
+        Ok(Command::InterfaceOspf { setting, .. }) => Some(*setting),
+        _ => None,
+    }
+}
+
+#[test]
+fn numbers_of_an_interface(rt: HostRuntime) {
+    let file = RouterText::new(rt.alloc());
+    let inside = OpenBlock::Interface(Name::new(b"Serial0").expect(&rt, "Serial0"));
+    for (text, setting) in [
+        (b" ip ospf cost 1".as_slice(), OspfSetting::Cost(1)),
+        (b" ip ospf cost 65535", OspfSetting::Cost(65535)),
+        (b" ip ospf hello-interval 5", OspfSetting::HelloInterval(5)),
+        (
+            b" ip ospf dead-interval 65535",
+            OspfSetting::DeadInterval(65535),
+        ),
+    ] {
+        assert!(rt;
+            setting_in(&file, &inside, text) == Some(setting),
+            "{text:?}"
+        );
+    }
+}
+
+#[test]
+fn network_types_and_areas_of_an_interface(rt: HostRuntime) {
+    let file = RouterText::new(rt.alloc());
+    let inside = OpenBlock::Interface(Name::new(b"Serial0").expect(&rt, "Serial0"));
+    let area = OspfArea {
+        process: 1,
+        area: 256,
+    };
+    for (text, setting) in [
+        (
+            b" ip ospf network broadcast".as_slice(),
+            OspfSetting::NetworkType(NetworkType::Broadcast),
+        ),
+        (
+            b" ip ospf network point-to-point",
+            OspfSetting::NetworkType(NetworkType::PointToPoint),
+        ),
+        (b" ip ospf 1 area 0.0.1.0", OspfSetting::Area(area)),
+    ] {
+        assert!(rt;
+            setting_in(&file, &inside, text) == Some(setting),
+            "{text:?}"
+        );
+    }
+}
+
+#[test]
+fn wrong_values_of_an_interface(rt: HostRuntime) {
+    let inside = OpenBlock::Interface(Name::new(b"Serial0").expect(&rt, "Serial0"));
+    let lines = [
+        (b"ip ospf cost 0".as_slice(), BAD),
+        (b"ip ospf cost 65536", BAD),
+        (b"ip ospf cost", BAD),
+        (b"ip ospf cost 1 2", BAD),
+        (b"ip ospf hello-interval 0", BAD),
+        (b"ip ospf dead-interval 65536", BAD),
+        (b"ip ospf network", BAD),
+        (b"ip ospf network ring", BAD),
+        (b"ip ospf network broadcast non-broadcast", BAD),
+    ];
+    check_lines(&rt, rt.alloc(), &inside, &lines);
+}
+
+#[test]
+fn wrong_areas_of_an_interface(rt: HostRuntime) {
+    let inside = OpenBlock::Interface(Name::new(b"Serial0").expect(&rt, "Serial0"));
+    let lines = [
+        (b"ip ospf 0 area 0".as_slice(), BAD),
+        (b"ip ospf 65536 area 0", BAD),
+        (b"ip ospf 1 area", BAD),
+        (b"ip ospf 1 area 0 x", BAD),
+        (b"ip ospf cost area 0", BAD),
+        (b"ip ospf 1", UNSUPPORTED),
+    ];
+    check_lines(&rt, rt.alloc(), &inside, &lines);
+}
+
+#[test]
+fn settings_that_are_not_modelled(rt: HostRuntime) {
+    let inside = OpenBlock::Interface(Name::new(b"Serial0").expect(&rt, "Serial0"));
+    let lines = [
+        (b"ip ospf network non-broadcast".as_slice(), UNSUPPORTED),
+        (b"ip ospf network point-to-multipoint", UNSUPPORTED),
+        (
+            b"ip ospf dead-interval minimal hello-multiplier 4",
+            UNSUPPORTED,
+        ),
+        (b"ip ospf authentication", UNSUPPORTED),
+        (b"ip ospf priority 3", None),
+        (b"ip ospf mtu-ignore", None),
+        (b"no ip ospf cost", None),
+    ];
+    check_lines(&rt, rt.alloc(), &inside, &lines);
+}
+
+#[test]
+fn nothing_is_set_at_first(rt: HostRuntime) {
+    let settings = OspfSettings::new();
+    assert!(rt; settings.cost.is_none() && settings.hello.is_none());
+    assert!(rt; settings.dead.is_none() && settings.network.is_none());
+    assert!(rt; settings.area.is_none());
+}
