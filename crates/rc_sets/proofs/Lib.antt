@@ -3,7 +3,9 @@ pub mod AccessListsReduced
 pub mod RegionLaws
 pub mod RegionsReduced
 mod BuildLaws
+mod IntervalLaws
 mod LeadLaws
+mod LineLaws
 mod LongestLaws
 mod MarkLaws
 mod NumberLaws

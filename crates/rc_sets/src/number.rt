@@ -1,11 +1,12 @@
 //! The sets of numbers in a header.
-ghost use Rattle.std.specs.Prelude.{◌≡◌, ◌≢◌, ◌+◌, ◌<◌, ◌≤◌, false, IfOk, IfErr};
+ghost use Rattle.std.specs.Prelude.{◌≡◌, ◌≢◌, ◌+◌, ◌^◌, ◌<◌, ◌≤◌, false, IfOk, IfErr};
+ghost use Rattle.rc_bdd.specs.Work.{IsCause};
 ghost use Rattle.rc_nodes.specs.Seats.{IsFull, IsSeatOf, Keeps, SeatKnows};
 ghost use Rattle.rc_sets.specs.Builds.{MayFollow};
-ghost use Rattle.rc_trees.specs.Fields.{masked, with_bit};
+ghost use Rattle.rc_trees.specs.Fields.{exact, masked, with_bit};
 ghost use Rattle.rc_trees.specs.Trees.{Tree, HasNodesOf, never};
 
-use rc_bdd::Work;
+use rc_bdd::{SetError, Work};
 use rc_nodes::{ALWAYS, Full, May, NEVER, Nodes, Ref};
 
 /// The headers of which so many bits of a number are those of another number, as far as a wildcard has 0 there. The number's last bit is
@@ -58,5 +59,28 @@ fn with_bit<M: May>(
         work.branch(nodes, var, NEVER, rest)
     } else {
         work.branch(nodes, var, rest, NEVER)
+    }
+}
+
+/// The headers of which a number of so many bits is this one. The number's last bit is the header's bit `last`.
+pub(crate) fn exact_set<M: May>(
+    work: &mut Work<M>,
+    nodes: &Nodes<M>,
+    last: u8,
+    count: u8,
+    number: u32,
+) -> Result<Ref, SetError>
+    requires seat { IsSeatOf nodes.now work.old }
+    requires bits { (last < 104) × (count ≤ last + 1) × (count ≤ 32) }
+    requires fits { number < 2 ^ count }
+    requires may { HasNodesOf nodes.now.may (exact last count number) }
+    ensures seat { IsSeatOf nodes.now work.new }
+    ensures keeps { Keeps work.old work.new }
+    ensures set { IfOk result (λ r. SeatKnows work.new r.index (exact last count number)) }
+    ensures cause { IfErr result (IsCause nodes.now work.new) }
+{
+    match masked_set(work, nodes, last, count, 0, number) {
+        Ok(set) => Ok(set),
+        Err(_) => Err(SetError::Full),
     }
 }
