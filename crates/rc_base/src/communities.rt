@@ -30,7 +30,9 @@ impl Model for Communities {
 
 /// The numbers that RFC 1997 gives to the well-known communities, written as `AS:value`.
 const _: () = prove!(Communities::NO_EXPORT == 65_535 * 65_536 + 65_281);
+
 const _: () = prove!(Communities::NO_ADVERTISE == 65_535 * 65_536 + 65_282);
+
 const _: () = prove!(Communities::NO_EXPORT_SUBCONFED == 65_535 * 65_536 + 65_283);
 
 /// Puts numbers in rising order, each once. It errs only where memory runs out.

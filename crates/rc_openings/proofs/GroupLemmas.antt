@@ -1,19 +1,17 @@
 -- The openings that a line finds in a table are all with which it begins.
-use Rattle.std.proofs.Common.{◌≡◌, ℕ, suc, zero, ◌<◌, Bool, true, false, ◌||◌, ◌&&◌, cond, List, [], ◌∷◌, ◌++◌, length, map, take, drop, arith, refl, sym, ◌∙◌, inl, inr, Option, Some, None}
+use Rattle.std.proofs.Common.{◌≡◌, ℕ, suc, zero, ◌+◌, ◌-◌, ◌<◌, ◌≤◌, subst, Bool, true, false, ◌||◌, ◌&&◌, cond, List, [], ◌∷◌, ◌++◌, length, map, take, drop, arith, refl, sym, ◌∙◌, ap, inl, inr, Option, Some, None}
 use borrow.Author.Tests.{ltb-true}
 use Rattle.std.specs.Prelude.{nat_eq, nat_lt, Contains}
 use Rattle.std.specs.List.{filter, list_all, list_any}
 use Rattle.std.specs.Str.{bytes_eq}
-use Rattle.std.proofs.Math.Seq.{take-append_seam, drop-append_seam}
 use Rattle.std.proofs.lemmas.Bool.{and_parts, or_cases, false≢true, eqb-true, ne_eqb}
-use Rattle.std.proofs.lemmas.List.{take-map, drop-map}
+use Rattle.std.proofs.lemmas.Bool.Decides.{nat_tests}
 use Rattle.std.proofs.lemmas.List.Elements.{All-contains_itself, All-filter, All-contains, Contains-append_left, Contains-append_right, Contains-append_cases}
 use Rattle.std.proofs.lemmas.List.Folds.{list_any_at, list_any-append}
 use Rattle.rc_openings.specs.declared.opening.Opening.{Opening}
-use Rattle.rc_openings.specs.declared.table.Group.{Group}
 use Rattle.rc_openings.specs.declared.table.Index.{Index}
 use Rattle.rc_openings.specs.declared.table.Table.{Table}
-use Rattle.rc_openings.specs.Groups.{group_at, keyed, grouped, are_counted, is_placed, IsIndex, one_word, starred, more_words, is_of_three, IsTable}
+use Rattle.rc_openings.specs.Groups.{at_letter, is_letter, letters, letters_from, keyed, is_placed, IsIndex, one_word, starred, more_words, is_of_three, IsTable}
 use Rattle.rc_openings.specs.Opening.{Row, row_of, stands_for, begins_with, begins_form, is_form_verdict, IsAnswer}
 use Rattle.rc_openings.specs.Words.{first_byte, second_byte}
 use Rattle.rc_openings.proofs.ApartLemmas.{at_element}
@@ -52,9 +50,9 @@ second_agrees (w ∷ ws) (v ∷ vs) g h = first_agrees ws vs g (and_parts (stand
 
 -- the group of a line's key has all rows of an index with which the line begins
 in_group : (key : List (List ℕ) → ℕ) → ((words line : List (List ℕ)) → nat_lt 42 (key words) ≡ true → begins_with line words ≡ true → nat_eq (key words) (key line) ≡ true)
-    → (groups : List Group) (rows : List Row) (line : List (List ℕ)) (r : Row) → list_all (is_placed key groups) rows ≡ true → Contains rows r → begins_with line r.words ≡ true → Contains (keyed key (key line) rows) r
-in_group key agrees groups rows line r placed there fits =
-    let own = and_parts (nat_lt 42 (key r.words)) (list_any (λ g. nat_eq g.first (key r.words)) groups) (at_element (is_placed key groups) rows r placed there.0 there.1 there.2) in
+    → (rows : List Row) (line : List (List ℕ)) (r : Row) → list_all (is_placed key) rows ≡ true → Contains rows r → begins_with line r.words ≡ true → Contains (keyed key (key line) rows) r
+in_group key agrees rows line r placed there fits =
+    let own = and_parts (nat_lt 42 (key r.words)) (is_letter (key r.words)) (at_element (is_placed key) rows r placed there.0 there.1 there.2) in
     to_filter (λ x. nat_eq (key x.words) (key line)) rows r (agrees r.words line own.0 fits) there
 
 -- what a line finds in a table
@@ -81,12 +79,12 @@ found_all table rows line r h there fits =
     elim (or_cases (nat_eq b 0 || nat_eq b 42) (nat_lt 42 b) (at_element is_of_three rows r h.three there.0 there.1 there.2)) [
       | inl few ↦ elim (or_cases (nat_eq b 0) (nat_eq b 42) few) [
         | inl none ↦
-            let one = in_group first_byte first_agrees table.one_word.groups.now (one_word rows) line r h.one_word.placed (to_filter (λ x. nat_eq (second_byte x.words) 0) rows r none there) fits in
+            let one = in_group first_byte first_agrees (one_word rows) line r h.one_word.placed (to_filter (λ x. nat_eq (second_byte x.words) 0) rows r none there) fits in
             Contains-append_left (ones ++ starred rows) more r (Contains-append_left ones (starred rows) r one)
         | inr star ↦ Contains-append_left (ones ++ starred rows) more r (Contains-append_right ones (starred rows) r (to_filter (λ x. nat_eq (second_byte x.words) 42) rows r star there))
       ]
       | inr own ↦
-          let last = in_group second_byte second_agrees table.more_words.groups.now (more_words rows) line r h.more_words.placed (to_filter (λ x. nat_lt 42 (second_byte x.words)) rows r own there) fits in
+          let last = in_group second_byte second_agrees (more_words rows) line r h.more_words.placed (to_filter (λ x. nat_lt 42 (second_byte x.words)) rows r own there) fits in
           Contains-append_right (ones ++ starred rows) more r last
     ]
 
@@ -131,53 +129,42 @@ form_of_found table rows line h =
     (λ e. let p = some_of q (found rows line) e in any_of q rows p.0 (found_in rows line p.0 p.1) p.2)
     (λ e. let p = some_of q rows e in any_of q (found rows line) p.0 (found_all table rows line p.0 h p.1 (and_parts (is_form_verdict p.0.verdict) (begins_with line p.0.words) p.2).1) p.2)
 
--- the group of a byte is what has this key
-group_is : (key : List (List ℕ) → ℕ) (groups : List Group) (rows : List Row) (b : ℕ) → are_counted key groups rows ≡ true → list_any (λ g. nat_eq g.first b) groups ≡ true → group_at groups (grouped key groups rows) b ≡ keyed key b rows
-group_is key [] rows b counted has = absurd (false≢true has)
-group_is key (g ∷ gs) rows b counted has =
-    let parts = and_parts (nat_eq (length (keyed key g.first rows)) g.count) (are_counted key gs rows) counted in
-    by (group_is key gs rows b parts.1) (nat_eq g.first b) refl (eqb-true _ _ parts.0) has
+-- no row has a key that is no letter
+none_keyed : (key : List (List ℕ) → ℕ) (rows : List Row) (b : ℕ) → list_all (is_placed key) rows ≡ true → is_letter b ≡ false → keyed key b rows ≡ []
+none_keyed key [] b placed other = refl
+none_keyed key (row ∷ rows) b placed other =
+    let parts = and_parts (is_placed key row) (list_all (is_placed key) rows) placed in
+    by (nat_eq (key row.words) b) refl (and_parts (nat_lt 42 (key row.words)) (is_letter (key row.words)) parts.0).1 (none_keyed key rows b parts.1 other)
   where
-    by : (list_any (λ g. nat_eq g.first b) gs ≡ true → group_at gs (grouped key gs rows) b ≡ keyed key b rows)
-        → (v : Bool) → nat_eq g.first b ≡ v → length (keyed key g.first rows) ≡ g.count → (v || list_any (λ g. nat_eq g.first b) gs) ≡ true
-        → cond v (take g.count (keyed key g.first rows ++ grouped key gs rows)) (group_at gs (drop g.count (keyed key g.first rows ++ grouped key gs rows)) b) ≡ keyed key b rows
-    by later true e count has = rw (← count, take-append_seam (keyed key g.first rows) (grouped key gs rows), eqb-true g.first b e) refl
-    by later false e count has = rw (← count, drop-append_seam (keyed key g.first rows) (grouped key gs rows)) (later has)
-
-group_none : (groups : List Group) (rows : List Row) (b : ℕ) → list_any (λ g. nat_eq g.first b) groups ≡ false → group_at groups rows b ≡ []
-group_none [] rows b no_group = refl
-group_none (g ∷ gs) rows b no_group = by (group_none gs (drop g.count rows) b) (nat_eq g.first b) refl no_group
-  where
-    by : (list_any (λ g. nat_eq g.first b) gs ≡ false → group_at gs (drop g.count rows) b ≡ [])
-        → (v : Bool) → nat_eq g.first b ≡ v → (v || list_any (λ g. nat_eq g.first b) gs) ≡ false → cond v (take g.count rows) (group_at gs (drop g.count rows) b) ≡ []
-    by later true e h = absurd (false≢true (sym h))
-    by later false e h = later h
-
-none_keyed : (key : List (List ℕ) → ℕ) (groups : List Group) (rows : List Row) (b : ℕ) → list_all (is_placed key groups) rows ≡ true → list_any (λ g. nat_eq g.first b) groups ≡ false → keyed key b rows ≡ []
-none_keyed key groups [] b placed no_group = refl
-none_keyed key groups (row ∷ rows) b placed no_group =
-    let parts = and_parts (is_placed key groups row) (list_all (is_placed key groups) rows) placed in
-    by (nat_eq (key row.words) b) refl (and_parts (nat_lt 42 (key row.words)) (list_any (λ g. nat_eq g.first (key row.words)) groups) parts.0).1 (none_keyed key groups rows b parts.1 no_group)
-  where
-    by : (v : Bool) → nat_eq (key row.words) b ≡ v → list_any (λ g. nat_eq g.first (key row.words)) groups ≡ true → keyed key b rows ≡ [] → cond v (row ∷ keyed key b rows) (keyed key b rows) ≡ []
-    by true e has h = absurd (false≢true (sym no_group ∙ rw (eqb-true (key row.words) b e) at has))
+    by : (v : Bool) → nat_eq (key row.words) b ≡ v → is_letter (key row.words) ≡ true → keyed key b rows ≡ [] → cond v (row ∷ keyed key b rows) (keyed key b rows) ≡ []
+    by true e has h = absurd (false≢true (sym other ∙ rw (eqb-true (key row.words) b e) at has))
     by false e has h = h
 
-keyed_is : (key : List (List ℕ) → ℕ) (index : Index) (rows : List Row) (b : ℕ) → IsIndex key index rows → group_at index.groups.now (grouped key index.groups.now rows) b ≡ keyed key b rows
-keyed_is key index rows b h = by (list_any (λ g. nat_eq g.first b) index.groups.now) refl
-  where
-    by : (v : Bool) → list_any (λ g. nat_eq g.first b) index.groups.now ≡ v → group_at index.groups.now (grouped key index.groups.now rows) b ≡ keyed key b rows
-    by true e = group_is key index.groups.now rows b h.counted e
-    by false e = group_none index.groups.now (grouped key index.groups.now rows) b e ∙ sym (none_keyed key index.groups.now rows b h.placed e)
+abbrev first_of : {X : Type 0} → X → List X → X
+first_of x [] = x
+first_of x (y ∷ ys) = y
 
-group_map : (groups : List Group) (os : List Opening) (b : ℕ) → map row_of (group_at groups os b) ≡ group_at groups (map row_of os) b
-group_map [] os b = refl
-group_map (g ∷ gs) os b = by (nat_eq g.first b) (group_map gs (drop g.count os) b)
-  where
-    by : (v : Bool) → map row_of (group_at gs (drop g.count os) b) ≡ group_at gs (map row_of (drop g.count os)) b
-        → map row_of (cond v (take g.count os) (group_at gs (drop g.count os) b)) ≡ cond v (take g.count (map row_of os)) (group_at gs (drop g.count (map row_of os)) b)
-    by true h = sym (take-map row_of g.count os)
-    by false h = rw (drop-map row_of g.count os) h
+abbrev rest_of : {X : Type 0} → List X → List X
+rest_of [] = []
+rest_of (y ∷ ys) = ys
 
-pub openings_of_group : (key : List (List ℕ) → ℕ) (index : Index) (rows : List Row) (b : ℕ) → IsIndex key index rows → map row_of (group_at index.groups.now index.openings.now b) ≡ keyed key b rows
-openings_of_group key index rows b h = group_map index.groups.now index.openings.now b ∙ rw h.openings (keyed_is key index rows b h)
+-- what two functions give all letters, they give each
+at_each : {X : Type 0} (f g : ℕ → X) (b n k : ℕ) → k < n → map f (letters_from b n) ≡ map g (letters_from b n) → f (b + k) ≡ g (b + k)
+at_each f g b zero k lt same = absurd (omega arith)
+at_each f g b (suc n) zero lt same = let e : b + zero ≡ b = omega arith in rw e (ap (first_of (f b)) same)
+at_each f g b (suc n) (suc k) lt same =
+    let e : b + suc k ≡ suc b + k = omega arith in
+    rw e (at_each f g (suc b) n k (omega arith) (ap rest_of same))
+
+pub openings_at : (key : List (List ℕ) → ℕ) (index : Index) (rows : List Row) (b : ℕ) → IsIndex key index rows → map row_of (at_letter index.starts.now index.openings.now b) ≡ keyed key b rows
+unfolding letters
+openings_at key index rows b h = by (is_letter b) refl
+  where
+    by : (v : Bool) → is_letter b ≡ v → map row_of (at_letter index.starts.now index.openings.now b) ≡ keyed key b rows
+    by true e =
+        let low : 65 ≤ b = grind (arith, nat_tests) in
+        let k : b - 65 < 58 = grind (arith, nat_tests) in
+        let same : 65 + (b - 65) ≡ b = omega arith in
+        subst (λ n. map row_of (at_letter index.starts.now index.openings.now n) ≡ keyed key n rows) same
+        (at_each (λ n. map row_of (at_letter index.starts.now index.openings.now n)) (λ n. keyed key n rows) 65 58 (b - 65) k h.each)
+    by false e = rw (e, none_keyed key rows b h.placed e) refl

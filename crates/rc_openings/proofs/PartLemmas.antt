@@ -1,15 +1,27 @@
--- A line that parts from an opening within a word doesn't begin with it.
+-- What a glance at the texts of an opening and of a line tells of their words.
 use borrow.Author.Tests.{ltb-true}
-use Rattle.std.proofs.Common.{◌≡◌, ℕ, suc, ◌<◌, arith, Bool, true, false, ◌||◌, ◌&&◌, cond, List, [], ◌∷◌, take, drop, refl, sym, ◌∙◌, subst, add-one}
+use Rattle.std.proofs.Common.{◌≡◌, ℕ, suc, ◌<◌, arith, Bool, true, false, ◌||◌, ◌&&◌, cond, List, [], ◌∷◌, ◌++◌, append-nil, ap, length, take, drop, refl, sym, ◌∙◌, subst, add-one}
 use Rattle.std.specs.Prelude.{nat_eq, nat_lt, codes}
 use Rattle.std.specs.Str.{bytes_eq}
+use Rattle.std.specs.List.{slice_split, filter, onto_first}
+use Rattle.std.proofs.lemmas.List.Elements.{filter-append}
+use Rattle.std.proofs.lemmas.Slice.Eq.{bytes_eq-Decides}
 use Rattle.std.specs.List.{position_or_len}
 use Rattle.std.proofs.Math.Nat.{add_comm}
 use Rattle.std.proofs.Math.Bool.{and-false}
 use Rattle.std.proofs.lemmas.Bool.{false≢true, eqb-true, ne_eqb, and_parts}
-use Rattle.rc_openings.specs.Words.{words_of, is_blank}
-use Rattle.rc_openings.specs.Opening.{begins_with, stands_for, parts_within_word}
-use Rattle.rc_openings.proofs.WordsLemmas.{words-blank, front_word}
+use Rattle.rc_openings.specs.Words.{words_of, is_blank, has_bytes}
+use Rattle.rc_openings.specs.Opening.{begins_with, stands_for, differing, compared}
+use Rattle.rc_openings.specs.declared.opening.Glance.{Glance}
+use Rattle.rc_openings.specs.declared.opening.Glance.TheVariants.{Begins, Differs, Unclear}
+use Rattle.rc_openings.proofs.WordsLemmas.{words-blank, front_word, first_piece}
+use Rattle.rc_openings.proofs.ApartLemmas.{or_right}
+
+-- the texts differ within a word
+abbrev parts_within_word : List ℕ → List ℕ → Bool
+parts_within_word [] line = false
+parts_within_word (a ∷ as') [] = false
+parts_within_word (a ∷ as') (b ∷ bs) = cond (nat_eq a b) (parts_within_word as' bs) (nat_lt 42 a && nat_lt 32 b)
 
 -- a word of one byte, and what stands behind it
 lone_word : (c d : ℕ) (s : List ℕ) → is_blank c ≡ false → is_blank d ≡ true → words_of (c ∷ d ∷ s) ≡ (c ∷ []) ∷ words_of (d ∷ s)
@@ -74,7 +86,7 @@ with_byte a o l h was = by (is_blank a) refl
     by true e = rw (words-blank a l e, words-blank a o e) was
     by false e = behind e o l h was
 
-pub cannot_begin : (opening line : List ℕ) → parts_within_word opening line ≡ true → begins_with (words_of line) (words_of opening) ≡ false
+cannot_begin : (opening line : List ℕ) → parts_within_word opening line ≡ true → begins_with (words_of line) (words_of opening) ≡ false
 cannot_begin [] line h = absurd (false≢true h)
 cannot_begin (a ∷ o) [] h = absurd (false≢true h)
 cannot_begin (a ∷ o) (b ∷ l) h = by (cannot_begin o l) (nat_eq a b) refl h
@@ -86,3 +98,90 @@ cannot_begin (a ∷ o) (b ∷ l) h = by (cannot_begin o l) (nat_eq a b) refl h
         → (v : Bool) → nat_eq a b ≡ v → cond v (parts_within_word o l) (nat_lt 42 a && nat_lt 32 b) ≡ true → begins_with (words_of (b ∷ l)) (words_of (a ∷ o)) ≡ false
     by later true e g = rw (← (eqb-true a b e)) (with_byte a o l g (later g))
     by later false e g = first_differ e (and_parts (nat_lt 42 a) (nat_lt 32 b) g)
+
+-- what a glance tells, as tests
+abbrev is_difference : Glance → Bool
+is_difference Differs = true
+is_difference Begins = false
+is_difference Unclear = false
+
+abbrev is_begin : Glance → Bool
+is_begin Begins = true
+is_begin Differs = false
+is_begin Unclear = false
+
+no_difference : (v : Bool) → is_difference (cond v Begins Unclear) ≡ false
+no_difference true = refl
+no_difference false = refl
+
+differ-test : (v : Bool) → is_difference (cond v Differs Unclear) ≡ v
+differ-test true = refl
+differ-test false = refl
+
+parts-there : (opening line : List ℕ) → is_difference (compared opening line) ≡ true → parts_within_word opening line ≡ true
+parts-there [] [] h = h
+parts-there [] (b ∷ l) h = sym (no_difference (is_blank b)) ∙ h
+parts-there (a ∷ o) [] h = h
+parts-there (a ∷ o) (b ∷ l) h = by (nat_eq a b) (parts-there o l) h
+  where
+    by : (v : Bool) → (is_difference (compared o l) ≡ true → parts_within_word o l ≡ true)
+        → is_difference (cond v (compared o l) (differing a b)) ≡ true → cond v (parts_within_word o l) (nat_lt 42 a && nat_lt 32 b) ≡ true
+    by true later g = later g
+    by false later g = sym (differ-test (nat_lt 42 a && nat_lt 32 b)) ∙ g
+
+pub differs : (opening line : List ℕ) → compared opening line ≡ Differs → begins_with (words_of line) (words_of opening) ≡ false
+differs opening line h = cannot_begin opening line (parts-there opening line (ap is_difference h))
+
+-- a text ends here, or a blank follows
+abbrev stops : List ℕ → Bool
+stops [] = true
+stops (b ∷ bs) = is_blank b
+
+begin-test : (v : Bool) → is_begin (cond v Begins Unclear) ≡ v
+begin-test true = refl
+begin-test false = refl
+
+no_begin : (v : Bool) → is_begin (cond v Differs Unclear) ≡ false
+no_begin true = refl
+no_begin false = refl
+
+front-there : (opening line : List ℕ) → is_begin (compared opening line) ≡ true → (line ≡ opening ++ drop (length opening) line) × (stops (drop (length opening) line) ≡ true)
+front-there [] [] h = (refl, refl)
+front-there [] (b ∷ l) h = (refl, sym (begin-test (is_blank b)) ∙ h)
+front-there (a ∷ o) [] h = absurd (false≢true h)
+front-there (a ∷ o) (b ∷ l) h = by (nat_eq a b) refl (front-there o l) h
+  where
+    by : (v : Bool) → nat_eq a b ≡ v → (is_begin (compared o l) ≡ true → (l ≡ o ++ drop (length o) l) × (stops (drop (length o) l) ≡ true))
+        → is_begin (cond v (compared o l) (differing a b)) ≡ true → (b ∷ l ≡ a ∷ (o ++ drop (length o) l)) × (stops (drop (length o) l) ≡ true)
+    by true e later g = let rest = later g in (rw (eqb-true a b e) (ap (λ s. b ∷ s) rest.0), rest.1)
+    by false e later g = absurd (false≢true (sym (no_begin (nat_lt 42 a && nat_lt 32 b)) ∙ g))
+
+-- the pieces on both sides of a blank
+pieces-append : (s : List ℕ) (b : ℕ) (bs : List ℕ) → is_blank b ≡ true → slice_split is_blank (s ++ b ∷ bs) ≡ slice_split is_blank s ++ slice_split is_blank bs
+pieces-append [] b bs h = rw h refl
+pieces-append (x ∷ s) b bs h = by (is_blank x) (pieces-append s b bs h)
+  where
+    by : (v : Bool) → slice_split is_blank (s ++ b ∷ bs) ≡ slice_split is_blank s ++ slice_split is_blank bs
+        → cond v ([] ∷ slice_split is_blank (s ++ b ∷ bs)) (onto_first x (slice_split is_blank (s ++ b ∷ bs))) ≡ cond v ([] ∷ slice_split is_blank s) (onto_first x (slice_split is_blank s)) ++ slice_split is_blank bs
+    by true e = ap (λ ps. [] ∷ ps) e
+    by false e = rw (e, first_piece s) refl
+
+words-append : (s r : List ℕ) → stops r ≡ true → words_of (s ++ r) ≡ words_of s ++ words_of r
+unfolding words_of
+words-append s [] h = rw (append-nil s, append-nil (filter has_bytes (slice_split is_blank s))) refl
+words-append s (b ∷ bs) h =
+    ap (filter has_bytes) (pieces-append s b bs h) ∙ filter-append has_bytes (slice_split is_blank s) (slice_split is_blank bs)
+    ∙ ap (λ ws. words_of s ++ ws) (sym (words-blank b bs h))
+
+begins-front : (ws vs : List (List ℕ)) → begins_with (ws ++ vs) ws ≡ true
+begins-front [] vs = refl
+begins-front (w ∷ ws) vs =
+    let one : stands_for w w ≡ true = or_right (bytes_eq w (codes "*")) (bytes_eq w w) ((bytes_eq-Decides w w).1 refl) in
+    rw one (begins-front ws vs)
+
+pub begins : (opening line : List ℕ) → compared opening line ≡ Begins → begins_with (words_of line) (words_of opening) ≡ true
+begins opening line h =
+    let there = front-there opening line (ap is_begin h) in
+    let rest = drop (length opening) line in
+    let words : words_of line ≡ words_of opening ++ words_of rest = ap words_of there.0 ∙ words-append opening rest there.1 in
+    rw words (begins-front (words_of opening) (words_of rest))

@@ -19,11 +19,11 @@ unfolding words_of
 words-blank b bs h = rw h refl
 
 -- the pieces behind the first blank
-abbrev later : List ℕ → List (List ℕ)
+abbrev pub later : List ℕ → List (List ℕ)
 later [] = []
 later (b ∷ bs) = cond (is_blank b) (slice_split is_blank bs) (later bs)
 
-first_piece : (s : List ℕ) → slice_split is_blank s ≡ take (position_or_len is_blank s) s ∷ later s
+pub first_piece : (s : List ℕ) → slice_split is_blank s ≡ take (position_or_len is_blank s) s ∷ later s
 first_piece [] = refl
 first_piece (b ∷ bs) = by_blank (is_blank b) (first_piece bs)
   where

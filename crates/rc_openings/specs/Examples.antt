@@ -1,14 +1,15 @@
 -- Lines and words with what they are, by computation.
-use Rattle.std.specs.Prelude.{◌≡◌, refl, ℕ, List, Option, Some, None, codes, option_map}
+use Rattle.std.specs.Prelude.{◌≡◌, refl, ℕ, List, [], ◌∷◌, Option, Some, None, codes, option_map}
 use Rattle.rc_openings.specs.declared.block.Block.{Block}
 use Rattle.rc_openings.specs.declared.block.Block.TheVariants as block
 use Rattle.rc_openings.specs.declared.form.Form.TheVariants as form
 use Rattle.rc_openings.specs.declared.opening.Verdict.{Verdict}
 use Rattle.rc_openings.specs.declared.opening.Verdict.TheVariants.{Form, Later, Refused, Ignored}
-use Rattle.rc_openings.specs.declared.reading.LineRefusal.TheVariants.{Unknown, OutOfPlace}
+use Rattle.rc_openings.specs.declared.reading.LineRefusal.TheVariants.{Unknown, Unsupported, OutOfPlace}
 use Rattle.rc_openings.specs.Block.{rows_of}
 use Rattle.rc_openings.specs.Opening.{decisive_row}
-use Rattle.rc_openings.specs.Reading.{unopened}
+use Rattle.rc_openings.specs.Reading as Decided
+use Rattle.rc_openings.specs.Reading.{unopened, decided, OfForm, Passed}
 use Rattle.rc_openings.specs.Values.{area_of, interface_of, number_of, number_within, address_of, mask_length, mask_length_of, prefix_of}
 use Rattle.rc_openings.specs.Words.{words_of}
 use Rattle.rc_openings.specs.GlobalOpenings.{global, global_forms, global_refused, global_ignored}
@@ -142,3 +143,17 @@ pub interfaces :
     × (interface_of (codes "0/0") ≡ None)
     × (interface_of (codes "") ≡ None)
 interfaces = (refl, refl, refl)
+
+-- what a line is by its opening: in the block of an access list a sequence number in front is set aside, and elsewhere it is a word
+pub decisions :
+    (decided block.AccessList (words_of (codes " 10 permit any")) ≡ OfForm form.Permit (codes "any" ∷ []))
+    × (decided block.AccessList (words_of (codes " remark")) ≡ OfForm form.Remark [])
+    × (decided block.AccessList (words_of (codes " 2147483648 permit any")) ≡ Decided.Refused Unknown)
+    × (decided block.AccessList (words_of (codes " 10 exit")) ≡ Passed)
+    × (decided block.Interface (words_of (codes " 10 shutdown")) ≡ Decided.Refused Unknown)
+    × (decided block.Interface (words_of (codes " permit any")) ≡ Decided.Refused OutOfPlace)
+    × (decided block.Global (words_of (codes "ip prefix-list X permit 10.0.0.0/8")) ≡ OfForm form.PrefixList (codes "X" ∷ codes "permit" ∷ codes "10.0.0.0/8" ∷ []))
+    × (decided block.Global (words_of (codes "ip community-list standard X")) ≡ OfForm form.StandardCommunityList (codes "X" ∷ []))
+    × (decided block.Global (words_of (codes "router bgp 1")) ≡ Decided.Refused Unsupported)
+unfolding decided decisive_row global global_forms global_refused global_ignored interface interface_forms interface_refused interface_ignored access_list access_list_forms access_list_refused access_list_ignored route_map route_map_forms route_map_refused route_map_ignored ospf ospf_forms ospf_refused ospf_ignored bgp bgp_forms bgp_refused bgp_ignored words_of
+decisions = (refl, refl, refl, refl, refl, refl, refl, refl, refl)

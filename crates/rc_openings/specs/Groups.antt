@@ -1,40 +1,43 @@
 -- A table by how a line finds the openings that it may begin with.
-use Rattle.std.specs.Prelude.{◌≡◌, ℕ, Bool, true, ◌||◌, ◌&&◌, List, [], ◌∷◌, ◌++◌, length, map, take, drop, nat_eq, nat_lt, if◌then◌else◌}
-use Rattle.std.specs.List.{filter, list_all, list_any}
-use Rattle.rc_openings.specs.declared.table.Group.{Group}
+use Rattle.std.specs.Prelude.{◌≡◌, ℕ, zero, suc, ◌+◌, ◌-◌, Bool, true, ◌||◌, ◌&&◌, List, [], ◌∷◌, map, take, drop, nat_eq, nat_lt, nat_le, slice_index_or, if◌then◌else◌}
+use Rattle.std.specs.List.{filter, list_all}
 use Rattle.rc_openings.specs.declared.table.Index.{Index}
 use Rattle.rc_openings.specs.declared.table.Table.{Table}
 use Rattle.rc_openings.specs.Opening.{Row, row_of}
 use Rattle.rc_openings.specs.Words.{first_byte, second_byte}
 
--- the elements of the group of a byte, where the groups stand one behind the other
-abbrev pub group_at : {X : Type 0} → List Group → List X → ℕ → List X
-group_at [] xs b = []
-group_at (g ∷ gs) xs b = if nat_eq g.first b then take g.count xs else group_at gs (drop g.count xs) b
+-- the letters from `A` to `z`, which are 65 to 122, and the six signs between them
+abbrev pub is_letter : ℕ → Bool
+is_letter b = nat_le 65 b && nat_le b 122
+
+abbrev pub letters_from : ℕ → ℕ → List ℕ
+letters_from b zero = []
+letters_from b (suc n) = b ∷ letters_from (suc b) n
+
+unfoldable pub letters : List ℕ
+letters = letters_from 65 58
+
+-- where those of a letter start
+abbrev pub start_of : List ℕ → ℕ → ℕ
+start_of starts k = slice_index_or starts k 0
+
+-- the elements of a letter: from where its own start to where those of the next letter do. Other bytes have none.
+abbrev pub at_letter : {X : Type 0} → List ℕ → List X → ℕ → List X
+at_letter starts xs b =
+    if is_letter b then take (start_of starts (b - 65 + 1) - start_of starts (b - 65)) (drop (start_of starts (b - 65)) xs) else []
 
 -- the rows whose key is this byte
 abbrev pub keyed : (List (List ℕ) → ℕ) → ℕ → List Row → List Row
 keyed key b rows = filter (λ r. nat_eq (key r.words) b) rows
 
--- the rows, group by group
-abbrev pub grouped : (List (List ℕ) → ℕ) → List Group → List Row → List Row
-grouped key [] rows = []
-grouped key (g ∷ gs) rows = keyed key g.first rows ++ grouped key gs rows
+-- the row's key is a letter, and so stands for itself: `*`, which is 42, does not
+abbrev pub is_placed : (List (List ℕ) → ℕ) → Row → Bool
+is_placed key row = nat_lt 42 (key row.words) && is_letter (key row.words)
 
--- each group has as many rows as it says
-abbrev pub are_counted : (List (List ℕ) → ℕ) → List Group → List Row → Bool
-are_counted key [] rows = true
-are_counted key (g ∷ gs) rows = nat_eq (length (keyed key g.first rows)) g.count && are_counted key gs rows
-
--- the row's key has a group, and stands for itself: `*`, which is 42, does not
-abbrev pub is_placed : (List (List ℕ) → ℕ) → List Group → Row → Bool
-is_placed key groups row = nat_lt 42 (key row.words) && list_any (λ g. nat_eq g.first (key row.words)) groups
-
--- the program's index holds these rows, in groups by this key
+-- the program's index holds these rows, letter by letter of this key
 pub record IsIndex (key : List (List ℕ) → ℕ) (index : Index) (rows : List Row) : Type 0 where
-  pub openings : map row_of index.openings.now ≡ grouped key index.groups.now rows
-  pub counted : are_counted key index.groups.now rows ≡ true
-  pub placed : list_all (is_placed key index.groups.now) rows ≡ true
+  pub each : map (λ b. map row_of (at_letter index.starts.now index.openings.now b)) letters ≡ map (λ b. keyed key b rows) letters
+  pub placed : list_all (is_placed key) rows ≡ true
 
 -- the rows with no second word, with `*` for it, and with a word that stands for itself
 abbrev pub one_word : List Row → List Row

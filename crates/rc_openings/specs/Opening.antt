@@ -3,10 +3,12 @@ use Rattle.std.specs.Prelude.{◌≡◌, ℕ, ◌≤◌, Bool, true, false, ◌|
 use Rattle.std.specs.Str.{bytes_eq}
 use Rattle.std.specs.List.{list_any}
 use Rattle.rc_openings.specs.declared.form.Form.{Form as FormKind}
+use Rattle.rc_openings.specs.declared.opening.Glance.{Glance}
+use Rattle.rc_openings.specs.declared.opening.Glance.TheVariants.{Begins, Differs, Unclear}
 use Rattle.rc_openings.specs.declared.opening.Opening.{Opening}
 use Rattle.rc_openings.specs.declared.opening.Verdict.{Verdict}
 use Rattle.rc_openings.specs.declared.opening.Verdict.TheVariants.{Form, Later, Refused, Ignored}
-use Rattle.rc_openings.specs.Words.{words_of}
+use Rattle.rc_openings.specs.Words.{words_of, is_blank}
 
 -- the words of an opening, and what it says of a line that begins with them
 pub record Row : Type 0 where
@@ -42,12 +44,17 @@ begins_with line [] = true
 begins_with [] (t ∷ ts) = false
 begins_with (w ∷ ws) (t ∷ ts) = stands_for t w && begins_with ws ts
 
--- the quick test: the texts of an opening and of a line are the same up to a byte within a word, and there they differ.
--- No byte up to 32 is surely within a word, and none up to `*`, which is 42, surely stands for itself.
-abbrev pub parts_within_word : List ℕ → List ℕ → Bool
-parts_within_word [] line = false
-parts_within_word (a ∷ as') [] = false
-parts_within_word (a ∷ as') (b ∷ bs) = if nat_eq a b then parts_within_word as' bs else nat_lt 42 a && nat_lt 32 b
+-- what two texts tell where they differ at these bytes: no byte up to 32 is surely within a word, and none up to `*`, which is 42,
+-- surely stands for itself
+abbrev pub differing : ℕ → ℕ → Glance
+differing a b = if nat_lt 42 a && nat_lt 32 b then Differs else Unclear
+
+-- what the texts of an opening and of a line tell at a glance
+abbrev pub compared : List ℕ → List ℕ → Glance
+compared [] [] = Begins
+compared [] (b ∷ bs) = if is_blank b then Begins else Unclear
+compared (a ∷ as') [] = Unclear
+compared (a ∷ as') (b ∷ bs) = if nat_eq a b then compared as' bs else differing a b
 
 -- of the rows with which the line begins, this one has the most words
 pub record IsDecisive (rows : List Row) (line : List (List ℕ)) (row : Row) : Type 0 where

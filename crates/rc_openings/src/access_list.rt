@@ -2,7 +2,7 @@
 ghost use Rattle.rc_openings.specs.Groups.{IsTable};
 ghost use Rattle.rc_openings.specs.AccessListOpenings.{access_list};
 
-use crate::table::{Group, Index, Table};
+use crate::table::{Index, Table};
 use crate::{Form, Opening, Verdict};
 
 static ONE_WORD: [Opening; 6] = [
@@ -32,23 +32,14 @@ static ONE_WORD: [Opening; 6] = [
     },
 ];
 
-static ONE_WORD_GROUPS: [Group; 4] = [
-    Group {
-        first: b'd',
-        count: 2,
-    },
-    Group {
-        first: b'e',
-        count: 2,
-    },
-    Group {
-        first: b'p',
-        count: 1,
-    },
-    Group {
-        first: b'r',
-        count: 1,
-    },
+static ONE_WORD_STARTS: [u8; 59] = [
+    0, 0, 0, 0, 0, 0, 0, 0, 0, 0, 0, 0, 0, 0, 0, 0, 0, 0, 0, 0, 0, 0, 0, 0, 0, 0, 0, 0, 0, 0, 0, 0,
+    0, 0, 0, 0, 2, 4, 4, 4, 4, 4, 4, 4, 4, 4, 4, 4, 5, 5, 6, 6, 6, 6, 6, 6, 6, 6, 6,
+];
+
+static NO_STARTS: [u8; 59] = [
+    0, 0, 0, 0, 0, 0, 0, 0, 0, 0, 0, 0, 0, 0, 0, 0, 0, 0, 0, 0, 0, 0, 0, 0, 0, 0, 0, 0, 0, 0, 0, 0,
+    0, 0, 0, 0, 0, 0, 0, 0, 0, 0, 0, 0, 0, 0, 0, 0, 0, 0, 0, 0, 0, 0, 0, 0, 0, 0, 0,
 ];
 
 pub(crate) fn access_list_table() -> Table
@@ -57,11 +48,11 @@ pub(crate) fn access_list_table() -> Table
     Table {
         one_word: Index {
             openings: &ONE_WORD,
-            groups: &ONE_WORD_GROUPS,
+            starts: &ONE_WORD_STARTS,
         },
         more_words: Index {
             openings: &[],
-            groups: &[],
+            starts: &NO_STARTS,
         },
         starred: &[],
     }

@@ -2,7 +2,7 @@
 ghost use Rattle.rc_openings.specs.Groups.{IsTable};
 ghost use Rattle.rc_openings.specs.BgpOpenings.{bgp};
 
-use crate::table::{Group, Index, Table};
+use crate::table::{Index, Table};
 use crate::{Form, Opening, Verdict};
 
 static ONE_WORD: [Opening; 15] = [
@@ -68,39 +68,9 @@ static ONE_WORD: [Opening; 15] = [
     },
 ];
 
-static ONE_WORD_GROUPS: [Group; 8] = [
-    Group {
-        first: b'a',
-        count: 2,
-    },
-    Group {
-        first: b'b',
-        count: 1,
-    },
-    Group {
-        first: b'd',
-        count: 3,
-    },
-    Group {
-        first: b'e',
-        count: 1,
-    },
-    Group {
-        first: b'm',
-        count: 1,
-    },
-    Group {
-        first: b'n',
-        count: 3,
-    },
-    Group {
-        first: b'r',
-        count: 1,
-    },
-    Group {
-        first: b't',
-        count: 3,
-    },
+static ONE_WORD_STARTS: [u8; 59] = [
+    0, 0, 0, 0, 0, 0, 0, 0, 0, 0, 0, 0, 0, 0, 0, 0, 0, 0, 0, 0, 0, 0, 0, 0, 0, 0, 0, 0, 0, 0, 0, 0,
+    0, 2, 3, 3, 6, 7, 7, 7, 7, 7, 7, 7, 7, 8, 11, 11, 11, 11, 12, 12, 15, 15, 15, 15, 15, 15, 15,
 ];
 
 static MORE_WORDS: [Opening; 10] = [
@@ -146,43 +116,9 @@ static MORE_WORDS: [Opening; 10] = [
     },
 ];
 
-static MORE_WORDS_GROUPS: [Group; 9] = [
-    Group {
-        first: b'b',
-        count: 2,
-    },
-    Group {
-        first: b'c',
-        count: 1,
-    },
-    Group {
-        first: b'd',
-        count: 1,
-    },
-    Group {
-        first: b'g',
-        count: 1,
-    },
-    Group {
-        first: b'l',
-        count: 1,
-    },
-    Group {
-        first: b'n',
-        count: 1,
-    },
-    Group {
-        first: b'o',
-        count: 1,
-    },
-    Group {
-        first: b'r',
-        count: 1,
-    },
-    Group {
-        first: b's',
-        count: 1,
-    },
+static MORE_WORDS_STARTS: [u8; 59] = [
+    0, 0, 0, 0, 0, 0, 0, 0, 0, 0, 0, 0, 0, 0, 0, 0, 0, 0, 0, 0, 0, 0, 0, 0, 0, 0, 0, 0, 0, 0, 0, 0,
+    0, 0, 2, 3, 4, 4, 4, 5, 5, 5, 5, 5, 6, 6, 7, 8, 8, 8, 9, 10, 10, 10, 10, 10, 10, 10, 10,
 ];
 
 static STARRED: [Opening; 18] = [
@@ -266,11 +202,11 @@ pub(crate) fn bgp_table() -> Table
     Table {
         one_word: Index {
             openings: &ONE_WORD,
-            groups: &ONE_WORD_GROUPS,
+            starts: &ONE_WORD_STARTS,
         },
         more_words: Index {
             openings: &MORE_WORDS,
-            groups: &MORE_WORDS_GROUPS,
+            starts: &MORE_WORDS_STARTS,
         },
         starred: &STARRED,
     }

@@ -4,6 +4,7 @@ ghost use Rattle.std.specs.Option.{option_map};
 ghost use Rattle.rc_openings.specs.Words.{words_left, words_of};
 ghost use Rattle.rc_openings.specs.Opening.{begins_with as begins, begins_form as begins_form_of, IsAnswer, Row, row_of};
 
+use crate::opening::Glance;
 use crate::{Opening, Words};
 
 /// Whether a line with these words begins with the words of the opening.
@@ -31,15 +32,24 @@ fn is_longer(mut first: Words, mut second: Words) -> bool
     false
 }
 
+/// Whether a line of this text begins with the words of the opening.
+fn begins_opening(opening: &Opening, line: Words, text: &[u8]) -> bool
+    requires { words_of text.now ≡ words_left line }
+    ensures { result ≡ begins (words_left line.entry) (words_of opening.now.text.now) }
+{
+    match opening.look(text) {
+        Glance::Begins => true,
+        Glance::Differs => false,
+        Glance::Unclear => begins_with(line, opening.words()),
+    }
+}
+
 /// The decisive one of some openings and one more, for a line of this text.
 fn better(best: Option<Opening>, opening: &Opening, line: Words, text: &[u8]) -> Option<Opening>
     requires { words_of text.now ≡ words_left line }
     ensures { (rows : List Row) → IsAnswer rows (words_left line.entry) (option_map row_of best) → IsAnswer (rows ++ row_of opening.now ∷ []) (words_left line.entry) (option_map row_of result) }
 {
-    if !opening.may_begin(text) {
-        return best;
-    }
-    if !begins_with(line, opening.words()) {
+    if !begins_opening(opening, line, text) {
         return best;
     }
     match best {

@@ -2,7 +2,7 @@
 ghost use Rattle.rc_openings.specs.Groups.{IsTable};
 ghost use Rattle.rc_openings.specs.GlobalOpenings.{global};
 
-use crate::table::{Group, Index, Table};
+use crate::table::{Index, Table};
 use crate::{Form, Opening, Verdict};
 
 static ONE_WORD: [Opening; 93] = [
@@ -380,103 +380,10 @@ static ONE_WORD: [Opening; 93] = [
     },
 ];
 
-static ONE_WORD_GROUPS: [Group; 24] = [
-    Group {
-        first: b'B',
-        count: 1,
-    },
-    Group {
-        first: b'C',
-        count: 1,
-    },
-    Group {
-        first: b'U',
-        count: 1,
-    },
-    Group {
-        first: b'a',
-        count: 5,
-    },
-    Group {
-        first: b'b',
-        count: 4,
-    },
-    Group {
-        first: b'c',
-        count: 8,
-    },
-    Group {
-        first: b'd',
-        count: 2,
-    },
-    Group {
-        first: b'e',
-        count: 6,
-    },
-    Group {
-        first: b'f',
-        count: 2,
-    },
-    Group {
-        first: b'h',
-        count: 2,
-    },
-    Group {
-        first: b'i',
-        count: 2,
-    },
-    Group {
-        first: b'k',
-        count: 2,
-    },
-    Group {
-        first: b'l',
-        count: 6,
-    },
-    Group {
-        first: b'm',
-        count: 8,
-    },
-    Group {
-        first: b'n',
-        count: 3,
-    },
-    Group {
-        first: b'o',
-        count: 1,
-    },
-    Group {
-        first: b'p',
-        count: 7,
-    },
-    Group {
-        first: b'r',
-        count: 6,
-    },
-    Group {
-        first: b's',
-        count: 9,
-    },
-    Group {
-        first: b't',
-        count: 6,
-    },
-    Group {
-        first: b'u',
-        count: 2,
-    },
-    Group {
-        first: b'v',
-        count: 6,
-    },
-    Group {
-        first: b'w',
-        count: 1,
-    },
-    Group {
-        first: b'z',
-        count: 2,
-    },
+static ONE_WORD_STARTS: [u8; 59] = [
+    0, 0, 1, 2, 2, 2, 2, 2, 2, 2, 2, 2, 2, 2, 2, 2, 2, 2, 2, 2, 2, 3, 3, 3, 3, 3, 3, 3, 3, 3, 3, 3,
+    3, 8, 12, 20, 22, 28, 30, 30, 32, 34, 34, 36, 42, 50, 53, 54, 61, 61, 67, 76, 82, 84, 90, 91,
+    91, 91, 93,
 ];
 
 static MORE_WORDS: [Opening; 54] = [
@@ -698,75 +605,10 @@ static MORE_WORDS: [Opening; 54] = [
     },
 ];
 
-static MORE_WORDS_GROUPS: [Group; 17] = [
-    Group {
-        first: b'a',
-        count: 4,
-    },
-    Group {
-        first: b'b',
-        count: 2,
-    },
-    Group {
-        first: b'c',
-        count: 5,
-    },
-    Group {
-        first: b'd',
-        count: 6,
-    },
-    Group {
-        first: b'e',
-        count: 1,
-    },
-    Group {
-        first: b'f',
-        count: 5,
-    },
-    Group {
-        first: b'h',
-        count: 2,
-    },
-    Group {
-        first: b'i',
-        count: 4,
-    },
-    Group {
-        first: b'l',
-        count: 1,
-    },
-    Group {
-        first: b'm',
-        count: 2,
-    },
-    Group {
-        first: b'n',
-        count: 2,
-    },
-    Group {
-        first: b'o',
-        count: 2,
-    },
-    Group {
-        first: b'p',
-        count: 4,
-    },
-    Group {
-        first: b'r',
-        count: 5,
-    },
-    Group {
-        first: b's',
-        count: 5,
-    },
-    Group {
-        first: b't',
-        count: 3,
-    },
-    Group {
-        first: b'v',
-        count: 1,
-    },
+static MORE_WORDS_STARTS: [u8; 59] = [
+    0, 0, 0, 0, 0, 0, 0, 0, 0, 0, 0, 0, 0, 0, 0, 0, 0, 0, 0, 0, 0, 0, 0, 0, 0, 0, 0, 0, 0, 0, 0, 0,
+    0, 4, 6, 11, 17, 18, 23, 23, 25, 29, 29, 29, 30, 32, 34, 36, 40, 40, 45, 50, 53, 53, 54, 54,
+    54, 54, 54,
 ];
 
 pub(crate) fn global_table() -> Table
@@ -775,11 +617,11 @@ pub(crate) fn global_table() -> Table
     Table {
         one_word: Index {
             openings: &ONE_WORD,
-            groups: &ONE_WORD_GROUPS,
+            starts: &ONE_WORD_STARTS,
         },
         more_words: Index {
             openings: &MORE_WORDS,
-            groups: &MORE_WORDS_GROUPS,
+            starts: &MORE_WORDS_STARTS,
         },
         starred: &[],
     }

@@ -2,7 +2,7 @@
 ghost use Rattle.rc_openings.specs.Groups.{IsTable};
 ghost use Rattle.rc_openings.specs.InterfaceOpenings.{interface};
 
-use crate::table::{Group, Index, Table};
+use crate::table::{Index, Table};
 use crate::{Form, Opening, Verdict};
 
 static ONE_WORD: [Opening; 52] = [
@@ -216,91 +216,10 @@ static ONE_WORD: [Opening; 52] = [
     },
 ];
 
-static ONE_WORD_GROUPS: [Group; 21] = [
-    Group {
-        first: b'a',
-        count: 2,
-    },
-    Group {
-        first: b'b',
-        count: 4,
-    },
-    Group {
-        first: b'c',
-        count: 4,
-    },
-    Group {
-        first: b'd',
-        count: 3,
-    },
-    Group {
-        first: b'e',
-        count: 2,
-    },
-    Group {
-        first: b'f',
-        count: 1,
-    },
-    Group {
-        first: b'g',
-        count: 1,
-    },
-    Group {
-        first: b'h',
-        count: 1,
-    },
-    Group {
-        first: b'i',
-        count: 1,
-    },
-    Group {
-        first: b'k',
-        count: 1,
-    },
-    Group {
-        first: b'l',
-        count: 4,
-    },
-    Group {
-        first: b'm',
-        count: 6,
-    },
-    Group {
-        first: b'n',
-        count: 3,
-    },
-    Group {
-        first: b'p',
-        count: 2,
-    },
-    Group {
-        first: b'r',
-        count: 1,
-    },
-    Group {
-        first: b's',
-        count: 9,
-    },
-    Group {
-        first: b't',
-        count: 2,
-    },
-    Group {
-        first: b'u',
-        count: 1,
-    },
-    Group {
-        first: b'v',
-        count: 2,
-    },
-    Group {
-        first: b'x',
-        count: 1,
-    },
-    Group {
-        first: b'z',
-        count: 1,
-    },
+static ONE_WORD_STARTS: [u8; 59] = [
+    0, 0, 0, 0, 0, 0, 0, 0, 0, 0, 0, 0, 0, 0, 0, 0, 0, 0, 0, 0, 0, 0, 0, 0, 0, 0, 0, 0, 0, 0, 0, 0,
+    0, 2, 6, 10, 13, 15, 16, 17, 18, 19, 19, 20, 24, 30, 33, 33, 35, 35, 36, 45, 47, 48, 50, 50,
+    51, 51, 52,
 ];
 
 static MORE_WORDS: [Opening; 42] = [
@@ -474,67 +393,10 @@ static MORE_WORDS: [Opening; 42] = [
     },
 ];
 
-static MORE_WORDS_GROUPS: [Group; 15] = [
-    Group {
-        first: b'a',
-        count: 5,
-    },
-    Group {
-        first: b'd',
-        count: 1,
-    },
-    Group {
-        first: b'f',
-        count: 1,
-    },
-    Group {
-        first: b'h',
-        count: 1,
-    },
-    Group {
-        first: b'i',
-        count: 2,
-    },
-    Group {
-        first: b'l',
-        count: 1,
-    },
-    Group {
-        first: b'm',
-        count: 2,
-    },
-    Group {
-        first: b'n',
-        count: 2,
-    },
-    Group {
-        first: b'o',
-        count: 14,
-    },
-    Group {
-        first: b'p',
-        count: 3,
-    },
-    Group {
-        first: b'r',
-        count: 3,
-    },
-    Group {
-        first: b's',
-        count: 1,
-    },
-    Group {
-        first: b't',
-        count: 1,
-    },
-    Group {
-        first: b'u',
-        count: 2,
-    },
-    Group {
-        first: b'v',
-        count: 3,
-    },
+static MORE_WORDS_STARTS: [u8; 59] = [
+    0, 0, 0, 0, 0, 0, 0, 0, 0, 0, 0, 0, 0, 0, 0, 0, 0, 0, 0, 0, 0, 0, 0, 0, 0, 0, 0, 0, 0, 0, 0, 0,
+    0, 5, 5, 5, 6, 6, 7, 7, 8, 10, 10, 10, 11, 13, 15, 29, 32, 32, 35, 36, 37, 39, 42, 42, 42, 42,
+    42,
 ];
 
 pub(crate) fn interface_table() -> Table
@@ -543,11 +405,11 @@ pub(crate) fn interface_table() -> Table
     Table {
         one_word: Index {
             openings: &ONE_WORD,
-            groups: &ONE_WORD_GROUPS,
+            starts: &ONE_WORD_STARTS,
         },
         more_words: Index {
             openings: &MORE_WORDS,
-            groups: &MORE_WORDS_GROUPS,
+            starts: &MORE_WORDS_STARTS,
         },
         starred: &[],
     }

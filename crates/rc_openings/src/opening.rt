@@ -1,8 +1,9 @@
 //! An opening, and what it says of a line.
-ghost use Rattle.std.specs.Prelude.{◌≡◌, false, length, drop};
+ghost use Rattle.std.specs.Prelude.{◌≡◌, true, false, [], length, drop};
 ghost use Rattle.rc_openings.specs.Words.{words_of, words_left};
-ghost use Rattle.rc_openings.specs.Opening.{begins_with, parts_within_word as parts_within, is_form_verdict};
+ghost use Rattle.rc_openings.specs.Opening.{begins_with, differing, compared as compared_of, is_form_verdict};
 
+use crate::words::is_blank;
 use crate::{Form, Words};
 
 /// What an opening says of a line that it decides.
@@ -27,24 +28,61 @@ pub struct Opening {
     pub verdict: Verdict,
 }
 
-/// Whether the texts of an opening and of a line surely part within a word: at a byte of the opening that is behind the
-/// blanks and `*`, and one of the line that is behind the blanks.
-fn parts_within_word(opening: &[u8], line: &[u8]) -> bool
-    ensures { result ≡ parts_within opening.now line.now }
+/// What the texts of an opening and of a line tell at a glance, byte by byte.
+#[derive(Clone, Copy, PartialEq, Eq)]
+pub(crate) enum Glance {
+    /// The line's text begins with that of the opening, and a blank or the end follows: the line begins with its words.
+    Begins,
+    /// They differ within a word, at a byte of the opening that no `*` has: the line doesn't begin with its words.
+    Differs,
+    /// The words have to be held against each other.
+    Unclear,
+}
+
+/// What is told where the texts differ at these bytes. No byte up to that of a space is surely within a word, and none up to
+/// `*` surely stands for itself.
+fn at_difference(byte: u8, other: u8) -> Glance
+    ensures { result ≡ differing byte other }
+{
+    if byte > b'*' && other > b' ' {
+        Glance::Differs
+    } else {
+        Glance::Unclear
+    }
+}
+
+/// What is told where the text of the opening ends, and this is left of the line.
+fn at_end(rest: &[u8]) -> Glance
+    ensures { result ≡ compared_of [] rest.now }
+{
+    match rest {
+        [] => Glance::Begins,
+        [byte, ..] => {
+            if is_blank(*byte) {
+                Glance::Begins
+            } else {
+                Glance::Unclear
+            }
+        }
+    }
+}
+
+fn compared(opening: &[u8], line: &[u8]) -> Glance
+    ensures { result ≡ compared_of opening.now line.now }
 {
     let mut token = opening;
     let mut word = line;
     while let [byte, token_rest @ ..] = token {
         let [other, word_rest @ ..] = word else {
-            return false;
+            return Glance::Unclear;
         };
         if *byte != *other {
-            return *byte > b'*' && *other > b' ';
+            return at_difference(*byte, *other);
         }
         token = token_rest;
         word = word_rest;
     }
-    false
+    at_end(word)
 }
 
 impl Opening {
@@ -74,10 +112,11 @@ impl Opening {
         matches!(self.verdict, Verdict::Form(_) | Verdict::Later(_))
     }
 
-    /// Whether a line with this text might begin with it: the quick test that sets most openings aside.
-    pub(crate) fn may_begin(&self, line: &[u8]) -> bool
-        ensures { result ≡ false → begins_with (words_of line.now) (words_of self.now.text.now) ≡ false }
+    /// What a line with this text tells of it at a glance: the quick test that settles most openings.
+    pub(crate) fn look(&self, line: &[u8]) -> Glance
+        ensures begins { result ≡ Glance.Begins → begins_with (words_of line.now) (words_of self.now.text.now) ≡ true }
+        ensures differs { result ≡ Glance.Differs → begins_with (words_of line.now) (words_of self.now.text.now) ≡ false }
     {
-        !parts_within_word(self.text, line)
+        compared(self.text, line)
     }
 }

@@ -2,7 +2,7 @@
 ghost use Rattle.rc_openings.specs.Groups.{IsTable};
 ghost use Rattle.rc_openings.specs.OspfOpenings.{ospf};
 
-use crate::table::{Group, Index, Table};
+use crate::table::{Index, Table};
 use crate::{Form, Opening, Verdict};
 
 static ONE_WORD: [Opening; 21] = [
@@ -92,55 +92,9 @@ static ONE_WORD: [Opening; 21] = [
     },
 ];
 
-static ONE_WORD_GROUPS: [Group; 12] = [
-    Group {
-        first: b'a',
-        count: 1,
-    },
-    Group {
-        first: b'b',
-        count: 1,
-    },
-    Group {
-        first: b'd',
-        count: 4,
-    },
-    Group {
-        first: b'e',
-        count: 1,
-    },
-    Group {
-        first: b'i',
-        count: 1,
-    },
-    Group {
-        first: b'l',
-        count: 1,
-    },
-    Group {
-        first: b'm',
-        count: 3,
-    },
-    Group {
-        first: b'n',
-        count: 4,
-    },
-    Group {
-        first: b'p',
-        count: 1,
-    },
-    Group {
-        first: b'r',
-        count: 2,
-    },
-    Group {
-        first: b's',
-        count: 1,
-    },
-    Group {
-        first: b't',
-        count: 1,
-    },
+static ONE_WORD_STARTS: [u8; 59] = [
+    0, 0, 0, 0, 0, 0, 0, 0, 0, 0, 0, 0, 0, 0, 0, 0, 0, 0, 0, 0, 0, 0, 0, 0, 0, 0, 0, 0, 0, 0, 0, 0,
+    0, 1, 2, 2, 6, 7, 7, 7, 7, 8, 8, 8, 9, 12, 16, 16, 17, 17, 19, 20, 21, 21, 21, 21, 21, 21, 21,
 ];
 
 static MORE_WORDS: [Opening; 7] = [
@@ -174,35 +128,9 @@ static MORE_WORDS: [Opening; 7] = [
     },
 ];
 
-static MORE_WORDS_GROUPS: [Group; 7] = [
-    Group {
-        first: b'b',
-        count: 1,
-    },
-    Group {
-        first: b'c',
-        count: 1,
-    },
-    Group {
-        first: b'd',
-        count: 1,
-    },
-    Group {
-        first: b'o',
-        count: 1,
-    },
-    Group {
-        first: b'p',
-        count: 1,
-    },
-    Group {
-        first: b'r',
-        count: 1,
-    },
-    Group {
-        first: b's',
-        count: 1,
-    },
+static MORE_WORDS_STARTS: [u8; 59] = [
+    0, 0, 0, 0, 0, 0, 0, 0, 0, 0, 0, 0, 0, 0, 0, 0, 0, 0, 0, 0, 0, 0, 0, 0, 0, 0, 0, 0, 0, 0, 0, 0,
+    0, 0, 1, 2, 3, 3, 3, 3, 3, 3, 3, 3, 3, 3, 3, 4, 5, 5, 6, 7, 7, 7, 7, 7, 7, 7, 7,
 ];
 
 static STARRED: [Opening; 1] = [Opening {
@@ -216,11 +144,11 @@ pub(crate) fn ospf_table() -> Table
     Table {
         one_word: Index {
             openings: &ONE_WORD,
-            groups: &ONE_WORD_GROUPS,
+            starts: &ONE_WORD_STARTS,
         },
         more_words: Index {
             openings: &MORE_WORDS,
-            groups: &MORE_WORDS_GROUPS,
+            starts: &MORE_WORDS_STARTS,
         },
         starred: &STARRED,
     }

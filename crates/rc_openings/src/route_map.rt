@@ -2,7 +2,7 @@
 ghost use Rattle.rc_openings.specs.Groups.{IsTable};
 ghost use Rattle.rc_openings.specs.RouteMapOpenings.{route_map};
 
-use crate::table::{Group, Index, Table};
+use crate::table::{Index, Table};
 use crate::{Form, Opening, Verdict};
 
 static ONE_WORD: [Opening; 5] = [
@@ -28,27 +28,9 @@ static ONE_WORD: [Opening; 5] = [
     },
 ];
 
-static ONE_WORD_GROUPS: [Group; 5] = [
-    Group {
-        first: b'c',
-        count: 1,
-    },
-    Group {
-        first: b'd',
-        count: 1,
-    },
-    Group {
-        first: b'e',
-        count: 1,
-    },
-    Group {
-        first: b'm',
-        count: 1,
-    },
-    Group {
-        first: b's',
-        count: 1,
-    },
+static ONE_WORD_STARTS: [u8; 59] = [
+    0, 0, 0, 0, 0, 0, 0, 0, 0, 0, 0, 0, 0, 0, 0, 0, 0, 0, 0, 0, 0, 0, 0, 0, 0, 0, 0, 0, 0, 0, 0, 0,
+    0, 0, 0, 1, 2, 3, 3, 3, 3, 3, 3, 3, 3, 4, 4, 4, 4, 4, 4, 5, 5, 5, 5, 5, 5, 5, 5,
 ];
 
 static MORE_WORDS: [Opening; 14] = [
@@ -110,39 +92,9 @@ static MORE_WORDS: [Opening; 14] = [
     },
 ];
 
-static MORE_WORDS_GROUPS: [Group; 8] = [
-    Group {
-        first: b'a',
-        count: 1,
-    },
-    Group {
-        first: b'c',
-        count: 2,
-    },
-    Group {
-        first: b'i',
-        count: 2,
-    },
-    Group {
-        first: b'l',
-        count: 1,
-    },
-    Group {
-        first: b'm',
-        count: 3,
-    },
-    Group {
-        first: b'o',
-        count: 3,
-    },
-    Group {
-        first: b't',
-        count: 1,
-    },
-    Group {
-        first: b'w',
-        count: 1,
-    },
+static MORE_WORDS_STARTS: [u8; 59] = [
+    0, 0, 0, 0, 0, 0, 0, 0, 0, 0, 0, 0, 0, 0, 0, 0, 0, 0, 0, 0, 0, 0, 0, 0, 0, 0, 0, 0, 0, 0, 0, 0,
+    0, 1, 1, 3, 3, 3, 3, 3, 3, 5, 5, 5, 6, 9, 9, 12, 12, 12, 12, 12, 13, 13, 13, 14, 14, 14, 14,
 ];
 
 pub(crate) fn route_map_table() -> Table
@@ -151,11 +103,11 @@ pub(crate) fn route_map_table() -> Table
     Table {
         one_word: Index {
             openings: &ONE_WORD,
-            groups: &ONE_WORD_GROUPS,
+            starts: &ONE_WORD_STARTS,
         },
         more_words: Index {
             openings: &MORE_WORDS,
-            groups: &MORE_WORDS_GROUPS,
+            starts: &MORE_WORDS_STARTS,
         },
         starred: &[],
     }

@@ -2,27 +2,21 @@
 //!
 //! An opening of one word stands with those of its first byte, and one of more words with those of the first byte of its
 //! second word: a line is held against two such groups, so that most openings are never looked at.
-ghost use Rattle.std.specs.Prelude.{◌≡◌, ◌||◌, ℕ, List, map};
+ghost use Rattle.std.specs.Prelude.{◌≡◌, ◌||◌, ℕ, List, map, take, drop};
 ghost use Rattle.std.specs.Option.{option_map};
 ghost use Rattle.rc_openings.specs.Words.{words_left};
 ghost use Rattle.rc_openings.specs.Opening.{IsAnswer, Row, begins_form as begins_form_of, row_of};
-ghost use Rattle.rc_openings.specs.Groups.{IsIndex, IsTable, group_at, keyed};
+ghost use Rattle.rc_openings.specs.Groups.{IsIndex, IsTable, at_letter, keyed};
 
 use crate::decide::{begins_form, decisive, decisive_from};
 use crate::{Opening, Words};
 
-/// How many openings of an index have this byte.
-#[derive(Clone, Copy)]
-pub(crate) struct Group {
-    pub first: u8,
-    pub count: usize,
-}
-
-/// Openings in groups, one for each byte by which they are found. The groups are in the order of these bytes.
+/// Openings in groups, one for each letter by which they are found, in the order of the letters.
 #[derive(Clone, Copy)]
 pub(crate) struct Index {
     pub openings: &'static [Opening],
-    pub groups: &'static [Group],
+    /// Where those of each letter from `A` to `z` start, and where the last end.
+    pub starts: &'static [u8; 59],
 }
 
 /// The openings of a block.
@@ -36,19 +30,26 @@ pub(crate) struct Table {
     pub starred: &'static [Opening],
 }
 
-/// The openings of the group of a byte, where the groups stand one behind the other.
-fn openings_at(openings: &'static [Opening], groups: &[Group], first: u8) -> &'static [Opening]
-    ensures { result.now ≡ group_at groups.now openings.now first }
+/// So many elements from a place on, or as many as there are.
+fn part_of(openings: &'static [Opening], start: usize, count: usize) -> &'static [Opening]
+    ensures { result.now ≡ take count (drop start openings.now) }
 {
-    let mut rest = openings;
-    for group in groups {
-        let (openings_here, behind) = rest.split_at(group.count.min(rest.len()));
-        if group.first == first {
-            return openings_here;
-        }
-        rest = behind;
+    let (_, behind) = openings.split_at(start.min(openings.len()));
+    let (here, _) = behind.split_at(count.min(behind.len()));
+    here
+}
+
+/// The openings of a letter, from where its own start to where those of the next letter do.
+fn openings_at(openings: &'static [Opening], starts: &[u8; 59], byte: u8) -> &'static [Opening]
+    ensures { result.now ≡ at_letter starts.now openings.now byte }
+{
+    if byte < b'A' || byte > b'z' {
+        return &[];
     }
-    &[]
+    let place = usize::from(byte - b'A');
+    let start = usize::from(starts[place]);
+    let end = usize::from(starts[place + 1]);
+    part_of(openings, start, end.saturating_sub(start))
 }
 
 fn is_one_of_three(first: bool, second: bool, third: bool) -> bool
@@ -58,11 +59,11 @@ fn is_one_of_three(first: bool, second: bool, third: bool) -> bool
 }
 
 impl Index {
-    /// The openings that are found by this byte.
+    /// The openings that are found by this byte. Two looks at the starts find them, whatever the byte.
     fn at(self, byte: u8) -> &'static [Opening]
         ensures { (key : List (List ℕ) → ℕ) (rows : List Row) → IsIndex key self rows → map row_of result.now ≡ keyed key byte rows }
     {
-        openings_at(self.openings, self.groups, byte)
+        openings_at(self.openings, self.starts, byte)
     }
 }
 

@@ -11,7 +11,7 @@ pub struct Words<'a> {
     text: &'a [u8],
 }
 
-fn is_blank(byte: u8) -> bool
+pub(crate) fn is_blank(byte: u8) -> bool
     ensures { result ≡ blank byte }
 {
     byte == b' ' || byte == b'\t'

@@ -1,4 +1,5 @@
 pub mod Builds
 pub mod AccessLists
+pub mod Marks
 pub mod Regions
 pub mod Rows

@@ -1,13 +1,14 @@
 use Rattle.std.proofs.Common.{refl}
+use Rattle.rc_openings.specs.Groups.{letters}
 use Rattle.rc_openings.specs.Words.{words_of}
 use Rattle.rc_openings.specs.AccessListOpenings.{access_list, access_list_forms, access_list_refused, access_list_ignored}
 use Rattle.rc_openings.proofs.access_list.access_list_table.Goals as goal
 
 pub returns : goal.returns
-unfolding access_list access_list_forms access_list_refused access_list_ignored words_of
+unfolding access_list access_list_forms access_list_refused access_list_ignored words_of letters
 returns c = record {
-  one_word = record { openings = refl; counted = refl; placed = refl };
+  one_word = record { each = refl; placed = refl };
   starred = refl;
-  more_words = record { openings = refl; counted = refl; placed = refl };
+  more_words = record { each = refl; placed = refl };
   three = refl;
 }

@@ -1,13 +1,14 @@
 use Rattle.std.proofs.Common.{refl}
+use Rattle.rc_openings.specs.Groups.{letters}
 use Rattle.rc_openings.specs.Words.{words_of}
 use Rattle.rc_openings.specs.GlobalOpenings.{global, global_forms, global_refused, global_ignored}
 use Rattle.rc_openings.proofs.global.global_table.Goals as goal
 
 pub returns : goal.returns
-unfolding global global_forms global_refused global_ignored words_of
+unfolding global global_forms global_refused global_ignored words_of letters
 returns c = record {
-  one_word = record { openings = refl; counted = refl; placed = refl };
+  one_word = record { each = refl; placed = refl };
   starred = refl;
-  more_words = record { openings = refl; counted = refl; placed = refl };
+  more_words = record { each = refl; placed = refl };
   three = refl;
 }

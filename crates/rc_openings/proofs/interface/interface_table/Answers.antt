@@ -1,13 +1,14 @@
 use Rattle.std.proofs.Common.{refl}
+use Rattle.rc_openings.specs.Groups.{letters}
 use Rattle.rc_openings.specs.Words.{words_of}
 use Rattle.rc_openings.specs.InterfaceOpenings.{interface, interface_forms, interface_refused, interface_ignored}
 use Rattle.rc_openings.proofs.interface.interface_table.Goals as goal
 
 pub returns : goal.returns
-unfolding interface interface_forms interface_refused interface_ignored words_of
+unfolding interface interface_forms interface_refused interface_ignored words_of letters
 returns c = record {
-  one_word = record { openings = refl; counted = refl; placed = refl };
+  one_word = record { each = refl; placed = refl };
   starred = refl;
-  more_words = record { openings = refl; counted = refl; placed = refl };
+  more_words = record { each = refl; placed = refl };
   three = refl;
 }
