@@ -1,18 +1,16 @@
 -- What holds of the graph of an area and of the walks that are kept of it.
-use Rattle.std.proofs.Common.{◌≡◌, ℕ, zero, suc, ◌+◌, ◌*◌, ◌^◌, ◌<◌, ◌≤◌, ◌↔◌, List, [], ◌∷◌, ◌++◌, length, map, get_or, Option, Some, None, MatchOption, All, Contains, sym, ◌∙◌, ap, subst, refl, arith, append_assoc}
+use Rattle.std.proofs.Common.{◌≡◌, ℕ, ◌+◌, ◌*◌, ◌^◌, ◌<◌, ◌≤◌, ◌↔◌, List, [], ◌∷◌, ◌++◌, length, map, get_or, Option, None, MatchOption, All, Contains, sym, ◌∙◌, ap, subst, arith, append_assoc}
 use Rattle.std.specs.Prelude.{slice_get, option_and_then}
 use Rattle.std.proofs.Math.Nat.{mul-le-mul_left}
 use Rattle.std.proofs.lemmas.List.{map-append}
 use Rattle.std.proofs.lemmas.List.Elements.{All-contains, All-append}
 use Rattle.rc_spf.specs.declared.graph.Edge.{Edge}
 use Rattle.rc_spf.specs.declared.graph.First.{First}
-use Rattle.rc_spf.specs.Steps.{HasCost, AreBounded, first_of}
+use Rattle.rc_spf.specs.Steps.{AreBounded, first_of}
 use Rattle.rc_spf.specs.Walks as W
 use Rattle.rc_ospf.specs.declared.adjacency.Step.{Step}
 use Rattle.rc_ospf.specs.declared.area.AreaGraph.{AreaGraph}
-use Rattle.rc_ospf.specs.declared.path.AreaPaths.{AreaPaths}
 use Rattle.rc_ospf.specs.Edges.{edges_in, graph_area, IsFitStep, IsAreaGraph, IsKept, AreKept, AreAreaPaths, HasSmallCosts}
-use Rattle.rc_ospf.specs.Paths.{path_of}
 use Rattle.rc_ospf.specs.Walks.{LeastWalks}
 use Rattle.rc_ospf.proofs.Bridge.{each_edge, path_is}
 use Rattle.rc_ospf.proofs.KeptLaws.{kept_at}
@@ -43,6 +41,7 @@ pub area_paths : (n area r : ℕ) (steps : List Step) (edges : List Edge) (costs
     ((s i : ℕ) → Contains firsts (first_of s i) ↔ W.IsFirstHop edges r s i) → length paths ≡ n → AreKept steps costs firsts 0 paths →
     AreAreaPaths n steps r (record { area = area; paths = paths })
 area_paths n area r steps edges costs firsts paths is cost hops long kept = record {
+  routers = long;
   path = λ s lt. path_is area steps edges r s costs firsts is (cost s) (hops s) (option_and_then (λ (o : Option LeastWalks). o) (slice_get paths s))
       (subst (λ k. IsKept steps costs firsts k (option_and_then (λ (o : Option LeastWalks). o) (slice_get paths s))) (let none : 0 + s ≡ s = omega arith in none) (kept_at steps costs firsts 0 paths s kept (omega arith)));
 }

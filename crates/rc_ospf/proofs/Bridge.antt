@@ -1,16 +1,16 @@
 -- Walks of an area's graph are walks of the area's steps.
-use Rattle.std.proofs.Common.{◌≡◌, ℕ, zero, suc, ◌+◌, ◌<◌, ◌≤◌, ◌⊎◌, ◌↔◌, inl, inr, Bool, true, false, cond, List, [], ◌∷◌, length, get_or, Option, Some, None, MatchOption, All, Contains, sym, ◌∙◌, ap, subst, refl, arith, eq-eqb}
+use Rattle.std.proofs.Common.{◌≡◌, ℕ, zero, suc, ◌+◌, ◌≤◌, ◌↔◌, inl, inr, Bool, true, false, cond, List, [], ◌∷◌, get_or, Option, Some, None, MatchOption, All, Contains, sym, ◌∙◌, ap, subst, refl, arith, eq-eqb}
 use Rattle.std.specs.Prelude.{◌==◌, slice_get}
 use Rattle.std.specs.Option.{option_map}
-use Rattle.std.proofs.lemmas.List.Elements.{Contains-get_or, All-contains}
+use Rattle.std.proofs.lemmas.List.Elements.{Contains-get_or}
 use Rattle.rc_route.specs.declared.route.Hop.{Hop}
 use Rattle.rc_spf.specs.declared.graph.Edge.{Edge}
 use Rattle.rc_spf.specs.declared.graph.First.{First}
-use Rattle.rc_spf.specs.Steps.{HasCost, first_of}
+use Rattle.rc_spf.specs.Steps.{first_of}
 use Rattle.rc_spf.specs.Walks as W
 use Rattle.rc_ospf.specs.declared.adjacency.Step.{Step}
 use Rattle.rc_ospf.specs.Adjacency.{hop_of}
-use Rattle.rc_ospf.specs.Edges.{edge_of, edges_in, HasHop, IsHopList, IsKept}
+use Rattle.rc_ospf.specs.Edges.{edge_of, edges_in, HasHop, IsKept}
 use Rattle.rc_ospf.specs.Walks as D
 use Rattle.rc_ospf.specs.Walks.{LeastWalks}
 use Rattle.rc_ospf.proofs.Members.{In, contains_in, in_contains}

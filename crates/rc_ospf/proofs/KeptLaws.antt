@@ -1,7 +1,7 @@
 -- What is kept of nodes, one after another, and of a node's hops.
-use Rattle.std.proofs.Common.{◌≡◌, ℕ, zero, suc, ◌+◌, ◌<◌, ◌⊎◌, ◌↔◌, inl, inr, Bool, true, false, cond, List, [], ◌∷◌, ◌++◌, length, Option, Some, None, Contains, sym, ◌∙◌, ap, subst, refl, arith, eq-eqb}
+use Rattle.std.proofs.Common.{◌≡◌, ℕ, zero, suc, ◌+◌, ◌<◌, ◌↔◌, inl, inr, Bool, true, false, cond, List, [], ◌∷◌, ◌++◌, length, Option, Some, None, sym, ◌∙◌, ap, subst, refl, arith, eq-eqb}
 use Rattle.std.specs.Prelude.{◌==◌, slice_get, option_and_then}
-use Rattle.std.specs.List.{filter_map, cons_option}
+use Rattle.std.specs.List.{cons_option}
 use Rattle.std.specs.Option.{option_map}
 use Rattle.rc_base.specs.Lists.{in_order}
 use Rattle.rc_base.proofs.OrderedLaws.{in_order-sorted}
@@ -12,7 +12,7 @@ use Rattle.rc_spf.specs.declared.graph.First.{First}
 use Rattle.rc_spf.specs.Steps.{first_of, HasFirstsOf}
 use Rattle.rc_ospf.specs.declared.adjacency.Step.{Step}
 use Rattle.rc_ospf.specs.Adjacency.{hop_of}
-use Rattle.rc_ospf.specs.Edges.{HasHop, hop_at, hops_in, IsHopList, IsKept, AreKept}
+use Rattle.rc_ospf.specs.Edges.{HasHop, hops_in, IsHopList, IsKept, AreKept}
 use Rattle.rc_ospf.specs.Walks.{LeastWalks}
 use Rattle.rc_ospf.proofs.Members.{In, contains_in, in_contains, in_order_in}
 

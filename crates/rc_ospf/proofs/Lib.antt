@@ -6,3 +6,8 @@ mod Members
 mod Bridge
 mod KeptLaws
 mod AreaLaws
+mod ReachLaws
+mod RangeLaws
+mod FitLaws
+mod TableLaws
+pub mod OneAnswer

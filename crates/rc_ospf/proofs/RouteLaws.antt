@@ -1,5 +1,5 @@
 -- The routes of the rows are those of the prefixes that are offered.
-use Rattle.std.proofs.Common.{refl, ◌≡◌, ap, ◌∙◌, ℕ, cond, List, [], ◌∷◌, map, Option, None}
+use Rattle.std.proofs.Common.{refl, ◌≡◌, ap, ◌∙◌, ℕ, cond, List, [], ◌∷◌, map, None}
 use Rattle.std.specs.List.{filter_map, cons_option, list_any}
 use Rattle.std.specs.Option.{option_map}
 use Rattle.rc_base.specs.Lists.{in_order}
@@ -7,7 +7,7 @@ use Rattle.rc_base.specs.Prefix.{Cidr, prefix_cmp}
 use Rattle.rc_route.specs.declared.route.Route.{Route}
 use Rattle.rc_ospf.specs.Offered.{Offered}
 use Rattle.rc_ospf.specs.declared.offer.Advert.{Advert}
-use Rattle.rc_ospf.specs.Walks.{LeastWalks, Reach}
+use Rattle.rc_ospf.specs.Walks.{Reach}
 use Rattle.rc_ospf.specs.declared.grouping.Row.{Row}
 use Rattle.rc_ospf.specs.Routes.{offers_at, is_own, route_over, intra_route, intra_routes}
 use Rattle.rc_ospf.specs.Rows.{advert_prefix, offered_row, offered_rows, route_of_row}

@@ -6,8 +6,8 @@ use Rattle.rc_topology.specs.Topology.{Topology}
 use Rattle.rc_topology.specs.Links.{are_linked}
 use Rattle.rc_route.specs.declared.route.Hop.{Hop}
 use Rattle.rc_route.specs.declared.route.Hop.TheVariants.{Via}
-use Rattle.rc_ospf.specs.declared.interface.NetworkType.{NetworkType}
-use Rattle.rc_ospf.specs.declared.interface.NetworkType.TheVariants.{Broadcast, PointToPoint}
+use Rattle.rc_config.specs.declared.ospf.NetworkType.{NetworkType}
+use Rattle.rc_config.specs.declared.ospf.NetworkType.TheVariants.{Broadcast, PointToPoint}
 use Rattle.rc_ospf.specs.declared.interface.OspfInterface.{OspfInterface}
 use Rattle.rc_ospf.specs.declared.adjacency.Step.{Step}
 

@@ -80,4 +80,9 @@ HasSmallCosts costs = (n c : ℕ) → HasCost costs n c → c < 2 ^ 26
 
 -- inside their area the least walks from router r are those to each of n routers
 pub record AreAreaPaths (n : ℕ) (steps : List Step) (r : ℕ) (p : AreaPaths) : Type 0 where
+  pub routers : length p.paths ≡ n
   pub path : (s : ℕ) → s < n → MatchOption (path_of p s) ((walk : List Step) → IsWalk steps p.area r walk s → ⊥) (AreLeastWalks steps p.area r s)
+
+-- no step of the area leaves the router
+pub record NoneLeaves (steps : List Step) (area r : ℕ) : Type 0 where
+  pub none : (s : Step) → Contains steps s → s.area ≡ area → s.out.router ≡ r → ⊥

@@ -1,8 +1,11 @@
+pub mod Interfaces
 pub mod Adjacency
+pub mod Adverts
 pub mod Walks
 pub mod Paths
 pub mod Offered
 pub mod Routes
 pub mod Grouping
 pub mod Rows
+pub mod Internal
 pub mod Edges

@@ -46,8 +46,8 @@ intra_route r reach p offers = if list_any (is_own r) offers then None else opti
 unfoldable pub intra_routes : ℕ → Reach → List Advert → List Route
 intra_routes r reach adverts = filter_map (λ p. intra_route r reach p (offers_at p adverts)) (in_order prefix_cmp (map (λ (a : Advert). a.prefix) adverts))
 
--- the routes of one of n routers, over the least walks from it
-pub record AreIntraRoutes (steps : List Step) (n : ℕ) (adverts : List Advert) (r : ℕ) (routes : List Route) : Type 0 where
+-- the routes of a router, over the least walks from it
+pub record AreIntraRoutes (steps : List Step) (adverts : List Advert) (r : ℕ) (routes : List Route) : Type 0 where
   pub reach : Reach
-  pub is_reach : IsReach steps n r reach
+  pub is_reach : IsReach steps r reach
   pub routes_are : routes ≡ intra_routes r reach adverts

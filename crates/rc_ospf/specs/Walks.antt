@@ -42,7 +42,7 @@ pub record AreLeastWalks (steps : List Step) (area r s : ℕ) (e : LeastWalks) :
 abbrev pub Reach : Type 0
 Reach = ℕ → ℕ → Option LeastWalks
 
--- Inside each area they are those to each other one of n routers, where there are any.
-abbrev pub IsReach : List Step → ℕ → ℕ → Reach → Type 0
-IsReach steps n r reach = (area s : ℕ) → s < n → ¬ (s ≡ r) →
+-- inside each area they are those to each other router, where there are any
+abbrev pub IsReach : List Step → ℕ → Reach → Type 0
+IsReach steps r reach = (area s : ℕ) → ¬ (s ≡ r) →
     MatchOption (reach area s) ((walk : List Step) → IsWalk steps area r walk s → ⊥) (AreLeastWalks steps area r s)

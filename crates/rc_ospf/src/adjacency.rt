@@ -5,8 +5,9 @@ ghost use Rattle.rc_base.specs.Groups.{with_thing, grouped};
 ghost use Rattle.rc_ospf.specs.Adjacency as spec;
 ghost use Rattle.rc_ospf.specs.Grouping.{prefix_of, with_interface, members, steps_from};
 
-use crate::{NetworkType, OspfInterface};
+use crate::OspfInterface;
 use rc_base::{Addr, IfId, Items, Prefix, PrefixMap, RouterId};
+use rc_config::NetworkType;
 use rc_topology::Links;
 use std::alloc::{AllocError, Global};
 
@@ -46,7 +47,7 @@ fn step_over(i: &OspfInterface, j: &OspfInterface) -> Step
         area: i.area,
         out: i.id,
         to: j.id.router,
-        cost: i.cost,
+        cost: u32::from(i.cost),
         gateway: j.addr,
     }
 }

@@ -1,5 +1,5 @@
 //! The graph of an area, and the least walks in it from one router (RFC 2328, section 16.1).
-ghost use Rattle.std.specs.Prelude.{◌≡◌, ℕ, ◌<◌, ◌≤◌, ◌^◌, ◌++◌, None, Some, IfOk, OnOk, IfSome, IsTrue, All, length, map, slice_get, vec_len};
+ghost use Rattle.std.specs.Prelude.{◌≡◌, ℕ, false, List, ◌<◌, ◌≤◌, ◌^◌, ◌++◌, None, Some, IfOk, OnOk, IfSome, IsTrue, All, length, map, slice_get, vec_len};
 ghost use Rattle.std.specs.List.{filter_map, slice_index_or};
 ghost use Rattle.std.specs.BTreeSet.{keys, insert_key};
 ghost use Rattle.std.specs.Ordering.{nat_cmp};
@@ -7,7 +7,10 @@ ghost use Rattle.std.specs.Option.{option_map};
 ghost use Rattle.rc_base.specs.Lists.{in_order};
 ghost use Rattle.rc_spf.specs.Steps.{AreSpans};
 ghost use Rattle.rc_ospf.specs.Adjacency as adjacency;
-ghost use Rattle.rc_ospf.specs.Edges.{edges_in, hop_at, hops_in, step_area, graph_area, IsFitStep, IsAreaGraph, AreAreaGraphs, IsHopList, IsKept, AreKept, AreAreaPaths, HasSmallCosts};
+ghost use Rattle.rc_ospf.specs.Edges.{edges_in, hop_at, hops_in, step_area, graph_area, IsFitStep, IsAreaGraph, AreAreaGraphs, IsHopList, IsKept, AreKept, AreAreaPaths, HasSmallCosts, NoneLeaves};
+ghost use Rattle.rc_ospf.specs.Paths.{path_in};
+ghost use Rattle.rc_ospf.specs.Walks.{IsReach};
+ghost use Rattle.rc_ospf.specs.declared.adjacency.Step as declared;
 
 use crate::hops::hops_in_order;
 use crate::{AreaPaths, Path, Step};
@@ -201,15 +204,17 @@ fn paths_of(alloc: Global, steps: &[Step], tree: &Tree) -> Result<Items<Option<P
 }
 
 impl AreaGraph {
-    /// The area.
-    pub(crate) fn area(&self) -> u32
-        ensures { result ≡ self.now.area }
+    /// Whether a step of the area leaves a router.
+    fn is_left_by(&self, router: RouterId) -> bool
+        requires { router < vec_len self.now.groups.outgoing }
+        ensures { result ≡ false → (n : ℕ) (steps : List declared.Step) → IsAreaGraph n steps self.now → router < n → NoneLeaves steps self.now.area router }
     {
-        self.area
+        let outgoing: &[Edge] = &self.groups.outgoing[router.index()];
+        !outgoing.is_empty()
     }
 
     /// The least walks from a router inside the area. It errs only where memory runs out.
-    pub(crate) fn paths_from(
+    fn paths_from(
         &self,
         alloc: Global,
         routers: usize,
@@ -230,4 +235,27 @@ impl AreaGraph {
             paths,
         })
     }
+}
+
+/// The least walks from a router, of each area in which a step leaves it. It errs only where memory runs out.
+pub(crate) fn reach_from(
+    alloc: Global,
+    routers: usize,
+    steps: &[Step],
+    graphs: &[AreaGraph],
+    router: RouterId,
+) -> Result<Items<AreaPaths>, AllocError>
+    requires steps { All (IsFitStep routers) steps.now }
+    requires few { routers ≤ 512 }
+    requires graphs { AreAreaGraphs routers steps.now graphs.now }
+    requires router { router < routers }
+    ensures { IfOk result (λ found. IsReach steps.now router (path_in found)) }
+{
+    let mut found = Items::new(alloc);
+    for graph in graphs {
+        if graph.is_left_by(router) {
+            found.push(graph.paths_from(alloc, routers, steps, router)?)?;
+        }
+    }
+    Ok(found)
 }

@@ -3,9 +3,7 @@ ghost use Rattle.std.specs.Prelude.{◌≡◌, ◌+◌, List, None, IfOk};
 ghost use Rattle.std.specs.List.{fold, filter_map, list_any};
 ghost use Rattle.rc_ospf.specs.Paths.{path_in};
 ghost use Rattle.rc_ospf.specs.Routes.{is_own, route_over};
-ghost use Rattle.rc_ospf.specs.Routes as spec;
-ghost use Rattle.rc_ospf.specs.Rows.{with_way, way_over, then_way, route_of_row, offered_rows};
-ghost use Rattle.rc_ospf.specs.declared.offer.Advert as declared;
+ghost use Rattle.rc_ospf.specs.Rows.{with_way, way_over, then_way, route_of_row};
 
 use crate::hops::{add_hops, hops_in_order};
 use crate::path::path_at;
@@ -105,8 +103,8 @@ fn route_to(
     }
 }
 
-/// The routes of a router to the prefixes of some rows.
-fn routes_of_rows(
+/// The routes of a router to the prefixes of some rows, over the least walks from it.
+pub(crate) fn routes_of_rows(
     alloc: Global,
     router: RouterId,
     reach: &[AreaPaths],
@@ -121,17 +119,4 @@ fn routes_of_rows(
         }
     }
     Ok(routes)
-}
-
-/// The routes of a router to the prefixes that are offered, over the least walks from it. It errs only where memory runs
-/// out.
-pub fn intra_routes(
-    alloc: Global,
-    router: RouterId,
-    reach: &[AreaPaths],
-    rows: &[Row],
-) -> Result<Table, AllocError>
-    ensures { IfOk result (λ routes. (adverts : List declared.Advert) → rows.now ≡ offered_rows adverts → routes ≡ spec.intra_routes router (path_in reach.now) adverts) }
-{
-    routes_of_rows(alloc, router, reach, rows)
 }
