@@ -19,6 +19,7 @@ pub mod AccessListRows
 pub mod PrefixList
 pub mod Sets
 pub mod Ospf
+pub mod OspfRows
 pub mod RouteMap
 pub mod CommunityList
 pub mod Lists

@@ -62,6 +62,7 @@ fn written_at(block: &OpenBlock, line: Words) -> Option<u32>
         OpenBlock::Global => None,
         OpenBlock::Interface(_) => None,
         OpenBlock::Map(_, _) => None,
+        OpenBlock::Ospf => None,
         OpenBlock::Ignored => None,
     }
 }

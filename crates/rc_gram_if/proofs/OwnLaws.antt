@@ -2,7 +2,7 @@
 use Rattle.std.specs.Prelude.{Result, Ok, Err, IfOk}
 use Rattle.rc_openings.specs.declared.reading.LineError.{LineError}
 use Rattle.rc_config.specs.declared.command.Command.{Command}
-use Rattle.rc_config.specs.declared.command.Command.TheVariants.{Passed, Remark, Hostname, Interface, Address, Shutdown, Bandwidth, StaticRoute, AccessListOpened, AccessListLine, AccessGroup, PrefixLine, CommunityLine, MapOpened, MapLine}
+use Rattle.rc_config.specs.declared.command.Command.TheVariants.{Passed, Remark, Hostname, Interface, Address, Shutdown, Bandwidth, StaticRoute, AccessListOpened, AccessListLine, AccessGroup, PrefixLine, CommunityLine, MapOpened, MapLine, InterfaceOspf, OspfOpened, OspfLine}
 use Rattle.rc_config.specs.declared.router_text.RouterText.{RouterText}
 use Rattle.rc_config.specs.Lawful.{FitsFile, IsInRange}
 use Rattle.rc_gram_if.specs.Own.{IsOwn}
@@ -17,12 +17,15 @@ range-of (Shutdown name down) h = h
 range-of (Bandwidth name kbits) h = h
 range-of (StaticRoute route) h = h
 range-of (AccessGroup name list direction) h = h
+range-of (InterfaceOspf name setting) h = h
 range-of (AccessListOpened list kind) h = absurd h
 range-of (AccessListLine list kind line) h = absurd h
 range-of (PrefixLine list line) h = absurd h
 range-of (CommunityLine list line) h = absurd h
 range-of (MapOpened map n action) h = absurd h
 range-of (MapLine map n line) h = absurd h
+range-of (OspfOpened process) h = absurd h
+range-of (OspfLine line) h = absurd h
 
 fits-of : (file : RouterText) (c : Command) → IsOwn c → FitsFile file c
 fits-of file Passed h = tt
@@ -34,12 +37,15 @@ fits-of file (Shutdown name down) h = tt
 fits-of file (Bandwidth name kbits) h = tt
 fits-of file (StaticRoute route) h = tt
 fits-of file (AccessGroup name list direction) h = tt
+fits-of file (InterfaceOspf name setting) h = tt
 fits-of file (AccessListOpened list kind) h = absurd h
 fits-of file (AccessListLine list kind line) h = absurd h
 fits-of file (PrefixLine list line) h = absurd h
 fits-of file (CommunityLine list line) h = absurd h
 fits-of file (MapOpened map n action) h = absurd h
 fits-of file (MapLine map n line) h = absurd h
+fits-of file (OspfOpened process) h = absurd h
+fits-of file (OspfLine line) h = absurd h
 
 pub own-range : (r : Result Command LineError) → IfOk r IsOwn → IfOk r IsInRange
 own-range (Ok c) h = range-of c h

@@ -1,9 +1,9 @@
 -- The commands of this grammar.
 use Rattle.rc_config.specs.declared.command.Command.{Command}
-use Rattle.rc_config.specs.declared.command.Command.TheVariants.{Passed, Remark, Hostname, Interface, Address, Shutdown, Bandwidth, StaticRoute, AccessListOpened, AccessListLine, AccessGroup, PrefixLine, CommunityLine, MapOpened, MapLine}
+use Rattle.rc_config.specs.declared.command.Command.TheVariants.{Passed, Remark, Hostname, Interface, Address, Shutdown, Bandwidth, StaticRoute, AccessListOpened, AccessListLine, AccessGroup, PrefixLine, CommunityLine, MapOpened, MapLine, InterfaceOspf, OspfOpened, OspfLine}
 use Rattle.rc_config.specs.Lawful.{IsInRange}
 
--- values are in range, and no list or route map is opened or gets a line
+-- values are in range, and no list, route map or OSPF process is opened or gets a line
 abbrev pub IsOwn : Command → Type 0
 IsOwn (AccessListOpened list kind) = ⊥
 IsOwn (AccessListLine list kind line) = ⊥
@@ -20,3 +20,6 @@ IsOwn (PrefixLine list line) = ⊥
 IsOwn (CommunityLine list line) = ⊥
 IsOwn (MapOpened map n action) = ⊥
 IsOwn (MapLine map n line) = ⊥
+IsOwn (InterfaceOspf name setting) = IsInRange (InterfaceOspf name setting)
+IsOwn (OspfOpened process) = ⊥
+IsOwn (OspfLine line) = ⊥

@@ -2,7 +2,7 @@
 use Rattle.std.specs.Prelude.{ℕ, Bool, true, false, ◌&&◌, ◌||◌, ◌==◌, nat_lt, List, [], ◌∷◌, Option, Some, None, Result, Ok, Err, if◌then◌else◌, is_some, is_none, not, codes}
 use Rattle.std.specs.List.{list_all, list_any}
 use Rattle.std.specs.Str.{bytes_eq}
-use Rattle.std.specs.Char.{is_ascii_alphabetic, is_ascii_alphanumeric}
+use Rattle.std.specs.Char.{is_ascii_alphanumeric}
 use Rattle.rc_base.specs.Name.{is_name, name_of}
 use Rattle.rc_base.specs.Prefix.{Cidr}
 use Rattle.rc_config.specs.IfType.{type_of}
@@ -13,7 +13,7 @@ use Rattle.rc_config.specs.declared.interface.Direction.TheVariants.{In, Out}
 use Rattle.rc_config.specs.declared.router_text.RouterText.{RouterText}
 use Rattle.rc_config.specs.declared.static_route.Target.{Target}
 use Rattle.rc_config.specs.declared.static_route.Target.TheVariants as target
-use Rattle.rc_openings.specs.Values.{number_within, address_of, mask_length_of, prefix_from}
+use Rattle.rc_openings.specs.Values.{is_interface_name, number_within, address_of, mask_length_of, prefix_from}
 use Rattle.rc_openings.specs.declared.reading.LineRefusal.{LineRefusal}
 use Rattle.rc_openings.specs.declared.reading.LineRefusal.TheVariants.{Unsupported, BadValue}
 use Rattle.rc_gram_if.specs.RouteOptions.{distance_of}
@@ -32,13 +32,6 @@ is_host_name text = is_name text && list_all is_host_byte text
 abbrev pub hostname : RouterText → ℕ → List (List ℕ) → Answer
 hostname file line (name ∷ []) = if is_host_name name && is_none file.host then Ok (command.Hostname name line) else Err BadValue
 hostname file line _ = Err BadValue
-
-abbrev pub begins_with_letter : List ℕ → Bool
-begins_with_letter [] = false
-begins_with_letter (b ∷ bs) = is_ascii_alphabetic b
-
-abbrev pub is_interface_name : List ℕ → Bool
-is_interface_name text = is_name text && begins_with_letter text
 
 -- `interface IF`
 abbrev pub interface : ℕ → List (List ℕ) → Answer

@@ -5,6 +5,7 @@
 //! block is one command, is passed over, or has one refusal, as the tables say, and that each command is in range.
 #![tactic(auto)]
 
+mod ospf;
 mod reading;
 mod route_options;
 mod rows;

@@ -6,34 +6,50 @@ ghost use Rattle.rc_config.specs.Lawful.{FitsFile, IsInRange};
 ghost use Rattle.rc_gram_if.specs.Own.{IsOwn};
 ghost use Rattle.rc_gram_if.specs.Reading as reading;
 
+use crate::ospf::{
+    area, cost, dead_interval, hello_interval, network_type, refused_intervals, refused_types, sets,
+};
 use crate::rows::{
     access_group, bandwidth, hostname, interface, ip_address, refused_in_route, shutdown,
     static_route,
 };
-use rc_config::{Command, Context, OpenBlock, RouterText};
+use rc_config::{Command, Context, NetworkType, OpenBlock, RouterText};
 use rc_lines::Line;
 use rc_openings::{Decision, Form, LineError, LineRefusal, Words, judged};
 
-/// The row of a form, to the line of this number.
+/// The row of a form, to a line.
 fn row(
     form: Form,
     block: &OpenBlock,
     file: &RouterText,
-    number: u64,
+    line: &Line,
     behind: Words,
 ) -> Result<Command, LineRefusal>
-    ensures row { result ≡ reading.row form block.now file.now number (words_left behind.entry) }
+    ensures row { result ≡ reading.row form block.now file.now line.now.number (words_of line.now.text) (words_left behind.entry) }
     ensures own { IfOk result IsOwn }
 {
     match (form, *block) {
-        (Form::Hostname, _) => hostname(file, number, behind),
-        (Form::Interface, _) => interface(number, behind),
+        (Form::Hostname, _) => hostname(file, line.number(), behind),
+        (Form::Interface, _) => interface(line.number(), behind),
         (Form::IpAddress, OpenBlock::Interface(owner)) => ip_address(owner, behind),
         (Form::Shutdown, OpenBlock::Interface(owner)) => shutdown(owner, true, behind),
         (Form::NoShutdown, OpenBlock::Interface(owner)) => shutdown(owner, false, behind),
         (Form::Bandwidth, OpenBlock::Interface(owner)) => bandwidth(owner, behind),
         (Form::AccessGroup, OpenBlock::Interface(owner)) => access_group(owner, behind),
         (Form::StaticRoute, _) => static_route(behind),
+        (Form::OspfCost, OpenBlock::Interface(owner)) => sets(owner, cost(behind)),
+        (Form::OspfHelloInterval, OpenBlock::Interface(owner)) => sets(
+            owner,
+            hello_interval(behind),
+        ),
+        (Form::OspfDeadInterval, OpenBlock::Interface(owner)) => sets(owner, dead_interval(behind)),
+        (Form::OspfNetworkBroadcast, OpenBlock::Interface(owner)) => {
+            sets(owner, network_type(NetworkType::Broadcast, behind))
+        }
+        (Form::OspfNetworkPointToPoint, OpenBlock::Interface(owner)) => {
+            sets(owner, network_type(NetworkType::PointToPoint, behind))
+        }
+        (Form::OspfArea, OpenBlock::Interface(owner)) => sets(owner, area(line.words())),
         _ => Err(LineRefusal::BadValue),
     }
 }
@@ -45,6 +61,8 @@ fn refused_words(form: Form) -> Words<'static>
 {
     match form {
         Form::StaticRoute => refused_in_route(),
+        Form::OspfNetworkType => refused_types(),
+        Form::OspfDeadInterval => refused_intervals(),
         _ => Words::new(b""),
     }
 }
@@ -57,11 +75,11 @@ fn answer(
     block: &OpenBlock,
     file: &RouterText,
 ) -> Result<Command, LineError>
-    ensures row { Gives result (reading.row_answer block.now file.now line.now.number form (words_left behind.entry)) }
+    ensures row { Gives result (reading.row_answer block.now file.now line.now.number (words_of line.now.text) form (words_left behind.entry)) }
     ensures takes_no_memory { result ≢ Err LineError.Memory }
     ensures own { IfOk result IsOwn }
 {
-    let said = row(form, block, file, line.number(), behind);
+    let said = row(form, block, file, line, behind);
     match judged(said, behind, refused_words(form)) {
         Ok(command) => Ok(command),
         Err(refusal) => Err(LineError::Refused(refusal)),
@@ -76,7 +94,7 @@ pub fn read_form(
     line: &Line,
     context: Context,
 ) -> Result<Command, LineError>
-    ensures row { Gives result (reading.row_answer context.entry.block context.entry.file.now line.now.number form (words_left behind.entry)) }
+    ensures row { Gives result (reading.row_answer context.entry.block context.entry.file.now line.now.number (words_of line.now.text) form (words_left behind.entry)) }
     ensures takes_no_memory { result ≢ Err LineError.Memory }
     ensures in_range { IfOk result IsInRange }
     ensures fits { IfOk result (FitsFile context.entry.file.now) }

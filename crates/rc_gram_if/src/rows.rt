@@ -10,7 +10,7 @@ ghost use Rattle.rc_gram_if.specs.Rows as rows;
 use crate::route_options::read_distance;
 use rc_base::{Addr, Name, Prefix};
 use rc_config::{Command, Direction, IfAddr, RouterText, StaticRoute, Target, type_of_name};
-use rc_openings::{LineRefusal, Words, number_in, word_addr, word_mask};
+use rc_openings::{LineRefusal, Words, number_in, word_addr, word_interface, word_mask};
 
 fn is_host_byte(byte: u8) -> bool
     ensures { result ≡ rows.is_host_byte byte }
@@ -44,23 +44,14 @@ pub(crate) fn hostname(
     }
 }
 
-fn begins_alphabetic(word: &[u8]) -> bool
-    ensures { result ≡ rows.begins_with_letter word.now }
-{
-    match word {
-        [first, ..] => first.is_ascii_alphabetic(),
-        [] => false,
-    }
-}
-
 /// `interface IF`
 pub(crate) fn interface(line: u64, mut words: Words) -> Result<Command, LineRefusal>
     ensures row { result ≡ rows.interface line (words_left words.entry) }
     ensures own { IfOk result IsOwn }
 {
     match (words.next_word(), words.next_word()) {
-        (Some(word), None) => match Name::new(word) {
-            Some(name) if begins_alphabetic(word) => Ok(Command::Interface { name, line }),
+        (Some(word), None) => match word_interface(word) {
+            Some(name) => Ok(Command::Interface { name, line }),
             _ => Err(LineRefusal::BadValue),
         },
         _ => Err(LineRefusal::BadValue),
@@ -216,8 +207,8 @@ fn is_reserved(word: &[u8]) -> bool
 fn device_of(word: &[u8]) -> Option<Name>
     ensures { result ≡ rows.device_of word.now }
 {
-    match Name::new(word) {
-        Some(name) if begins_alphabetic(word) && !is_reserved(word) => Some(name),
+    match word_interface(word) {
+        Some(name) if !is_reserved(word) => Some(name),
         _ => None,
     }
 }

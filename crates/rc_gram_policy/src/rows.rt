@@ -139,6 +139,7 @@ pub(crate) fn row_answer(
         OpenBlock::Global => list_answer(alloc, form, file, behind),
         OpenBlock::Interface(_) => list_answer(alloc, form, file, behind),
         OpenBlock::AccessList(_, _) => list_answer(alloc, form, file, behind),
+        OpenBlock::Ospf => list_answer(alloc, form, file, behind),
         OpenBlock::Ignored => list_answer(alloc, form, file, behind),
     }
 }

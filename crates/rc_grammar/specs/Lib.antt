@@ -4,3 +4,4 @@ pub mod File
 pub mod Grammars
 pub mod PolicyRows
 pub mod ListRows
+pub mod OspfRows

@@ -1,5 +1,5 @@
 -- Lines of policies where they stand, by computation.
-use Rattle.std.specs.Prelude.{◌≡◌, refl, ℕ, List, [], ◌∷◌, Option, Some, None, Ok, Err, codes}
+use Rattle.std.specs.Prelude.{◌≡◌, refl, ℕ, List, [], ◌∷◌, None, Ok, Err, codes}
 use Rattle.std.specs.Fmt.{digits}
 use Rattle.rc_openings.specs.AccessListOpenings.{access_list, access_list_forms, access_list_refused, access_list_ignored}
 use Rattle.rc_openings.specs.BgpOpenings.{bgp, bgp_forms, bgp_refused, bgp_ignored}
@@ -10,7 +10,7 @@ use Rattle.rc_openings.specs.OspfOpenings.{ospf, ospf_forms, ospf_refused, ospf_
 use Rattle.rc_openings.specs.Reading.{decided}
 use Rattle.rc_openings.specs.RouteMapOpenings.{route_map, route_map_forms, route_map_refused, route_map_ignored}
 use Rattle.rc_openings.specs.Words.{words_of}
-use Rattle.rc_openings.specs.declared.reading.LineRefusal.TheVariants.{Unknown, Unsupported, BadValue, OutOfPlace}
+use Rattle.rc_openings.specs.declared.reading.LineRefusal.TheVariants.{Unsupported, OutOfPlace}
 use Rattle.rc_config.specs.Update.{empty}
 use Rattle.rc_config.specs.declared.command.Command.TheVariants.{Passed, PrefixLine, CommunityLine, MapOpened, MapLine}
 use Rattle.rc_config.specs.declared.context.OpenBlock.{OpenBlock}

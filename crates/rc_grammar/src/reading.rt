@@ -45,6 +45,7 @@ fn block_after(block: &OpenBlock, command: &Command) -> OpenBlock
             Command::Interface { name, line: _ } => OpenBlock::Interface(*name),
             Command::AccessListOpened { list, kind } => OpenBlock::AccessList(*list, *kind),
             Command::MapOpened { map, number, .. } => OpenBlock::Map(*map, *number),
+            Command::OspfOpened { .. } => OpenBlock::Ospf,
             Command::Passed => OpenBlock::Ignored,
             _ => OpenBlock::Closed,
         },
@@ -71,6 +72,9 @@ fn interface_named(command: &Command) -> Option<&Name>
         Command::CommunityLine { .. } => None,
         Command::MapOpened { .. } => None,
         Command::MapLine { .. } => None,
+        Command::InterfaceOspf { interface, .. } => Some(interface),
+        Command::OspfOpened { .. } => None,
+        Command::OspfLine { .. } => None,
     }
 }
 

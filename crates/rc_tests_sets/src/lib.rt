@@ -6,4 +6,6 @@ mod chains;
 #[cfg(test)]
 mod cubes;
 #[cfg(test)]
+mod hops;
+#[cfg(test)]
 mod operations;

@@ -16,7 +16,7 @@ then network len before = before ++ prefix_at network len ∷ []
 
 pub returns : goal.returns
 returns c =
-    let one = c.in_ok-table.ensures ∙ ap (λ (table : List Route). then 0 0 (map (λ (r : Route). r.prefix) table)) c.new-3.ensures in
+    let one = c.in_ok-table.ensures ∙ ap (λ (table : List Route). then 0 0 (map (λ (r : Route). r.prefix) table)) c.new.ensures in
     let two = c.in_ok-table-2.ensures ∙ ap (then 0x0a00_0000 8) one in
     let three = c.in_ok-table-3.ensures ∙ ap (then 0x0a00_0000 24) two in
     let made : map (λ (r : Route). r.prefix) c.in_ok-table-4.table ≡ prefixes = c.in_ok-table-4.ensures ∙ ap (then 0x0a00_0100 24) three in

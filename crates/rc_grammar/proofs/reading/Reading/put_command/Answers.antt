@@ -10,4 +10,5 @@ returns-in-Ok-clause-fit c =
       interfaces = c.in-Ok.ensures.lawful was.interfaces c.requires.in_range;
       routes = c.in-Ok.ensures.routes was.routes c.requires.in_range;
       lists = c.in-Ok.ensures.lists was.lists c.requires.in_range c.requires.fits;
+      ospf = c.in-Ok.ensures.ospf was.ospf c.requires.in_range;
     }

@@ -1,0 +1,90 @@
+-- Worked cases of what a configuration says of OSPF, each by computation.
+use Rattle.std.specs.Prelude.{◌≡◌, ℕ, ◌-◌, ◌^◌, true, false, List, [], ◌∷◌, Option, Some, None, fold, option_map, codes, refl}
+use Rattle.rc_config.specs.declared.command.Command.{Command}
+use Rattle.rc_config.specs.declared.command.Command.TheVariants.{Hostname, Interface, Shutdown, InterfaceOspf, OspfOpened}
+use Rattle.rc_config.specs.declared.command.Command.TheVariants as command
+use Rattle.rc_config.specs.declared.ospf.NetworkType.TheVariants.{Broadcast, PointToPoint}
+use Rattle.rc_config.specs.declared.ospf.OspfLine.{OspfLine}
+use Rattle.rc_config.specs.declared.ospf.OspfLine.TheVariants.{RouterId, Network, PassiveDefault, Passive, ReferenceBandwidth}
+use Rattle.rc_config.specs.declared.ospf.OspfNetwork.{OspfNetwork}
+use Rattle.rc_config.specs.declared.ospf.OspfProcess.{OspfProcess}
+use Rattle.rc_config.specs.declared.ospf.OspfSetting.TheVariants.{Cost, HelloInterval, DeadInterval, NetworkType, Area}
+use Rattle.rc_config.specs.declared.router_text.RouterText.{RouterText}
+use Rattle.rc_config.specs.Interface.{fresh}
+use Rattle.rc_config.specs.Ospf.{is_passive, no_lines, no_settings}
+use Rattle.rc_config.specs.Update.{after, empty, interface_named}
+
+-- the model of a file whose lines say these commands
+abbrev file : List Command → RouterText
+file commands = fold after empty commands
+
+abbrev port : List ℕ
+port = codes "Serial0/0"
+
+-- the process 1 with these lines in its block
+abbrev process : List OspfLine → Option OspfProcess
+process lines = (fold (λ r line. after r (command.OspfLine line)) (after empty (OspfOpened 1)) lines).ospf
+
+abbrev network : ℕ → ℕ → OspfNetwork
+network address area = record { address = address; wildcard = 255; area = area }
+
+-- a process without lines: cost 1 is that of 100 Mbit/s, and nothing is passive, redistributed or a stub
+pub opened : process [] ≡ Some (record {
+  process = 1;
+  router_id = None;
+  networks = [];
+  passive_default = false;
+  passive = [];
+  reference_bandwidth = 100;
+  stub_areas = [];
+  redistributions = [];
+  default_information = None;
+})
+opened = refl
+
+-- `network` lines stand in file order, the same one twice too
+pub networks_as_written : option_map (λ p. p.networks) (process (Network (network 512 3) ∷ Network (network 256 0) ∷ Network (network 512 3) ∷ [])) ≡ Some (network 512 3 ∷ network 256 0 ∷ network 512 3 ∷ [])
+networks_as_written = refl
+
+-- of the router ID and the reference bandwidth the last line counts
+pub last_counts : process (RouterId 1 ∷ ReferenceBandwidth 1000 ∷ RouterId 2 ∷ ReferenceBandwidth 10 ∷ []) ≡ Some (record (no_lines 1) { router_id = Some 2; reference_bandwidth = 10 })
+last_counts = refl
+
+-- the last line about an interface counts, whether `passive-interface default` stands before or behind it
+pub last_about_it : option_map (λ p. is_passive p port) (process (Passive port true ∷ Passive port false ∷ PassiveDefault ∷ [])) ≡ Some false
+last_about_it = refl
+
+pub about_it_again : option_map (λ p. is_passive p port) (process (PassiveDefault ∷ Passive port false ∷ Passive port true ∷ [])) ≡ Some true
+about_it_again = refl
+
+-- an interface of which no line speaks is as the default says
+pub by_default : option_map (λ p. is_passive p port) (process (Passive (codes "Serial0/1") false ∷ PassiveDefault ∷ [])) ≡ Some true
+by_default = refl
+
+pub not_by_default : option_map (λ p. is_passive p port) (process (Passive (codes "Serial0/1") true ∷ [])) ≡ Some false
+not_by_default = refl
+
+-- `no passive-interface default` is about an interface of that name, and leaves the others passive
+pub default_stays : option_map (λ p. is_passive p port) (process (PassiveDefault ∷ Passive (codes "default") false ∷ [])) ≡ Some true
+default_stays = refl
+
+-- a process that is opened again keeps its lines
+pub opened_again : (file (OspfOpened 1 ∷ command.OspfLine (RouterId 7) ∷ Hostname port 3 ∷ OspfOpened 1 ∷ command.OspfLine PassiveDefault ∷ [])).ospf ≡ Some (record (no_lines 1) { router_id = Some 7; passive_default = true })
+opened_again = refl
+
+-- other lines leave the process as it is, and a `passive-interface` line declares no interface
+pub process_left : file (OspfOpened 1 ∷ command.OspfLine (Passive port true) ∷ []) ≡ record empty { ospf = Some (record (no_lines 1) { passive = (port, true) ∷ [] }) }
+process_left = refl
+
+pub left_by_others : (file (OspfOpened 9 ∷ Interface port 2 ∷ InterfaceOspf port (Cost 5) ∷ Shutdown port true ∷ [])).ospf ≡ Some (no_lines 9)
+left_by_others = refl
+
+-- the `ip ospf` lines of an interface: of each kind the last one counts, and they need no process
+pub settings : interface_named (file (Interface port 1 ∷ InterfaceOspf port (Cost 5) ∷ InterfaceOspf port (HelloInterval 3) ∷ InterfaceOspf port (Cost 6) ∷ InterfaceOspf port (NetworkType Broadcast) ∷ InterfaceOspf port (NetworkType PointToPoint) ∷ [])) port
+    ≡ record fresh { ospf = record no_settings { cost = Some 6; hello = Some 3; network = Some PointToPoint } }
+settings = refl
+
+-- an area is that of one process, and the later line counts also where it names another
+pub later_area : interface_named (file (Interface port 1 ∷ InterfaceOspf port (Area (record { process = 1; area = 0 })) ∷ InterfaceOspf port (Area (record { process = 2; area = 3 })) ∷ InterfaceOspf port (DeadInterval 20) ∷ [])) port
+    ≡ record fresh { ospf = record no_settings { dead = Some 20; area = Some (record { process = 2; area = 3 }) } }
+later_area = refl

@@ -1,0 +1,39 @@
+-- The rows of OSPF: the command that a line of each form is, by its words behind the opening. A line that fits no row is BadValue.
+use Rattle.std.specs.Prelude.{ℕ, ◌==◌, List, [], ◌∷◌, Option, Some, None, Result, Ok, Err, if◌then◌else◌}
+use Rattle.rc_config.specs.declared.command.Command.{Command}
+use Rattle.rc_config.specs.declared.command.Command.TheVariants as command
+use Rattle.rc_config.specs.declared.ospf.OspfLine.{OspfLine}
+use Rattle.rc_config.specs.declared.ospf.OspfProcess.{OspfProcess}
+use Rattle.rc_config.specs.declared.router_text.RouterText.{RouterText}
+use Rattle.rc_openings.specs.Values.{number_within}
+use Rattle.rc_openings.specs.declared.form.Form.{Form}
+use Rattle.rc_openings.specs.declared.form.Form.TheVariants as form
+use Rattle.rc_openings.specs.declared.reading.LineRefusal.{LineRefusal}
+use Rattle.rc_openings.specs.declared.reading.LineRefusal.TheVariants.{Unsupported, BadValue}
+use Rattle.rc_gram_ospf.specs.Lines.{line_of}
+
+abbrev pub Answer : Type 0
+Answer = Result Command LineRefusal
+
+-- the process that is there opens again, and a second one isn't modelled
+abbrev pub opened : Option OspfProcess → ℕ → Answer
+opened None process = Ok (command.OspfOpened process)
+opened (Some p) process = if p.process == process then Ok (command.OspfOpened process) else Err Unsupported
+
+abbrev pub opened_by : Option OspfProcess → Option ℕ → Answer
+opened_by known (Some process) = opened known process
+opened_by known None = Err BadValue
+
+-- `router ospf N`, from 1 to 65535
+abbrev pub router_ospf : RouterText → List (List ℕ) → Answer
+router_ospf file (n ∷ []) = opened_by file.ospf (number_within 1 65535 n)
+router_ospf file _ = Err BadValue
+
+abbrev pub in_block : Option OspfLine → Answer
+in_block (Some line) = Ok (command.OspfLine line)
+in_block None = Err BadValue
+
+-- what a line of a form says; forms of other grammars have no row here
+abbrev pub row : RouterText → Form → List (List ℕ) → Answer
+row file form.RouterOspf behind = router_ospf file behind
+row file f behind = in_block (line_of f behind)

@@ -1,0 +1,67 @@
+//! One line of OSPF where it stands.
+ghost use Rattle.std.specs.Prelude.{◌≡◌, ◌≢◌, Err, IfOk};
+ghost use Rattle.rc_openings.specs.Reading.{Gives, IfAnswered};
+ghost use Rattle.rc_openings.specs.Words.{words_left, words_of};
+ghost use Rattle.rc_config.specs.Lawful.{FitsFile, IsInRange};
+ghost use Rattle.rc_gram_ospf.specs.Reading as reading;
+ghost use Rattle.rc_gram_ospf.specs.Rows as rows;
+
+use crate::rows::row;
+use rc_config::{Command, Context, OpenBlock, RouterText};
+use rc_lines::Line;
+use rc_openings::{Decision, Form, LineError, Words};
+
+fn answer(form: Form, behind: Words, file: &RouterText) -> Result<Command, LineError>
+    ensures row { Gives result (rows.row file.now form (words_left behind.entry)) }
+    ensures takes_no_memory { result ≢ Err LineError.Memory }
+    ensures in_range { IfOk result IsInRange }
+    ensures fits { IfOk result (FitsFile file.now) }
+{
+    match row(form, file, behind) {
+        Ok(command) => Ok(command),
+        Err(refusal) => Err(LineError::Refused(refusal)),
+    }
+}
+
+/// What a line of this form says where it stands, by its words behind the opening that decides it. Forms of other grammars
+/// are a bad value.
+pub fn read_form(form: Form, behind: Words, context: Context) -> Result<Command, LineError>
+    ensures row { Gives result (rows.row context.entry.file.now form (words_left behind.entry)) }
+    ensures takes_no_memory { result ≢ Err LineError.Memory }
+    ensures in_range { IfOk result IsInRange }
+    ensures fits { IfOk result (FitsFile context.entry.file.now) }
+{
+    answer(form, behind, context.file)
+}
+
+/// What a line says in this block, where its form is one of OSPF.
+fn read_in(line: &Line, block: &OpenBlock, file: &RouterText) -> Result<Command, LineError>
+    ensures exact { Gives result (reading.says block.now file.now (words_of line.now.text)) }
+    ensures takes_no_memory { result ≢ Err LineError.Memory }
+    ensures in_range { IfOk result IsInRange }
+    ensures fits { IfOk result (FitsFile file.now) }
+{
+    match block.kind().decided(line.words()) {
+        Decision::Passed => Ok(Command::Passed),
+        Decision::Refused(refusal) => Err(LineError::Refused(refusal)),
+        Decision::Form(form, behind) => answer(form, behind, file),
+    }
+}
+
+/// What a line says where it stands, where its form is one of OSPF: a command, or why it is refused.
+///
+/// It errs exactly where the definition of its openings and rows does, and takes no memory.
+pub fn read_line(line: &Line, context: Context) -> Result<Command, LineError>
+    // One opening decides, that with most words, and the row of its form is the meaning.
+    ensures decided { IfAnswered result (reading.Says context.entry.block context.entry.file.now (words_of line.now.text)) }
+    // So each line says one thing.
+    ensures exact { Gives result (reading.says context.entry.block context.entry.file.now (words_of line.now.text)) }
+    ensures takes_no_memory { result ≢ Err LineError.Memory }
+    // Values are in their ranges.
+    ensures in_range { IfOk result IsInRange }
+    // It changes no access list, and so fits those of the file.
+    ensures fits { IfOk result (FitsFile context.entry.file.now) }
+{
+    let Context { block, file } = context;
+    read_in(line, &block, file)
+}
