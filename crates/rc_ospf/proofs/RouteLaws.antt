@@ -10,7 +10,7 @@ use Rattle.rc_ospf.specs.declared.offer.Advert.{Advert}
 use Rattle.rc_ospf.specs.Walks.{Reach}
 use Rattle.rc_ospf.specs.declared.grouping.Row.{Row}
 use Rattle.rc_ospf.specs.Routes.{offers_at, is_own, route_over, intra_route, intra_routes}
-use Rattle.rc_ospf.specs.Rows.{advert_prefix, offered_row, offered_rows, route_of_row}
+use Rattle.rc_ospf.specs.ByPrefix.{advert_prefix, offered_row, offered_rows, route_of_row}
 use Rattle.rc_ospf.proofs.WayLaws.{best_way_is}
 
 each_route : (r : ℕ) (reach : Reach) (adverts : List Advert) (ps : List Cidr) →

@@ -9,7 +9,7 @@ use Rattle.rc_base.proofs.GroupLaws.{grouped_rows}
 use Rattle.rc_ospf.specs.Offered.{Offered}
 use Rattle.rc_ospf.specs.declared.offer.Advert.{Advert}
 use Rattle.rc_ospf.specs.Routes.{offers_at}
-use Rattle.rc_ospf.specs.Rows.{advert_prefix, with_offer, row_of, offered_row, offered_rows}
+use Rattle.rc_ospf.specs.ByPrefix.{advert_prefix, with_offer, row_of, offered_row, offered_rows}
 
 abbrev offers_of : List Advert → List Offered
 offers_of adverts = map (λ (a : Advert). a.offer) adverts

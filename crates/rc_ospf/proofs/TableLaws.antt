@@ -7,7 +7,7 @@ use Rattle.rc_route.specs.declared.route.Route.{Route}
 use Rattle.rc_topology.specs.Topology.{Topology}
 use Rattle.rc_ospf.specs.Internal.{AreTables, AreInternalRoutes, steps_of, adverts_in}
 use Rattle.rc_ospf.specs.Paths.{path_in}
-use Rattle.rc_ospf.specs.Rows.{AreRowRoutes, AreRowTables, offered_rows, route_of_row}
+use Rattle.rc_ospf.specs.ByPrefix.{AreRowRoutes, AreRowTables, offered_rows, route_of_row}
 use Rattle.rc_ospf.specs.Walks.{IsReach}
 use Rattle.rc_ospf.specs.declared.adjacency.Step.{Step}
 use Rattle.rc_ospf.specs.declared.grouping.Row.{Row}

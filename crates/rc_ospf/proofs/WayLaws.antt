@@ -10,7 +10,7 @@ use Rattle.rc_ospf.specs.Offered.{Offered}
 use Rattle.rc_ospf.specs.Walks.{LeastWalks, Reach}
 use Rattle.rc_ospf.specs.declared.routes.Way.{Way}
 use Rattle.rc_ospf.specs.Routes.{way_to, least_cost, hops_at, best_of}
-use Rattle.rc_ospf.specs.Rows.{with_way, way_over, then_way}
+use Rattle.rc_ospf.specs.ByPrefix.{with_way, way_over, then_way}
 
 abbrev made : Way → List Way → Way
 made w ws = record { cost = least_cost w ws; hops = hops_at (least_cost w ws) (w ∷ ws) }

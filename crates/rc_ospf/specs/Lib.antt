@@ -6,6 +6,9 @@ pub mod Paths
 pub mod Offered
 pub mod Routes
 pub mod Grouping
-pub mod Rows
+pub mod ByPrefix
 pub mod Internal
+pub mod Plain
+pub mod InterfaceRows
+pub mod RouteRows
 pub mod Edges

@@ -3,7 +3,7 @@ ghost use Rattle.std.specs.Prelude.{◌≡◌, ◌+◌, List, None, IfOk};
 ghost use Rattle.std.specs.List.{fold, filter_map, list_any};
 ghost use Rattle.rc_ospf.specs.Paths.{path_in};
 ghost use Rattle.rc_ospf.specs.Routes.{is_own, route_over};
-ghost use Rattle.rc_ospf.specs.Rows.{with_way, way_over, then_way, route_of_row};
+ghost use Rattle.rc_ospf.specs.ByPrefix.{with_way, way_over, then_way, route_of_row};
 
 use crate::hops::{add_hops, hops_in_order};
 use crate::path::path_at;

@@ -3,7 +3,7 @@ ghost use Rattle.std.specs.Prelude.{◌≡◌, ◌≤◌, ◌<◌, IfOk, All, le
 ghost use Rattle.rc_config.specs.Lawful.{IsLawful};
 ghost use Rattle.rc_ospf.specs.Edges.{IsFitStep, AreAreaGraphs};
 ghost use Rattle.rc_ospf.specs.Internal.{AreInternalRoutes, IsInternal, HasOneInternal};
-ghost use Rattle.rc_ospf.specs.Rows.{AreRowRoutes, AreRowTables};
+ghost use Rattle.rc_ospf.specs.ByPrefix.{AreRowRoutes, AreRowTables};
 
 use crate::area::{AreaGraph, area_graphs, reach_from};
 use crate::routes::routes_of_rows;

@@ -1,5 +1,5 @@
 use Rattle.std.proofs.Common.{◌≡◌, ◌++◌, map}
-use Rattle.rc_ospf.specs.Rows.{row_of}
+use Rattle.rc_ospf.specs.ByPrefix.{row_of}
 use Rattle.rc_ospf.proofs.grouping.rows_of_groups.Given as goal
 
 abbrev pub invariant-loop-prefix : goal.invariant-loop-prefix

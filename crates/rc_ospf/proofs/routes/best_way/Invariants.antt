@@ -1,7 +1,7 @@
 use Rattle.std.proofs.Common.{◌≡◌, drop, None}
 use Rattle.std.specs.List.{fold}
 use Rattle.rc_ospf.specs.Paths.{path_in}
-use Rattle.rc_ospf.specs.Rows.{then_way}
+use Rattle.rc_ospf.specs.ByPrefix.{then_way}
 use Rattle.rc_ospf.proofs.routes.best_way.Given as goal
 
 abbrev pub invariant-loop-offer : goal.invariant-loop-offer

@@ -1,7 +1,7 @@
 use Rattle.std.proofs.Common.{◌≡◌, ◌++◌, drop}
 use Rattle.std.specs.List.{filter_map}
 use Rattle.rc_ospf.specs.Paths.{path_in}
-use Rattle.rc_ospf.specs.Rows.{route_of_row}
+use Rattle.rc_ospf.specs.ByPrefix.{route_of_row}
 use Rattle.rc_ospf.proofs.routes.routes_of_rows.Given as goal
 
 abbrev pub invariant-loop-row : goal.invariant-loop-row

@@ -1,6 +1,6 @@
 use Rattle.std.proofs.Common.{rules, ◌≡◌, ◌+◌, ◌++◌, ◌∷◌, [], length, subst, sym, ◌∙◌, ap, arith}
 use Rattle.std.proofs.lemmas.List.{length-append}
-use Rattle.rc_ospf.specs.Rows.{AreRowRoutes, AreRowTables}
+use Rattle.rc_ospf.specs.ByPrefix.{AreRowRoutes, AreRowTables}
 use Rattle.rc_ospf.proofs.TableLaws.{table_more}
 use Rattle.rc_ospf.proofs.tables.tables_of.Goals as goal
 

@@ -1,5 +1,5 @@
 use Rattle.std.proofs.Common.{◌≡◌, length}
-use Rattle.rc_ospf.specs.Rows.{AreRowTables}
+use Rattle.rc_ospf.specs.ByPrefix.{AreRowTables}
 use Rattle.rc_ospf.proofs.tables.tables_of.Given as goal
 
 abbrev pub invariant-loop-index : goal.invariant-loop-index
