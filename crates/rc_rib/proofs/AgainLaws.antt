@@ -10,26 +10,26 @@ use Rattle.rc_route.specs.Tables.{IsRouterState}
 use Rattle.rc_route.specs.declared.route.Route.{Route}
 use Rattle.rc_route.specs.declared.state.RouterState.{RouterState}
 use Rattle.rc_rib.specs.Again.{IsUnchanged}
-use Rattle.rc_rib.specs.Next.{next_router, next_state, table_after}
+use Rattle.rc_rib.specs.Next.{next_router, next_state, routes_of, table_after}
 
 numbered : (n r : ℕ) → r < n → slice_get (range_with_len 0 n) r ≡ Some r
 numbered n r less =
     slice_get-get_or (range_with_len 0 n) r 0 (omega (arith, less, length-range_with_len 0 n)) ∙ ap Some (get_or-range_with_len 0 n r 0 less ∙ (let e : 0 + r ≡ r = omega arith in e))
 
-module _ (net : Network) (r : ℕ) (here : r < length net.routers) where
+module _ (net : Network) (internal : List (List Route)) (r : ℕ) (here : r < length net.routers) where
   -- what the router knows after a round
-  row : (old : List RouterState) → slice_get (next_state net old) r ≡ Some (next_router net old r)
+  row : (old : List RouterState) → slice_get (next_state net internal old) r ≡ Some (next_router net internal old r)
   row old =
-      slice_get-map (next_router net old) (router_ids net) r ∙ ap (option_map (next_router net old)) (numbered (length net.routers) r here)
+      slice_get-map (next_router net internal old) (router_ids net) r ∙ ap (option_map (next_router net internal old)) (numbered (length net.routers) r here)
 
   -- it comes from the router's previous table
   after : List Route → RouterState
-  after table = record { table = option_map_or (λ file. table_after r file table) (router_at net r) []; paths = [] }
+  after table = record { table = option_map_or (λ file. table_after r file (routes_of internal r) table) (router_at net r) []; paths = [] }
 
-  pub again : (state before : List RouterState) (s : RouterState) → state ≡ next_state net before → IsUnchanged state before r s → s ≡ next_router net state r
+  pub again : (state before : List RouterState) (s : RouterState) → state ≡ next_state net internal before → IsUnchanged state before r s → s ≡ next_router net internal state r
   unfolding after
   again state before s is same =
-      same_Some s (next_router net before r) (sym same.known ∙ ap (λ all. slice_get all r) is ∙ row before) ∙ ap after (sym same.table)
+      same_Some s (next_router net internal before r) (sym same.known ∙ ap (λ all. slice_get all r) is ∙ row before) ∙ ap after (sym same.table)
 
 -- what stands in a state in order is in order
 pub known_in_order : (state : List RouterState) (r : ℕ) (s : RouterState) → All IsRouterState state → slice_get state r ≡ Some s → IsRouterState s

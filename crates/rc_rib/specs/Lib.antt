@@ -5,4 +5,5 @@ pub mod Offers
 pub mod Next
 pub mod Rows
 pub mod StaticRows
+pub mod OspfRows
 pub mod Again

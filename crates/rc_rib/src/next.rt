@@ -1,5 +1,5 @@
 //! One router's next table and best paths.
-ghost use Rattle.std.specs.Prelude.{◌≡◌, [], All, IfOk, IfSome, length, slice_get};
+ghost use Rattle.std.specs.Prelude.{◌≡◌, ◌++◌, [], All, IfOk, IfSome, OnOk, length, slice_get};
 ghost use Rattle.std.specs.Option.{option_map, option_map_or};
 ghost use Rattle.rc_config.specs.Lawful.{IsLawful, IsRouter};
 ghost use Rattle.rc_config.specs.Members.{router_at};
@@ -17,7 +17,8 @@ use crate::grouping::static_routes;
 use rc_base::{Items, RouterId};
 use rc_config::{Network, RouterText};
 use rc_fib::Fib;
-use rc_route::{RouterState, State, Table, copy, same_table};
+use rc_ospf::Internal;
+use rc_route::{Route, RouterState, State, Table, copy, same_table};
 use std::alloc::{AllocError, Global};
 
 /// The static routes of a file that its router's previous table makes active. Only where the file has some, that table is
@@ -40,20 +41,32 @@ fn active_routes(
     static_routes(alloc, lines.as_slice())
 }
 
-/// The best of the connected and the static routes of a file.
+/// Puts copies of routes at the end of a table.
+fn add_copies(alloc: Global, table: &mut Table, routes: &[Route]) -> Result<(), AllocError>
+    ensures { OnOk result (table.new ≡ table.old ++ routes.now) }
+{
+    for route in routes {
+        table.push(route.copy(alloc)?)?;
+    }
+    Ok(())
+}
+
+/// The best of the connected and the static routes of a file and of its router's OSPF routes.
 fn file_table(
     alloc: Global,
     router: RouterId,
     file: &RouterText,
+    ospf: &[Route],
     old: &Table,
 ) -> Result<Table, AllocError>
     requires { IsTable old.now }
-    ensures value { IfOk result (λ table. table ≡ spec.table_after router file.now old.now) }
+    ensures value { IfOk result (λ table. table ≡ spec.table_after router file.now ospf.now old.now) }
     ensures in_order { IfOk result IsTable }
 {
-    let routes = active_routes(alloc, router, file, old)?;
+    let mut others = active_routes(alloc, router, file, old)?;
+    add_copies(alloc, &mut others, ospf)?;
     let connected = connected(alloc, router, file)?;
-    best_routes(alloc, connected, routes)
+    best_routes(alloc, connected, others)
 }
 
 /// The next table of a router, from its previous one.
@@ -62,15 +75,16 @@ fn own_table(
     alloc: Global,
     router: RouterId,
     net: &Network,
+    ospf: &[Route],
     old: &Table,
 ) -> Result<Table, AllocError>
     requires { IsTable old.now }
-    ensures value { IfOk result (λ table. table ≡ option_map_or (λ file. spec.table_after router file old.now) (router_at net.now router) []) }
+    ensures value { IfOk result (λ table. table ≡ option_map_or (λ file. spec.table_after router file ospf.now old.now) (router_at net.now router) []) }
     ensures in_order { IfOk result IsTable }
 {
     let found = net.router_at(router);
     match found {
-        Some(file) => file_table(alloc, router, file, old),
+        Some(file) => file_table(alloc, router, file, ospf, old),
         None => Ok(Items::new(alloc)),
     }
 }
@@ -88,31 +102,39 @@ fn next_table(
     alloc: Global,
     router: RouterId,
     net: &Network,
+    ospf: &[Route],
     state: &State,
 ) -> Result<Table, AllocError>
     requires { All IsRouterState state.now }
-    ensures value { IfOk result (λ table. table ≡ option_map_or (λ file. spec.table_after router file (spec.table_of state.now router)) (router_at net.now router) []) }
+    ensures value { IfOk result (λ table. table ≡ option_map_or (λ file. spec.table_after router file ospf.now (spec.table_of state.now router)) (router_at net.now router) []) }
     ensures in_order { IfOk result IsTable }
 {
     let known = known_at(state, router);
     match known {
-        Some(known) => own_table(alloc, router, net, &known.table),
-        None => own_table(alloc, router, net, &Items::new(alloc)),
+        Some(known) => own_table(alloc, router, net, ospf, &known.table),
+        None => own_table(alloc, router, net, ospf, &Items::new(alloc)),
+    }
+}
+
+/// The OSPF routes of a router, of which it has none past the end.
+fn ospf_routes(internal: &Internal, router: RouterId) -> &[Route]
+    ensures { result.now ≡ spec.routes_of internal.now.routes router }
+{
+    let found = internal.routes.as_slice().get(router.index());
+    match found {
+        Some(routes) => routes.as_slice(),
+        None => &[],
     }
 }
 
 /// What a router knows after a round, made anew.
-fn anew(
-    alloc: Global,
-    router: RouterId,
-    net: &Network,
-    state: &State,
-) -> Result<RouterState, AllocError>
-    requires { All IsRouterState state.now }
-    ensures next { IfOk result (λ s. s ≡ spec.next_router net.now state.now router) }
+fn anew(alloc: Global, inputs: &Inputs<'_>, router: RouterId) -> Result<RouterState, AllocError>
+    requires { All IsRouterState inputs.now.previous.now }
+    ensures next { IfOk result (λ s. s ≡ spec.next_router inputs.now.network.now inputs.now.internal.now.routes inputs.now.previous.now router) }
     ensures in_order { IfOk result IsRouterState }
 {
-    let table = next_table(alloc, router, net, state)?;
+    let ospf = ospf_routes(inputs.internal, router);
+    let table = next_table(alloc, router, inputs.network, ospf, inputs.previous)?;
     Ok(RouterState {
         table,
         paths: Items::new(alloc),
@@ -134,9 +156,9 @@ fn unchanged<'a>(state: &'a State, before: &State, router: RouterId) -> Option<&
 
 /// What a router knows after a round in which all routers read these inputs: its table, and its best BGP paths.
 ///
-/// Its connected routes, and its static routes that its previous table makes active; for each prefix the least
-/// administrative distance wins. A router that reads what it read a round earlier knows the same again, and nothing is made
-/// anew for it. It errs only where memory runs out.
+/// Its connected routes, its static routes that its previous table makes active, and its OSPF routes; for each prefix the least
+/// administrative distance wins, and at one distance the source that stands first. A router that reads what it read a round
+/// earlier knows the same again, and nothing is made anew for it. It errs only where memory runs out.
 pub fn table(
     alloc: Global,
     inputs: &Inputs<'_>,
@@ -145,18 +167,18 @@ pub fn table(
     requires lawful { IsLawful inputs.now.network.now }
     requires router { IsRouter inputs.now.network.now router }
     requires state { IsStateOf (length inputs.now.network.now.routers) inputs.now.previous.now }
-    requires earlier { IfSome inputs.now.earlier (λ old. inputs.now.previous.now ≡ spec.next_state inputs.now.network.now old.now) }
-    ensures next { IfOk result (λ s. s ≡ spec.next_router inputs.now.network.now inputs.now.previous.now router) }
+    requires earlier { IfSome inputs.now.earlier (λ old. inputs.now.previous.now ≡ spec.next_state inputs.now.network.now inputs.now.internal.now.routes old.now) }
+    ensures next { IfOk result (λ s. s ≡ spec.next_router inputs.now.network.now inputs.now.internal.now.routes inputs.now.previous.now router) }
     ensures in_order { IfOk result IsRouterState }
 {
     let earlier = inputs.earlier;
     match earlier {
-        None => anew(alloc, router, inputs.network, inputs.previous),
+        None => anew(alloc, inputs, router),
         Some(earlier) => {
             let known = unchanged(inputs.previous, earlier, router);
             match known {
                 Some(known) => copy(alloc, known),
-                None => anew(alloc, router, inputs.network, inputs.previous),
+                None => anew(alloc, inputs, router),
             }
         }
     }

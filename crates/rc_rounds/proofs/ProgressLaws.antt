@@ -4,24 +4,25 @@ use Rattle.std.proofs.lemmas.Bool.Decides.{Decides-eqb}
 use Rattle.std.proofs.Math.Decide.{dec_lt}
 use Rattle.rc_config.specs.declared.network.Network.{Network}
 use Rattle.rc_route.specs.Tables.{IsStateOf}
+use Rattle.rc_route.specs.declared.route.Route.{Route}
 use Rattle.rc_route.specs.declared.state.RouterState.{RouterState}
 use Rattle.rc_rib.specs.Next.{next_state}
 use Rattle.rc_rounds.specs.declared.progress.Progress.{Progress}
 use Rattle.rc_rounds.specs.Progress.{IsProgress, IsPowerBelow, checkpoint_state}
-use Rattle.rc_rounds.specs.Rounds.{state_after, GoesOn, IsOutcome}
+use Rattle.rc_rounds.specs.Rounds.{state_after, GoesOn, EndsAs}
 use Rattle.rc_rounds.specs.declared.outcome.Outcome.TheVariants.{Repeats}
 use Rattle.rc_rounds.proofs.CheckpointLaws.{power-is}
 use Rattle.rc_rounds.proofs.RoundLaws.{next_is, further, changed, went_on}
 
-module _ (net : Network) (p : Progress) (at : IsProgress net p) where
+module _ (net : Network) (internal : List (List Route)) (p : Progress) (at : IsProgress net internal p) where
   -- the state that is kept of the checkpoint is its state
-  pub checkpoint_state-is : checkpoint_state p ≡ state_after net p.checkpoint
+  pub checkpoint_state-is : checkpoint_state p ≡ state_after net internal p.checkpoint
   checkpoint_state-is = by (p.checkpoint == p.done) refl
     where
-      earlier : (b : Bool) → (p.checkpoint + 1 == p.done) ≡ b → p.checkpoint < p.done → (if b then p.before else p.kept) ≡ state_after net p.checkpoint
+      earlier : (b : Bool) → (p.checkpoint + 1 == p.done) ≡ b → p.checkpoint < p.done → (if b then p.before else p.kept) ≡ state_after net internal p.checkpoint
       earlier true e less =
           let same : p.checkpoint + 1 ≡ p.done = (Decides-eqb (p.checkpoint + 1) p.done).0 e in
-          at.before (omega arith) ∙ ap (state_after net) (let one : p.done - 1 ≡ p.checkpoint = omega arith in one)
+          at.before (omega arith) ∙ ap (state_after net internal) (let one : p.done - 1 ≡ p.checkpoint = omega arith in one)
       earlier false e less =
           let sooner : p.checkpoint + 1 < p.done = pick (dec_lt (p.checkpoint + 1) p.done) in
           at.kept sooner
@@ -33,8 +34,8 @@ module _ (net : Network) (p : Progress) (at : IsProgress net p) where
               let told : (p.checkpoint + 1 == p.done) ≡ true = (Decides-eqb (p.checkpoint + 1) p.done).1 same in
               absurd (cc (e, told))
 
-      by : (b : Bool) → (p.checkpoint == p.done) ≡ b → (if b then p.last else (if p.checkpoint + 1 == p.done then p.before else p.kept)) ≡ state_after net p.checkpoint
-      by true e = at.last ∙ ap (state_after net) (sym ((Decides-eqb p.checkpoint p.done).0 e))
+      by : (b : Bool) → (p.checkpoint == p.done) ≡ b → (if b then p.last else (if p.checkpoint + 1 == p.done then p.before else p.kept)) ≡ state_after net internal p.checkpoint
+      by true e = at.last ∙ ap (state_after net internal) (sym ((Decides-eqb p.checkpoint p.done).0 e))
       by false e = earlier (p.checkpoint + 1 == p.done) refl (less (dec_lt p.checkpoint p.done))
         where
           less : Dec (p.checkpoint < p.done) → p.checkpoint < p.done
@@ -46,47 +47,47 @@ module _ (net : Network) (p : Progress) (at : IsProgress net p) where
               absurd (cc (e, told))
 
   -- the last state is made from the one before
-  pub last_is_next : 1 ≤ p.done → p.last ≡ next_state net p.before
+  pub last_is_next : 1 ≤ p.done → p.last ≡ next_state net internal p.before
   last_is_next some =
       let more : p.done - 1 + 1 ≡ p.done = omega arith in
-      let made = next_is net (p.done - 1) (next_state net p.before) p.before refl (at.before some) in
-      at.last ∙ ap (state_after net) (sym more) ∙ sym made
+      let made = next_is net internal (p.done - 1) (next_state net internal p.before) p.before refl (at.before some) in
+      at.last ∙ ap (state_after net internal) (sym more) ∙ sym made
 
   -- the rounds go on where the next state is neither
-  pub goes_on : (next : List RouterState) → next ≡ next_state net p.last → next ≢ p.last → next ≢ checkpoint_state p → GoesOn net (p.done + 1)
+  pub goes_on : (next : List RouterState) → next ≡ next_state net internal p.last → next ≢ p.last → next ≢ checkpoint_state p → GoesOn net internal (p.done + 1)
   goes_on next made changes is_new =
-      went_on net p.done p.checkpoint next p.last (next_is net p.done next p.last made at.last) at.last changes (power-is (p.done + 1) p.checkpoint at.checkpoint) (λ e. is_new (e ∙ sym checkpoint_state-is))
+      went_on net internal p.done p.checkpoint next p.last (next_is net internal p.done next p.last made at.last) at.last changes (power-is (p.done + 1) p.checkpoint at.checkpoint) (λ e. is_new (e ∙ sym checkpoint_state-is))
 
   -- the next state is that of the checkpoint: the rounds end there
-  pub repeats : (next : List RouterState) → next ≡ next_state net p.last → next ≢ p.last → next ≡ checkpoint_state p → (limit k : ℕ) → k ≡ p.done + 1 → k ≤ limit → IsOutcome net limit (Repeats p.checkpoint k)
+  pub repeats : (next : List RouterState) → next ≡ next_state net internal p.last → next ≢ p.last → next ≡ checkpoint_state p → (limit k : ℕ) → k ≡ p.done + 1 → k ≤ limit → EndsAs net internal limit (Repeats p.checkpoint k)
   repeats next made changes same limit k e within =
-      let new = next_is net p.done next p.last made at.last in
-      subst (λ j. IsOutcome net limit (Repeats p.checkpoint j)) (sym e)
-      (omega arith, omega (arith, e, within), at.earlier, power-is (p.done + 1) p.checkpoint at.checkpoint, changed net p.done next p.last new at.last changes, sym new ∙ same ∙ checkpoint_state-is)
+      let new = next_is net internal p.done next p.last made at.last in
+      subst (λ j. EndsAs net internal limit (Repeats p.checkpoint j)) (sym e)
+      (omega arith, omega (arith, e, within), at.earlier, power-is (p.done + 1) p.checkpoint at.checkpoint, changed net internal p.done next p.last new at.last changes, sym new ∙ same ∙ checkpoint_state-is)
 
   -- one round further: the last state becomes the one before, and that one is kept where it is the checkpoint's
-  module _ (next : List RouterState) (made : next ≡ next_state net p.last) (ordered : IsStateOf (length net.routers) next) (goes : GoesOn net (p.done + 1)) (c : ℕ) (power : IsPowerBelow (p.done + 1 + 1) c) (one_of_both : (c ≡ p.done + 1) ⊎ (c ≡ p.checkpoint)) where
+  module _ (next : List RouterState) (made : next ≡ next_state net internal p.last) (ordered : IsStateOf (length net.routers) next) (goes : GoesOn net internal (p.done + 1)) (c : ℕ) (power : IsPowerBelow (p.done + 1 + 1) c) (one_of_both : (c ≡ p.done + 1) ⊎ (c ≡ p.checkpoint)) where
     kept : List RouterState
     kept = if p.checkpoint + 1 == p.done then p.before else p.kept
 
-    stays : (c ≡ p.checkpoint) → p.checkpoint < p.done → kept ≡ state_after net c
+    stays : (c ≡ p.checkpoint) → p.checkpoint < p.done → kept ≡ state_after net internal c
     unfolding kept
-    stays same less = subst (λ k. k ≡ state_after net c) (there (p.checkpoint == p.done) refl) (checkpoint_state-is ∙ ap (state_after net) (sym same))
+    stays same less = subst (λ k. k ≡ state_after net internal c) (there (p.checkpoint == p.done) refl) (checkpoint_state-is ∙ ap (state_after net internal) (sym same))
       where
         there : (b : Bool) → (p.checkpoint == p.done) ≡ b → (if b then p.last else (if p.checkpoint + 1 == p.done then p.before else p.kept)) ≡ (if p.checkpoint + 1 == p.done then p.before else p.kept)
         there true e = let same : p.checkpoint ≡ p.done = (Decides-eqb p.checkpoint p.done).0 e in absurd (let none : ⊥ = omega (arith, less, same) in none)
         there false e = refl
 
-    pub one_further : IsProgress net (record { done = p.done + 1; checkpoint = c; last = next; before = p.last; kept = if p.checkpoint + 1 == p.done then p.before else p.kept })
+    pub one_further : IsProgress net internal (record { done = p.done + 1; checkpoint = c; last = next; before = p.last; kept = if p.checkpoint + 1 == p.done then p.before else p.kept })
     unfolding kept
     one_further = record {
-      last = next_is net p.done next p.last made at.last;
+      last = next_is net internal p.done next p.last made at.last;
       in_order = ordered;
-      before = λ some. at.last ∙ ap (state_after net) (let e : p.done ≡ p.done + 1 - 1 = omega arith in e);
+      before = λ some. at.last ∙ ap (state_after net internal) (let e : p.done ≡ p.done + 1 - 1 = omega arith in e);
       checkpoint = power;
       within = within one_of_both;
       kept = λ less. elim one_of_both [ inl same ↦ absurd (let none : ⊥ = omega (arith, less, same) in none) | inr same ↦ stays same (omega (arith, less, same)) ];
-      earlier = further net (p.done + 1) at.earlier goes;
+      earlier = further net internal (p.done + 1) at.earlier goes;
     }
       where
         within : (c ≡ p.done + 1) ⊎ (c ≡ p.checkpoint) → c ≤ p.done + 1

@@ -5,33 +5,34 @@ use Rattle.std.proofs.lemmas.Bool.{false≢true}
 use Rattle.std.specs.List.Sorted.{IsStrictlySortedBy}
 use Rattle.rc_config.specs.Lawful.{IsLawful}
 use Rattle.rc_config.specs.declared.network.Network.{Network}
+use Rattle.rc_route.specs.declared.route.Route.{Route}
 use Rattle.rc_route.specs.declared.state.RouterState.{RouterState}
 use Rattle.rc_rib.specs.Next.{next_state}
 use Rattle.rc_rounds.specs.Rounds.{state_after, checkpoint, GoesOn, GoesOnBelow}
 
-module _ (net : Network) where
-  pub next_is : (i : ℕ) (next last : List RouterState) → next ≡ next_state net last → last ≡ state_after net i → next ≡ state_after net (i + 1)
-  next_is i next last e h = e ∙ ap (next_state net) h ∙ sym (ap (state_after net) (add-one i))
+module _ (net : Network) (internal : List (List Route)) where
+  pub next_is : (i : ℕ) (next last : List RouterState) → next ≡ next_state net internal last → last ≡ state_after net internal i → next ≡ state_after net internal (i + 1)
+  next_is i next last e h = e ∙ ap (next_state net internal) h ∙ sym (ap (state_after net internal) (add-one i))
 
-  pub further : (k : ℕ) → GoesOnBelow net k → GoesOn net k → GoesOnBelow net (k + 1)
+  pub further : (k : ℕ) → GoesOnBelow net internal k → GoesOn net internal k → GoesOnBelow net internal (k + 1)
   further k below here j low high = pick (dec_lt j k)
     where
-      pick : Dec (j < k) → GoesOn net j
+      pick : Dec (j < k) → GoesOn net internal j
       pick (yes less) = below j low less
-      pick (no not_less) = let same : k ≡ j = omega arith in subst (GoesOn net) same here
+      pick (no not_less) = let same : k ≡ j = omega arith in subst (GoesOn net internal) same here
 
-  pub none_below : GoesOnBelow net 1
+  pub none_below : GoesOnBelow net internal 1
   none_below j low high = absurd (let none : ⊥ = omega arith in none)
 
-  pub changed : (i : ℕ) (next last : List RouterState) → next ≡ state_after net (i + 1) → last ≡ state_after net i → next ≢ last → state_after net (i + 1) ≢ state_after net (i + 1 - 1)
+  pub changed : (i : ℕ) (next last : List RouterState) → next ≡ state_after net internal (i + 1) → last ≡ state_after net internal i → next ≢ last → state_after net internal (i + 1) ≢ state_after net internal (i + 1 - 1)
   changed i next last new old apart e =
       let before : i + 1 - 1 ≡ i = omega arith in
-      apart (new ∙ e ∙ ap (state_after net) before ∙ sym old)
+      apart (new ∙ e ∙ ap (state_after net internal) before ∙ sym old)
 
-  pub went_on : (i c : ℕ) (next last : List RouterState) → next ≡ state_after net (i + 1) → last ≡ state_after net i → next ≢ last → c ≡ checkpoint (i + 1) → next ≢ state_after net c → GoesOn net (i + 1)
+  pub went_on : (i c : ℕ) (next last : List RouterState) → next ≡ state_after net internal (i + 1) → last ≡ state_after net internal i → next ≢ last → c ≡ checkpoint (i + 1) → next ≢ state_after net internal c → GoesOn net internal (i + 1)
   went_on i c next last new old apart at differs = record {
     changes = changed i next last new old apart;
-    is_new = λ e. differs (new ∙ e ∙ ap (state_after net) (sym at));
+    is_new = λ e. differs (new ∙ e ∙ ap (state_after net internal) (sym at));
   }
 
 -- two states that the test tells apart

@@ -2,6 +2,7 @@
 use Rattle.std.specs.Prelude.{◌≡◌, ◌≢◌, ◌⊎◌, ◌==◌, ℕ, ◌+◌, ◌-◌, ◌*◌, ◌^◌, ◌≤◌, ◌<◌, List, length, if◌then◌else◌}
 use Rattle.rc_config.specs.declared.network.Network.{Network}
 use Rattle.rc_route.specs.Tables.{IsStateOf}
+use Rattle.rc_route.specs.declared.route.Route.{Route}
 use Rattle.rc_route.specs.declared.state.RouterState.{RouterState}
 use Rattle.rc_rounds.specs.Rounds.{state_after, GoesOnBelow}
 use Rattle.rc_rounds.specs.declared.progress.Progress.{Progress}
@@ -17,14 +18,14 @@ abbrev pub checkpoint_state : Progress → List RouterState
 checkpoint_state p = if p.checkpoint == p.done then p.last else (if p.checkpoint + 1 == p.done then p.before else p.kept)
 
 -- the states are those after the rounds that they are kept of, and no round so far has ended the rounds
-pub record IsProgress (net : Network) (p : Progress) : Type 0 where
-  pub last : p.last ≡ state_after net p.done
+pub record IsProgress (net : Network) (internal : List (List Route)) (p : Progress) : Type 0 where
+  pub last : p.last ≡ state_after net internal p.done
   pub in_order : IsStateOf (length net.routers) p.last
-  pub before : 1 ≤ p.done → p.before ≡ state_after net (p.done - 1)
+  pub before : 1 ≤ p.done → p.before ≡ state_after net internal (p.done - 1)
   pub checkpoint : IsPowerBelow (p.done + 1) p.checkpoint
   pub within : p.checkpoint ≤ p.done
-  pub kept : p.checkpoint + 1 < p.done → p.kept ≡ state_after net p.checkpoint
-  pub earlier : GoesOnBelow net (p.done + 1)
+  pub kept : p.checkpoint + 1 < p.done → p.kept ≡ state_after net internal p.checkpoint
+  pub earlier : GoesOnBelow net internal (p.done + 1)
 
 -- the next state is that of the round before, or else that of the checkpoint, or neither
 abbrev pub IsSame : Progress → List RouterState → Same → Type 0

@@ -1,8 +1,9 @@
 //! What the rounds keep from one to the next.
-ghost use Rattle.std.specs.Prelude.{◌≡◌, ◌+◌, ◌≤◌, ◌<◌, ◌⊎◌, IfOk, IfSome, length, if◌then◌else◌};
+ghost use Rattle.std.specs.Prelude.{◌≡◌, ◌+◌, ◌≤◌, ◌<◌, ◌⊎◌, List, IfOk, IfSome, length, if◌then◌else◌};
 ghost use Rattle.rc_config.specs.Lawful.{IsLawful};
 ghost use Rattle.rc_config.specs.declared.network.Network.{Network as NetworkModel};
 ghost use Rattle.rc_rib.specs.Next as rib;
+ghost use Rattle.rc_route.specs.declared.route.Route.{Route as RouteModel};
 ghost use Rattle.rc_route.specs.Tables.{IsStateOf};
 ghost use Rattle.rc_rounds.specs.Progress.{IsProgress, IsPowerBelow, IsSame, checkpoint_state};
 ghost use Rattle.rc_rounds.specs.Rounds.{GoesOn};
@@ -10,6 +11,7 @@ ghost use Rattle.rc_rounds.specs.Rounds.{GoesOn};
 use crate::round::{empty_state, next_state};
 use rc_base::Items;
 use rc_config::Network;
+use rc_ospf::Internal;
 use rc_outside::Gate;
 use rc_rib::Inputs;
 use rc_route::{State, equal};
@@ -80,7 +82,7 @@ impl Progress {
     /// No round is made.
     pub fn start(alloc: Global, net: &Network) -> Result<Progress, AllocError>
         ensures done { IfOk result (λ p. p.done ≡ 0) }
-        ensures made { IfOk result (IsProgress net.now) }
+        ensures made { IfOk result (λ p. (internal : List (List RouteModel)) → IsProgress net.now internal p) }
     {
         let last = empty_state(alloc, net)?;
         Ok(Progress {
@@ -125,29 +127,38 @@ impl Progress {
         &self,
         alloc: Global,
         net: &Network,
+        internal: &Internal,
         workers: u32,
         gate: &G,
     ) -> Result<State, AllocError>
         requires lawful { IsLawful net.now }
-        requires made { IsProgress net.now self.now }
+        requires made { IsProgress net.now internal.now.routes self.now }
         requires few { self.now.done < 100000 }
         requires some_workers { 1 ≤ workers }
         requires few_workers { workers ≤ 64 }
-        ensures value { IfOk result (λ s. s ≡ rib.next_state net.now self.now.last) }
+        ensures value { IfOk result (λ s. s ≡ rib.next_state net.now internal.now.routes self.now.last) }
         ensures in_order { IfOk result (IsStateOf (length net.now.routers)) }
     {
-        next_state(alloc, &self.inputs(net), workers, self.done + 1, gate)
+        next_state(
+            alloc,
+            &self.inputs(net, internal),
+            workers,
+            self.done + 1,
+            gate,
+        )
     }
 
     /// What the next round reads.
-    fn inputs<'a>(&'a self, net: &'a Network) -> Inputs<'a>
-        requires { IsProgress net.now self.now }
+    fn inputs<'a>(&'a self, net: &'a Network, internal: &'a Internal) -> Inputs<'a>
+        requires { IsProgress net.now internal.now.routes self.now }
         ensures network { result.network.now ≡ net.now }
+        ensures internal { result.internal.now ≡ internal.now }
         ensures previous { result.previous.now ≡ self.now.last }
-        ensures earlier { IfSome result.earlier (λ old. self.now.last ≡ rib.next_state net.now old.now) }
+        ensures earlier { IfSome result.earlier (λ old. self.now.last ≡ rib.next_state net.now internal.now.routes old.now) }
     {
         Inputs {
             network: net,
+            internal,
             previous: &self.last,
             earlier: if self.done == 0 {
                 None
@@ -162,7 +173,7 @@ impl Progress {
         requires few { self.done < 100000 }
         requires checkpoint { self.checkpoint ≤ 100000 }
         ensures done { result.done ≡ self.done + 1 }
-        ensures made { (net : NetworkModel) → IsProgress net self → IsStateOf (length net.routers) next → next ≡ rib.next_state net self.last → GoesOn net (self.done + 1) → IsProgress net result }
+        ensures made { (net : NetworkModel) (internal : List (List RouteModel)) → IsProgress net internal self → IsStateOf (length net.routers) next → next ≡ rib.next_state net internal self.last → GoesOn net internal (self.done + 1) → IsProgress net internal result }
     {
         let Progress {
             done,

@@ -1,19 +1,24 @@
 //! Rounds until a state comes again.
 ghost use Rattle.std.specs.Prelude.{◌≡◌, ◌≤◌, IfOk, length};
 ghost use Rattle.rc_config.specs.Lawful.{IsLawful};
-ghost use Rattle.rc_rounds.specs.Rounds.{IsInOrder, IsOutcome, HasOneOutcome};
+ghost use Rattle.rc_ospf.specs.Internal.{AreInternalRoutes};
+ghost use Rattle.rc_topology.specs.Ports.{links_of};
+ghost use Rattle.rc_rounds.specs.Rounds.{EndsAs, IsInOrder, IsOutcome, HasOneOutcome};
 
 use crate::Outcome;
 use crate::progress::{Progress, Same};
 use rc_config::Network;
+use rc_ospf::{Internal, internal};
 use rc_outside::Gate;
+use rc_topology::Links;
 use std::alloc::{AllocError, AllocGlobal, Global};
 use std::thread::Threads;
 
 /// How the rounds of a network end, of which at most so many are made.
 ///
-/// `limit` is from 1 to 100,000 and `workers` from 1 to 64. Each worker passes the gate in each round, whose number is the
-/// phase. At a fixed point each router's table is in order. It errs only where memory runs out.
+/// The OSPF routes of each router come from the configurations alone, so they are made once, before the first round. `limit`
+/// is from 1 to 100,000 and `workers` from 1 to 64. Each worker passes the gate in each round, whose number is the phase. At a
+/// fixed point each router's table is in order. It errs only where memory runs out.
 pub fn run_rounds<R: Threads + Sync + AllocGlobal, G: Gate>(
     rt: &R,
     net: &Network,
@@ -29,13 +34,24 @@ pub fn run_rounds<R: Threads + Sync + AllocGlobal, G: Gate>(
     ensures outcome { IfOk result (IsOutcome net.now limit) }
     ensures in_order { IfOk result (IsInOrder (length net.now.routers)) }
 {
-    rounds_within(rt.alloc(), net, limit, workers, gate)
+    let internal = internal_of(rt.alloc(), net)?;
+    rounds_within(rt.alloc(), net, &internal, limit, workers, gate)
 }
 
-/// How the rounds of a network end, of which at most so many are made.
+/// The OSPF routes of each router.
+fn internal_of(alloc: Global, net: &Network) -> Result<Internal, AllocError>
+    requires { IsLawful net.now }
+    ensures { IfOk result (λ i. AreInternalRoutes net.now (links_of net.now) i.routes) }
+{
+    let links = Links::of(alloc, net)?;
+    internal(alloc, net, links)
+}
+
+/// How the rounds of a network end beside these OSPF routes, where at most so many are made.
 fn rounds_within<G: Gate>(
     alloc: Global,
     net: &Network,
+    internal: &Internal,
     limit: u32,
     workers: u32,
     gate: &G,
@@ -44,12 +60,12 @@ fn rounds_within<G: Gate>(
     requires few_rounds { limit ≤ 100000 }
     requires some_workers { 1 ≤ workers }
     requires few_workers { workers ≤ 64 }
-    ensures outcome { IfOk result (IsOutcome net.now limit) }
+    ensures outcome { IfOk result (EndsAs net.now internal.now.routes limit) }
     ensures in_order { IfOk result (IsInOrder (length net.now.routers)) }
 {
     let mut progress = Progress::start(alloc, net)?;
     for done in 0..limit {
-        let next = progress.next(alloc, net, workers, gate)?;
+        let next = progress.next(alloc, net, internal, workers, gate)?;
         let same = progress.same(&next);
         match same {
             Same::Last => return Ok(Outcome::Fixed(done + 1, next)),

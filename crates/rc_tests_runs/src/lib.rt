@@ -13,6 +13,8 @@ mod faults;
 #[cfg(test)]
 mod gates;
 #[cfg(test)]
+mod ospf;
+#[cfg(test)]
 mod ospf_networks;
 #[cfg(test)]
 mod policies;

@@ -4,12 +4,12 @@ use Rattle.rc_rounds.proofs.RoundLaws.{none_below}
 use Rattle.rc_rounds.proofs.progress.Progress.start.Goals as goal
 
 pub returns-clause-made : goal.returns-clause-made
-returns-clause-made c = record {
+returns-clause-made c internal = record {
   last = c.in_ok-last.ensures.value;
   in_order = c.in_ok-last.ensures.in_order;
   before = λ some. absurd (omega (arith, some));
   checkpoint = first-power;
   within = omega arith;
   kept = λ less. absurd (omega (arith, less));
-  earlier = none_below c.args.net.now;
+  earlier = none_below c.args.net.now internal;
 }
