@@ -1,4 +1,4 @@
-//! Tests of tables and walks: routes, prepared tables, access lists and routing policy, links, walks, rounds, what is
+//! Tests of tables and walks: routes, OSPF, prepared tables, access lists and routing policy, links, walks, rounds, what is
 //! printed of them, and the words of a command line.
 //!
 //! They stand above the crates that they try, since a crate with tests of its own is proved twice. Expected values come
@@ -11,6 +11,8 @@ mod access_lists;
 mod commands;
 #[cfg(test)]
 mod links;
+#[cfg(test)]
+mod ospf;
 #[cfg(test)]
 mod policies;
 #[cfg(test)]
