@@ -2,6 +2,8 @@
 #![tactic(auto)]
 
 #[cfg(test)]
+mod access_lists;
+#[cfg(test)]
 mod chains;
 #[cfg(test)]
 mod cubes;

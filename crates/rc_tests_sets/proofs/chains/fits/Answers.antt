@@ -1,4 +1,4 @@
-use Rattle.std.proofs.Common.{List, [], ◌∷◌, sym, subst}
+use Rattle.std.proofs.Common.{List, [], sym, subst}
 use Rattle.rc_trees.specs.Fields.{chain}
 use Rattle.rc_trees.specs.Recipes.{tree}
 use Rattle.rc_trees.specs.Trees.{Tree, HasNodesOf}

@@ -1,8 +1,6 @@
-use Rattle.std.proofs.Common.{refl}
 use Rattle.rc_trees.specs.Fields.{chain}
 use Rattle.rc_trees.specs.Recipes.{tree}
 use Rattle.rc_trees.specs.Trees.{Tree}
-use Rattle.rc_nodes.specs.Seats.{SeatKnows}
 use Rattle.rc_tests_sets.proofs.PairLaws.{may_left, may_right, may_both, may_either, may_alone}
 use Rattle.rc_tests_sets.proofs.operations.sets_of.Goals as goal
 
