@@ -1,12 +1,12 @@
 //! One router's next table and best paths.
-ghost use Rattle.std.specs.Prelude.{◌≡◌, ◌++◌, [], All, IfOk, IfSome, OnOk, length, slice_get};
+ghost use Rattle.std.specs.Prelude.{◌≡◌, ◌++◌, [], All, IfOk, IfSome, IsTrue, OnOk, length, slice_get};
 ghost use Rattle.std.specs.Option.{option_map, option_map_or};
 ghost use Rattle.rc_config.specs.Lawful.{IsLawful, IsRouter};
 ghost use Rattle.rc_config.specs.Members.{router_at};
 ghost use Rattle.rc_fib.specs.Forwarding.{resolved};
 ghost use Rattle.rc_route.specs.Tables.{IsStateOf, IsRouterState, IsTable};
 ghost use Rattle.rc_rib.specs.Next as spec;
-ghost use Rattle.rc_rib.specs.Again.{IsUnchanged};
+ghost use Rattle.rc_rib.specs.Again.{IsUnchanged, ReadsNoTable};
 ghost use Rattle.rc_rib.specs.Static.{active_lines, static_routes};
 
 use crate::Inputs;
@@ -141,11 +141,30 @@ fn anew(alloc: Global, inputs: &Inputs<'_>, router: RouterId) -> Result<RouterSt
     })
 }
 
-/// What a router knows in a state, where its table is that of a state before.
-fn unchanged<'a>(state: &'a State, before: &State, router: RouterId) -> Option<&'a RouterState>
-    ensures { IfSome result (λ s. IsUnchanged state.now before.now router s.now) }
+/// Whether a router has no line `ip route`, so that its table reads no other.
+fn reads_no_table(net: &Network, router: RouterId) -> bool
+    ensures { IsTrue result → ReadsNoTable net.now router }
+{
+    let found = net.router_at(router);
+    match found {
+        Some(file) => file.static_routes.is_empty(),
+        None => true,
+    }
+}
+
+/// What a router knows in a state, where the table that it reads, if any, is that of a state before.
+fn unchanged<'a>(
+    net: &Network,
+    state: &'a State,
+    before: &State,
+    router: RouterId,
+) -> Option<&'a RouterState>
+    ensures { IfSome result (λ s. IsUnchanged net.now state.now before.now router s.now) }
 {
     let known = known_at(state, router)?;
+    if reads_no_table(net, router) {
+        return Some(known);
+    }
     let old = known_at(before, router)?;
     if same_table(&known.table, &old.table) {
         Some(known)
@@ -175,7 +194,7 @@ pub fn table(
     match earlier {
         None => anew(alloc, inputs, router),
         Some(earlier) => {
-            let known = unchanged(inputs.previous, earlier, router);
+            let known = unchanged(inputs.network, inputs.previous, earlier, router);
             match known {
                 Some(known) => copy(alloc, known),
                 None => anew(alloc, inputs, router),

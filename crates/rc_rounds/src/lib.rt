@@ -1,7 +1,8 @@
 //! Rounds of tables, until they change no more, come again, or reach a limit.
 //!
-//! It stands on the next table of one router and on the gate of rc_outside. The layer above knows the outcome as a relation
-//! on the states after all rounds, of which there is one, whatever the number of workers.
+//! It stands on the next table of one router (rc_rib), on the routes that OSPF gives without a state (rc_ospf), which are made
+//! once before the first round, and on the gate of rc_outside. The layer above knows the outcome as a relation on the states
+//! after all rounds, of which there is one, whatever the number of workers.
 #![tactic(auto)]
 
 mod outcome;
