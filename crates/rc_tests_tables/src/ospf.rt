@@ -1,12 +1,9 @@
-//! Interfaces on which OSPF runs, adjacencies and what is advertised, in a network of two routers.
-use rc_base::{Addr, IfId, Items, Name, Prefix, RouterId};
+//! Interfaces on which OSPF runs, in a network of two routers.
+use rc_base::{Addr, IfId, Items, Name, RouterId};
 use rc_config::{
     Command, IfAddr, Named, Network, NetworkType, OspfLine, OspfNetwork, OspfSetting, RouterText,
 };
-use rc_ospf::{
-    Advert, OspfInterface, Step, adjacencies, adverts, offers_by_prefix, ospf_interfaces,
-};
-use rc_topology::Links;
+use rc_ospf::{OspfInterface, ospf_interfaces};
 use std::alloc::Global;
 use std::process::Abort;
 use std::test::Fail;
@@ -93,19 +90,6 @@ fn interfaces_of_two(alloc: Global) -> Result<Items<OspfInterface>, Fail> {
     Ok(ospf_interfaces(alloc, &net)?)
 }
 
-fn steps_of_two(alloc: Global) -> Result<Items<Step>, Fail> {
-    let net = two_routers(alloc)?;
-    let links = Links::of(alloc, &net)?;
-    let interfaces = ospf_interfaces(alloc, &net)?;
-    Ok(adjacencies(alloc, &links, interfaces.as_slice())?)
-}
-
-fn adverts_of_two(alloc: Global) -> Result<Items<Advert>, Fail> {
-    let net = two_routers(alloc)?;
-    let interfaces = ospf_interfaces(alloc, &net)?;
-    Ok(adverts(alloc, &net, interfaces.as_slice())?)
-}
-
 /// The interface of a router and an index.
 fn id(router: usize, index: usize) -> IfId {
     IfId {
@@ -139,69 +123,6 @@ fn interfaces_have_costs_and_types(rt: HostRuntime) -> Result<(), Fail> {
         (id(1, 1), 64, NetworkType::PointToPoint, 40),
     ]) {
         check_interface(&rt, interface, wanted);
-    }
-    Ok(())
-}
-
-fn check_step(rt: &impl Abort, step: &Step, wanted: (IfId, usize, u32, u32)) {
-    let (out, to, cost, gateway) = wanted;
-    assert!(rt; step.area == 3);
-    assert!(rt; step.out == out);
-    assert!(rt; step.to == RouterId::at(to));
-    assert!(rt; step.cost == cost);
-    assert!(rt; step.gateway == addr(gateway));
-}
-
-#[test]
-fn neighbours_with_other_intervals_are_not_adjacent(rt: HostRuntime) -> Result<(), Fail> {
-    let steps = steps_of_two(rt.alloc())?;
-    assert!(rt; steps.len() == 2);
-    for (step, wanted) in steps
-        .as_slice()
-        .iter()
-        .zip([(id(0, 0), 1, 7, 0x0102), (id(1, 1), 0, 64, 0x0101)])
-    {
-        check_step(&rt, step, wanted);
-    }
-    Ok(())
-}
-
-fn check_advert(rt: &impl Abort, advert: &Advert, wanted: (u32, u8, usize, u32)) {
-    let (host, len, router, cost) = wanted;
-    assert!(rt; Some(advert.prefix) == Prefix::new(addr(host), len));
-    assert!(rt; advert.offer.router() == RouterId::at(router));
-    assert!(rt; advert.offer.area() == 3);
-    assert!(rt; advert.offer.cost() == cost);
-}
-
-#[test]
-fn interfaces_advertise_prefixes_and_loopbacks_hosts(rt: HostRuntime) -> Result<(), Fail> {
-    let adverts = adverts_of_two(rt.alloc())?;
-    assert!(rt; adverts.len() == 5);
-    for (advert, wanted) in adverts.as_slice().iter().zip([
-        (0x0100, 30, 0, 7),
-        (0x0200, 24, 0, 10),
-        (0x0901, 32, 0, 1),
-        (0x0200, 24, 1, 10),
-        (0x0100, 30, 1, 64),
-    ]) {
-        check_advert(&rt, advert, wanted);
-    }
-    Ok(())
-}
-
-#[test]
-fn offers_stand_by_prefix(rt: HostRuntime) -> Result<(), Fail> {
-    let adverts = adverts_of_two(rt.alloc())?;
-    let rows = offers_by_prefix(rt.alloc(), adverts.as_slice())?;
-    assert!(rt; rows.len() == 3);
-    for (row, (host, len, offers)) in rows
-        .as_slice()
-        .iter()
-        .zip([(0x0100, 30, 2), (0x0200, 24, 2), (0x0901, 32, 1)])
-    {
-        assert!(rt; Some(row.prefix) == Prefix::new(addr(host), len));
-        assert!(rt; row.offers.len() == offers);
     }
     Ok(())
 }
