@@ -1,21 +1,13 @@
-//! Tests of all that is read: values, folders in memory, openings, lines, a router's model, the grammars, and whole files.
+//! Tests of what a line says: values, folders in memory, openings, lines, a router's model, and the grammar of interfaces and routes.
 //!
 //! They stand above the crates that they try, since a crate with tests of its own is proved twice. Expected values come
 //! from outside: the standards, router handbooks, and lines as they stand in configurations.
 #![tactic(auto)]
 
 #[cfg(test)]
-mod access_list_lines;
-#[cfg(test)]
 mod access_lists;
 #[cfg(test)]
 mod addresses;
-#[cfg(test)]
-mod files;
-#[cfg(test)]
-mod files_with_lists;
-#[cfg(test)]
-mod files_with_policies;
 #[cfg(test)]
 mod forms;
 #[cfg(test)]
@@ -37,17 +29,9 @@ mod openings;
 #[cfg(test)]
 mod orders;
 #[cfg(test)]
-mod ospf_files;
-#[cfg(test)]
 mod ospf_interfaces;
 #[cfg(test)]
-mod ospf_lines;
-#[cfg(test)]
 mod policies;
-#[cfg(test)]
-mod policy_lines;
-#[cfg(test)]
-mod refused_files;
 #[cfg(test)]
 mod sets;
 #[cfg(test)]

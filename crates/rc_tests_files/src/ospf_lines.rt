@@ -195,14 +195,6 @@ fn values_of_a_process(rt: HostRuntime) {
     }
 }
 
-/// Of which interface the text says that it is passive, or isn't.
-fn passive_in(file: &RouterText, text: &[u8]) -> Option<(Name, bool)> {
-    match line_in(file, text) {
-        Some(OspfLine::Passive { interface, passive }) => Some((interface, passive)),
-        _ => None,
-    }
-}
-
 #[test]
 fn interfaces_are_passive(rt: HostRuntime) {
     let file = RouterText::new(rt.alloc());
@@ -210,12 +202,13 @@ fn interfaces_are_passive(rt: HostRuntime) {
     let default = Name::new(b"default").expect(&rt, "default");
     let all = line_in(&file, b" passive-interface default");
     assert!(rt; all == Some(OspfLine::PassiveDefault));
-    for (text, wanted) in [
-        (b" passive-interface Gi0/0".as_slice(), (interface, true)),
-        (b" no passive-interface Gi0/0", (interface, false)),
-        (b" no passive-interface default", (default, false)),
+    for (text, interface, passive) in [
+        (b" passive-interface Gi0/0".as_slice(), interface, true),
+        (b" no passive-interface Gi0/0", interface, false),
+        (b" no passive-interface default", default, false),
     ] {
-        assert!(rt; passive_in(&file, text) == Some(wanted), "{text:?}");
+        let wanted = OspfLine::Passive { interface, passive };
+        assert!(rt; line_in(&file, text) == Some(wanted), "{text:?}");
     }
 }
 

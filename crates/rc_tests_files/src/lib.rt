@@ -1,0 +1,23 @@
+//! Tests of whole files, and of the grammars of access lists, of policies and of OSPF.
+//!
+//! They stand above the crates that they try, since a crate with tests of its own is proved twice, and beside rc_tests_text, so
+//! that two processors share them. Expected values come from outside: the standards, router handbooks, and lines as they
+//! stand in configurations.
+#![tactic(auto)]
+
+#[cfg(test)]
+mod access_list_lines;
+#[cfg(test)]
+mod files;
+#[cfg(test)]
+mod files_with_lists;
+#[cfg(test)]
+mod files_with_policies;
+#[cfg(test)]
+mod ospf_files;
+#[cfg(test)]
+mod ospf_lines;
+#[cfg(test)]
+mod policy_lines;
+#[cfg(test)]
+mod refused_files;
