@@ -7,3 +7,7 @@ pub mod Originating
 pub mod Passing
 pub mod Candidates
 pub mod Learning
+pub mod Nets
+pub mod SessionRows
+pub mod PassingRows
+pub mod CandidateRows
