@@ -32,6 +32,7 @@ fn read_form(
         Grammar::AccessLists => rc_gram_acl::read_form(form, behind, line, context),
         Grammar::Policies => rc_gram_policy::read_form(form, behind, line, context),
         Grammar::Ospf => rc_gram_ospf::read_form(form, behind, line, context),
+        Grammar::Bgp => rc_gram_bgp::read_form(form, behind, line, context),
     }
 }
 
