@@ -1,0 +1,5 @@
+mod PositionLaws
+mod GatherLaws
+mod StillLaws
+mod Gathering
+mod Rounding
