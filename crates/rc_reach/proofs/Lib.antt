@@ -3,3 +3,4 @@ mod GatherLaws
 mod StillLaws
 mod Gathering
 mod Rounding
+mod JoinLaws
