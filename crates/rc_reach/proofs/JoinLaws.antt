@@ -1,7 +1,6 @@
 -- The rounds over numbers make the trees of the query's recipes, by operations that are among the recipes' own.
-use Rattle.std.proofs.Common.{refl, ◌≡◌, ap, sym, ◌∙◌, subst, ℕ, zero, suc, ◌+◌, ◌≤◌, ◌<◌, Bool, true, false, cond, List, [], ◌∷◌, ◌++◌, map, length, slice_index_or, All, inl, inr, arith}
+use Rattle.std.proofs.Common.{refl, ◌≡◌, ap, sym, ◌∙◌, subst, ℕ, zero, suc, ◌<◌, true, cond, List, [], ◌∷◌, ◌++◌, map, length, slice_index_or, All, inl, inr, arith}
 use Rattle.std.specs.Prelude.{◌==◌, flat_map}
-use Rattle.std.specs.Bool.{Decides}
 use Rattle.std.specs.List.{fold}
 use Rattle.std.proofs.lemmas.Bool.Decides.{nat_tests, same_from_decides}
 use Rattle.std.proofs.lemmas.List.Elements.{All-head, All-tail}
@@ -23,7 +22,6 @@ use Rattle.rc_walk.proofs.PositionLaws.{same_position-Decides}
 use Rattle.rc_jobs.specs.Flows.{edges_to, endings_of, positions}
 use Rattle.rc_places.specs.Places.{number_of, position_at}
 use Rattle.rc_places.proofs.PlaceLaws.{number_at}
-use Rattle.rc_edges.specs.Edges.{edge}
 use Rattle.rc_edges.specs.Endings.{end}
 use Rattle.rc_edges.specs.Query.{kinds_of, query_nodes, reached, reaching}
 use Rattle.rc_edges.proofs.QueryLaws.{coming, may_be_made, result-reached}
@@ -97,10 +95,13 @@ module _ (plane : DataPlane) (place : ℕ) where
     where
       equal : (p == q) ≡ true → p ≡ q
       equal e = grind (arith, nat_tests)
+
       equal_test : p ≡ q → (p == q) ≡ true
       equal_test e = grind (arith, nat_tests)
+
       by_number : (p == q) ≡ true → at p ≡ at q
       by_number e = ap at (equal e)
+
       by_place : at p ≡ at q → (p == q) ≡ true
       by_place e = equal_test (sym (number_at plane.network p low) ∙ ap (number_of plane.network) e ∙ number_at plane.network q high)
 

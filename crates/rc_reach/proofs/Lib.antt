@@ -4,3 +4,5 @@ mod StillLaws
 mod Gathering
 mod Rounding
 mod JoinLaws
+mod AskedLaws
+mod PlaceJoins

@@ -7,6 +7,8 @@
 
 mod first;
 mod gather;
+mod prepare_stub;
+mod reach;
 mod result;
 mod round;
 mod rounds;

@@ -13,7 +13,7 @@ use rc_nodes::{May, Nodes, Ref};
 use std::alloc::{AllocError, Global};
 
 /// A round of propagation: what stands at each position before it, and where something fresh came in the last one.
-#[derive(Clone, Copy)]
+#[derive(Drop)]
 pub struct Round<'a, E: Sends> {
     pub sends: &'a E,
     pub prepared: &'a Prepared,
