@@ -47,7 +47,7 @@ position_in net (Entering i) there =
     in-flat_map (λ r. Own r ∷ map Entering (interface_ids net r)) i.router (Entering i) (router_ids net) (in-range i.router 0 (length net.routers) (omega arith) (omega arith))
     (inr (map-in Entering i (interface_ids net i.router) (map-in (λ n. record { router = i.router; index = n }) i.index (range_with_len 0 (length (interfaces_of net i.router))) (in-range i.index 0 (length (interfaces_of net i.router)) (omega arith) (omega arith)))))
 
-every_kind : (k : Kind) → In k all_kinds
+pub every_kind : (k : Kind) → In k all_kinds
 every_kind DeniedIn = inl refl
 every_kind Accepted = inr (inl refl)
 every_kind NoRoute = inr (inr (inl refl))

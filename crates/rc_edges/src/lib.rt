@@ -5,10 +5,12 @@
 #![tactic(auto)]
 
 mod laws;
+mod preparing;
 mod query;
 
 pub use laws::{
     a_result_is_reduced, a_result_is_what_reaches, an_edge_is_a_move, an_ending_is_a_move,
     rounds_are_steps,
 };
+pub use preparing::prepare;
 pub use query::Query;
