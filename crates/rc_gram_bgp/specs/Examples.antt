@@ -1,5 +1,5 @@
 -- Lines of BGP with what they say, by computation.
-use Rattle.std.specs.Prelude.{◌≡◌, refl, ℕ, List, Ok, Err, codes}
+use Rattle.std.specs.Prelude.{◌≡◌, refl, ℕ, Bool, true, false, List, Option, Some, None, Ok, Err, codes}
 use Rattle.rc_base.specs.Prefix.{prefix_at}
 use Rattle.rc_openings.specs.GlobalOpenings.{global, global_forms, global_refused, global_ignored}
 use Rattle.rc_openings.specs.BgpOpenings.{bgp, bgp_forms, bgp_refused, bgp_ignored}
@@ -10,18 +10,22 @@ use Rattle.rc_openings.specs.Words.{words_of}
 use Rattle.rc_openings.specs.declared.reading.LineRefusal.TheVariants.{Unsupported, BadValue}
 use Rattle.rc_config.specs.Update.{after, empty}
 use Rattle.rc_config.specs.declared.bgp.BgpLine.{BgpLine}
-use Rattle.rc_config.specs.declared.bgp.BgpLine.TheVariants.{RouterId, Network, Neighbor}
+use Rattle.rc_config.specs.declared.bgp.BgpLine.TheVariants.{RouterId, Network, Neighbor, RedistributeConnected, RedistributeStatic, RedistributeOspf}
 use Rattle.rc_config.specs.declared.bgp.NeighborSetting.{NeighborSetting}
-use Rattle.rc_config.specs.declared.bgp.NeighborSetting.TheVariants.{RemoteAs, UpdateSource, EbgpMultihop, Shutdown}
+use Rattle.rc_config.specs.declared.bgp.NeighborSetting.TheVariants.{RemoteAs, UpdateSource, EbgpMultihop, Shutdown, NextHopSelf, DefaultOriginate, SendCommunity, Weight, RouteMap, PrefixList}
+use Rattle.rc_config.specs.declared.bgp.BgpRedistribution.{BgpRedistribution}
+use Rattle.rc_config.specs.declared.bgp.OspfKinds.{OspfKinds}
 use Rattle.rc_config.specs.declared.command.Command.TheVariants as command
 use Rattle.rc_config.specs.declared.context.OpenBlock.TheVariants as place
+use Rattle.rc_config.specs.declared.interface.Direction.TheVariants.{In, Out}
+use Rattle.rc_config.specs.declared.route_map.Mention.{Mention}
 use Rattle.rc_config.specs.declared.router_text.RouterText.{RouterText}
 use Rattle.rc_gram_bgp.specs.Reading.{says}
 use Rattle.rc_gram_bgp.specs.Rows.{Answer}
 
--- a line with no indent says this, in a file with no process
+-- the seventh line of a file says this where it has no indent, in a file with no process
 abbrev Opens : List ℕ → Answer → Type 0
-Opens text answer = says place.Global empty (words_of text) ≡ answer
+Opens text answer = says place.Global empty 7 (words_of text) ≡ answer
 
 pub first_process :
     Opens (codes "router bgp 1") (Ok (command.BgpOpened 1))
@@ -41,7 +45,7 @@ seventh = after empty (command.BgpOpened 7)
 
 -- the same process opens again; one in a second AS isn't modelled, and a bad value is one first
 abbrev OpensAgain : List ℕ → Answer → Type 0
-OpensAgain text answer = says place.Global seventh (words_of text) ≡ answer
+OpensAgain text answer = says place.Global seventh 7 (words_of text) ≡ answer
 
 pub again :
     OpensAgain (codes "router bgp 7") (Ok (command.BgpOpened 7))
@@ -52,7 +56,7 @@ again = (refl, refl, refl)
 
 -- a line in the block of the process says this
 abbrev Says : List ℕ → Answer → Type 0
-Says text answer = says place.Bgp seventh (words_of text) ≡ answer
+Says text answer = says place.Bgp seventh 7 (words_of text) ≡ answer
 
 abbrev Is : List ℕ → BgpLine → Type 0
 Is text line = Says text (Ok (command.BgpLine line))
@@ -153,6 +157,124 @@ pub flags :
 unfolding decided decisive_row bgp bgp_forms bgp_refused bgp_ignored words_of
 flags = (refl, refl, refl, refl, refl, refl)
 
+-- flags of the policy of a neighbour, and the weight of its paths
+pub policies :
+    Sets (codes " neighbor 10.0.0.2 next-hop-self") NextHopSelf
+    × Sets (codes " neighbor 10.0.0.2 default-originate") DefaultOriginate
+    × Sets (codes " neighbor 10.0.0.2 weight 0") (Weight 0)
+    × Sets (codes " neighbor 10.0.0.2 weight 65535") (Weight 65535)
+    × Says (codes " neighbor 10.0.0.2 weight 65536") (Err BadValue)
+    × Says (codes " neighbor 10.0.0.2 weight") (Err BadValue)
+    × Says (codes " neighbor R2 weight 5") (Err BadValue)
+    × Says (codes " neighbor 10.0.0.2 next-hop-self all") (Err BadValue)
+    × Says (codes " neighbor 10.0.0.2 default-originate route-map M") (Err Unsupported)
+    × Says (codes " neighbor 10.0.0.2 default-originate always") (Err BadValue)
+    × Says (codes " neighbor 10.0.0.2 next-hop-self route-map") (Err BadValue)
+unfolding decided decisive_row bgp bgp_forms bgp_refused bgp_ignored words_of
+policies = (refl, refl, refl, refl, refl, refl, refl, refl, refl, refl, refl)
+
+-- extended communities alone have no effect
+pub communities :
+    Sets (codes " neighbor 10.0.0.2 send-community") SendCommunity
+    × Sets (codes " neighbor 10.0.0.2 send-community standard") SendCommunity
+    × Sets (codes " neighbor 10.0.0.2 send-community both") SendCommunity
+    × Says (codes " neighbor 10.0.0.2 send-community extended") (Ok command.Remark)
+    × Says (codes " neighbor R2 send-community extended") (Err BadValue)
+    × Says (codes " neighbor R2 send-community") (Err BadValue)
+    × Says (codes " neighbor 10.0.0.2 send-community all") (Err BadValue)
+    × Says (codes " neighbor 10.0.0.2 send-community standard extended") (Err BadValue)
+unfolding decided decisive_row bgp bgp_forms bgp_refused bgp_ignored words_of
+communities = (refl, refl, refl, refl, refl, refl, refl, refl)
+
+abbrev named : List ℕ → Mention
+named name = record { name = name; line = 7 }
+
+-- a route map and a prefix list need not be there, and any name is one
+pub maps :
+    Sets (codes " neighbor 10.0.0.2 route-map M in") (RouteMap (named (codes "M")) In)
+    × Sets (codes " neighbor 10.0.0.2 route-map in out") (RouteMap (named (codes "in")) Out)
+    × Sets (codes " neighbor 10.0.0.2 prefix-list 5 in") (PrefixList (named (codes "5")) In)
+    × Sets (codes " neighbor 10.0.0.2 prefix-list P out") (PrefixList (named (codes "P")) Out)
+    × Says (codes " neighbor 10.0.0.2 route-map M") (Err BadValue)
+    × Says (codes " neighbor 10.0.0.2 route-map M both") (Err BadValue)
+    × Says (codes " neighbor 10.0.0.2 route-map M in out") (Err BadValue)
+    × Says (codes " neighbor 10.0.0.2 prefix-list in") (Err BadValue)
+    × Says (codes " neighbor 10.0.0.2 prefix-list P IN") (Err BadValue)
+    × Says (codes " neighbor R2 prefix-list P in") (Err BadValue)
+unfolding decided decisive_row bgp bgp_forms bgp_refused bgp_ignored words_of
+maps = (refl, refl, refl, refl, refl, refl, refl, refl, refl, refl)
+
+abbrev by : Option ℕ → Option Mention → BgpRedistribution
+by metric map = record { metric = metric; route_map = map }
+
+-- `metric` and `route-map` stand in either order, each once
+pub redistributed :
+    Is (codes " redistribute connected") (RedistributeConnected (by None None))
+    × Is (codes " redistribute static") (RedistributeStatic (by None None))
+    × Is (codes " redistribute static metric 0") (RedistributeStatic (by (Some 0) None))
+    × Is (codes " redistribute static metric 4294967295") (RedistributeStatic (by (Some 4294967295) None))
+    × Is (codes " redistribute connected route-map M") (RedistributeConnected (by None (Some (named (codes "M")))))
+    × Is (codes " redistribute connected metric 5 route-map M") (RedistributeConnected (by (Some 5) (Some (named (codes "M")))))
+    × Is (codes " redistribute connected route-map metric metric 5") (RedistributeConnected (by (Some 5) (Some (named (codes "metric")))))
+    × Is (codes " redistribute static route-map tag") (RedistributeStatic (by None (Some (named (codes "tag")))))
+    × Says (codes " redistribute static metric 4294967296") (Err BadValue)
+    × Says (codes " redistribute static metric") (Err BadValue)
+    × Says (codes " redistribute static metric 5 metric 5") (Err BadValue)
+    × Says (codes " redistribute static route-map M route-map M") (Err BadValue)
+    × Says (codes " redistribute static metric 5 route-map") (Err BadValue)
+    × Says (codes " redistribute static metric 5 route-map M x") (Err BadValue)
+    × Says (codes " redistribute static subnets") (Err BadValue)
+    × Says (codes " redistribute static tag 5") (Err Unsupported)
+    × Says (codes " redistribute connected metric 5 metric-type 1") (Err Unsupported)
+    × Says (codes " redistribute connected nssa-only") (Err Unsupported)
+unfolding decided decisive_row bgp bgp_forms bgp_refused bgp_ignored words_of
+redistributed = (refl, refl, refl, refl, refl, refl, refl, refl, refl, refl, refl, refl, refl, refl, refl, refl, refl, refl)
+
+abbrev from : ℕ → OspfKinds → BgpRedistribution → BgpLine
+from process kinds r = RedistributeOspf (record { process = process; kinds = kinds; redistribution = r })
+
+abbrev of_kinds : Bool → Bool → Bool → OspfKinds
+of_kinds internal first second = record { internal = internal; external_1 = first; external_2 = second }
+
+-- the kinds behind `match`: one or more, in any order and more than once; `external` is both types
+pub kinds :
+    Is (codes " redistribute ospf 1") (from 1 (of_kinds true false false) (by None None))
+    × Is (codes " redistribute ospf 1 match internal") (from 1 (of_kinds true false false) (by None None))
+    × Is (codes " redistribute ospf 1 match external") (from 1 (of_kinds false true true) (by None None))
+    × Is (codes " redistribute ospf 1 match external 1") (from 1 (of_kinds false true false) (by None None))
+    × Is (codes " redistribute ospf 1 match external 2") (from 1 (of_kinds false false true) (by None None))
+    × Is (codes " redistribute ospf 1 match internal external 1 external 2") (from 1 (of_kinds true true true) (by None None))
+    × Is (codes " redistribute ospf 1 match external 2 internal") (from 1 (of_kinds true false true) (by None None))
+    × Is (codes " redistribute ospf 1 match external internal internal") (from 1 (of_kinds true true true) (by None None))
+    × Is (codes " redistribute ospf 1 match external external 1") (from 1 (of_kinds false true true) (by None None))
+    × Says (codes " redistribute ospf 1 match") (Err BadValue)
+    × Says (codes " redistribute ospf 1 match metric 5") (Err BadValue)
+    × Says (codes " redistribute ospf 1 match 1") (Err BadValue)
+    × Says (codes " redistribute ospf 1 match internal 1") (Err BadValue)
+    × Says (codes " redistribute ospf 1 match external 3") (Err BadValue)
+    × Says (codes " redistribute ospf 1 match external 1 2") (Err BadValue)
+    × Says (codes " redistribute ospf 1 match nssa-external") (Err BadValue)
+unfolding decided decisive_row bgp bgp_forms bgp_refused bgp_ignored words_of
+kinds = (refl, refl, refl, refl, refl, refl, refl, refl, refl, refl, refl, refl, refl, refl, refl, refl)
+
+-- the options of `redistribute ospf` stand in one order
+pub from_ospf :
+    Is (codes " redistribute ospf 0 metric 5") (from 0 (of_kinds true false false) (by (Some 5) None))
+    × Is (codes " redistribute ospf 4294967295 route-map M") (from 4294967295 (of_kinds true false false) (by None (Some (named (codes "M")))))
+    × Is (codes " redistribute ospf 1 match external 1 metric 5 route-map M") (from 1 (of_kinds false true false) (by (Some 5) (Some (named (codes "M")))))
+    × Is (codes " redistribute ospf 1 match external metric 5") (from 1 (of_kinds false true true) (by (Some 5) None))
+    × Says (codes " redistribute ospf 1 route-map M metric 5") (Err BadValue)
+    × Says (codes " redistribute ospf 1 metric 5 match internal") (Err BadValue)
+    × Says (codes " redistribute ospf 1 match internal match external") (Err BadValue)
+    × Says (codes " redistribute ospf") (Err BadValue)
+    × Says (codes " redistribute ospf 4294967296") (Err BadValue)
+    × Says (codes " redistribute ospf match internal") (Err BadValue)
+    × Says (codes " redistribute ospf 1 subnets") (Err BadValue)
+    × Says (codes " redistribute ospf 1 nssa-only") (Err Unsupported)
+    × Says (codes " redistribute ospf 1 match external 1 tag 5") (Err Unsupported)
+unfolding decided decisive_row bgp bgp_forms bgp_refused bgp_ignored words_of
+from_ospf = (refl, refl, refl, refl, refl, refl, refl, refl, refl, refl, refl, refl, refl)
+
 -- lines about IPv6 neighbours are passed over, whatever stands behind their addresses
 pub other_families :
     Says (codes " neighbor 2001:db8::2 remote-as 65001") (Ok command.Passed)
@@ -175,9 +297,8 @@ pub others :
     × Says (codes " address-family ipv4") (Err Unsupported)
     × Says (codes " exit-address-family") (Err Unsupported)
     × Says (codes " maximum-paths 2") (Err Unsupported)
-    × Says (codes " redistribute static") (Err Unsupported)
     × Says (codes " redistribute rip") (Err Unsupported)
-    × Says (codes " neighbor 10.0.0.2 weight 5") (Err Unsupported)
+    × Says (codes " redistribute") (Err Unsupported)
     × Says (codes " bgp log-neighbor-changes") (Ok command.Passed)
     × Says (codes " bgp bestpath compare-routerid") (Ok command.Passed)
     × Says (codes " neighbor R2 description to R2") (Ok command.Passed)
@@ -185,4 +306,4 @@ pub others :
     × Says (codes " no auto-summary") (Ok command.Passed)
     × Says (codes " exit") (Ok command.Passed)
 unfolding decided decisive_row bgp bgp_forms bgp_refused bgp_ignored words_of
-others = (refl, refl, refl, refl, refl, refl, refl, refl, refl, refl, refl, refl, refl, refl, refl, refl, refl, refl)
+others = (refl, refl, refl, refl, refl, refl, refl, refl, refl, refl, refl, refl, refl, refl, refl, refl, refl)

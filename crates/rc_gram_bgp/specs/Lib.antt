@@ -1,4 +1,5 @@
 pub mod NeighborLines
+pub mod Redistributions
 pub mod Lines
 pub mod Rows
 pub mod Reading

@@ -10,23 +10,30 @@ use Rattle.rc_config.specs.declared.context.OpenBlock.{OpenBlock}
 use Rattle.rc_config.specs.declared.router_text.RouterText.{RouterText}
 use Rattle.rc_gram_bgp.specs.Rows.{Answer, row}
 
+abbrev pub refused_options : List (List ℕ)
+refused_options = codes "tag" ∷ codes "nssa-only" ∷ codes "metric-type" ∷ []
+
 -- the words that make a line of a form one that isn't modelled, where it fits no row
 abbrev pub refused_words : Form → List (List ℕ)
 refused_words form.BgpNetwork = codes "route-map" ∷ codes "backdoor" ∷ []
+refused_words form.NeighborDefaultOriginate = codes "route-map" ∷ []
+refused_words form.BgpRedistributeConnected = refused_options
+refused_words form.BgpRedistributeStatic = refused_options
+refused_words form.BgpRedistributeOspf = refused_options
 refused_words _ = []
 
--- what a line of a form says, by all its words and by those behind the opening
-abbrev pub row_answer : RouterText → List (List ℕ) → Form → List (List ℕ) → Answer
-row_answer file line f behind = judged (refused_words f) behind (row file line f behind)
+-- what a line of a form says, by its number and all its words, and by those behind the opening
+abbrev pub row_answer : RouterText → ℕ → List (List ℕ) → Form → List (List ℕ) → Answer
+row_answer file number line f behind = judged (refused_words f) behind (row file number line f behind)
 
--- the rows for a line of this file with these words
-abbrev pub rows_in : RouterText → List (List ℕ) → FormRows Command
-rows_in file line = record { answer = row_answer file line; passed = Passed }
+-- the rows for the line of this number and these words in a file
+abbrev pub rows_in : RouterText → ℕ → List (List ℕ) → FormRows Command
+rows_in file number line = record { answer = row_answer file number line; passed = Passed }
 
 -- the line says this where it stands: the opening with most words decides
-abbrev pub Says : OpenBlock → RouterText → List (List ℕ) → Answer → Type 0
-Says block file line answer = SaysBy (rows_in file line) (block_at block) line answer
+abbrev pub Says : OpenBlock → RouterText → ℕ → List (List ℕ) → Answer → Type 0
+Says block file number line answer = SaysBy (rows_in file number line) (block_at block) line answer
 
 -- the same, computed
-abbrev pub says : OpenBlock → RouterText → List (List ℕ) → Answer
-says block file line = said_by (rows_in file line) (block_at block) line
+abbrev pub says : OpenBlock → RouterText → ℕ → List (List ℕ) → Answer
+says block file number line = said_by (rows_in file number line) (block_at block) line

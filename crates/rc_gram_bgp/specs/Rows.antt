@@ -1,5 +1,6 @@
 -- The rows of BGP: the command that a line of each form is, by its words. A line that fits no row is BadValue.
-use Rattle.std.specs.Prelude.{ℕ, ◌==◌, List, [], ◌∷◌, Option, Some, None, Result, Ok, Err, if◌then◌else◌}
+use Rattle.std.specs.Prelude.{ℕ, ◌==◌, Bool, false, List, [], ◌∷◌, Option, Some, None, Result, Ok, Err, if◌then◌else◌, codes}
+use Rattle.std.specs.Str.{bytes_eq}
 use Rattle.rc_config.specs.declared.bgp.BgpLine.{BgpLine}
 use Rattle.rc_config.specs.declared.bgp.BgpProcess.{BgpProcess}
 use Rattle.rc_config.specs.declared.command.Command.{Command}
@@ -39,8 +40,17 @@ abbrev pub in_block : Option BgpLine → Answer
 in_block (Some line) = Ok (command.BgpLine line)
 in_block None = Err BadValue
 
--- what a line of a form says, by all its words and by those behind the opening; forms of other grammars have no row here
-abbrev pub row : RouterText → List (List ℕ) → Form → List (List ℕ) → Answer
-row file line form.RouterBgp behind = router_bgp file behind
-row file line form.NeighborActivate behind = activate (neighbor_of line) behind
-row file line f behind = in_block (line_of f line behind)
+abbrev pub is_extended : List (List ℕ) → Bool
+is_extended (w ∷ []) = bytes_eq w (codes "extended")
+is_extended _ = false
+
+-- `neighbor A send-community extended` has no effect, and undoes nothing
+abbrev pub send_community : ℕ → List (List ℕ) → List (List ℕ) → Answer
+send_community number line behind = if is_extended behind then activate (neighbor_of line) [] else in_block (line_of number form.NeighborSendCommunity line behind)
+
+-- what a line of a form says, by its number and all its words, and by those behind the opening; forms of other grammars have no row here
+abbrev pub row : RouterText → ℕ → List (List ℕ) → Form → List (List ℕ) → Answer
+row file number line form.RouterBgp behind = router_bgp file behind
+row file number line form.NeighborActivate behind = activate (neighbor_of line) behind
+row file number line form.NeighborSendCommunity behind = send_community number line behind
+row file number line f behind = in_block (line_of number f line behind)

@@ -7,6 +7,7 @@
 mod lines;
 mod neighbor_lines;
 mod reading;
+mod redistributions;
 mod rows;
 
 pub use reading::{read_form, read_line};

@@ -4,6 +4,7 @@ ghost use Rattle.rc_openings.specs.Words.{words_left};
 ghost use Rattle.rc_gram_bgp.specs.Lines as lines;
 
 use crate::neighbor_lines::{neighbor_of, setting_of};
+use crate::redistributions::{options, ospf_redistribution};
 use rc_base::{Addr, Prefix};
 use rc_config::{BgpLine, NeighborSetting, natural_len};
 use rc_openings::{Form, Words, prefix_under, word_addr};
@@ -69,13 +70,46 @@ fn about(address: Option<Addr>, setting: Option<NeighborSetting>) -> Option<BgpL
     }
 }
 
-/// The line of a form, where it fits its row: by all its words, and by those behind the opening.
-pub(crate) fn line_of(form: Form, line: Words, behind: Words) -> Option<BgpLine>
-    ensures { result ≡ lines.line_of form (words_left line.entry) (words_left behind.entry) }
+/// `redistribute connected`
+fn redistribute_connected(number: u64, words: Words) -> Option<BgpLine>
+    ensures { result ≡ lines.redistribute_connected number (words_left words.entry) }
+{
+    match options(number, words) {
+        Some(redistribution) => Some(BgpLine::RedistributeConnected(redistribution)),
+        None => None,
+    }
+}
+
+/// `redistribute static`
+fn redistribute_static(number: u64, words: Words) -> Option<BgpLine>
+    ensures { result ≡ lines.redistribute_static number (words_left words.entry) }
+{
+    match options(number, words) {
+        Some(redistribution) => Some(BgpLine::RedistributeStatic(redistribution)),
+        None => None,
+    }
+}
+
+/// `redistribute ospf`
+fn redistribute_ospf(number: u64, words: Words) -> Option<BgpLine>
+    ensures { result ≡ lines.redistribute_ospf number (words_left words.entry) }
+{
+    match ospf_redistribution(number, words) {
+        Some(redistribution) => Some(BgpLine::RedistributeOspf(redistribution)),
+        None => None,
+    }
+}
+
+/// The line of a form, where it fits its row: by its number and all its words, and by those behind the opening.
+pub(crate) fn line_of(number: u64, form: Form, line: Words, behind: Words) -> Option<BgpLine>
+    ensures { result ≡ lines.line_of number form (words_left line.entry) (words_left behind.entry) }
 {
     match form {
         Form::BgpRouterId => router_id(behind),
         Form::BgpNetwork => network(behind),
-        _ => about(neighbor_of(line), setting_of(form, behind)),
+        Form::BgpRedistributeConnected => redistribute_connected(number, behind),
+        Form::BgpRedistributeStatic => redistribute_static(number, behind),
+        Form::BgpRedistributeOspf => redistribute_ospf(number, behind),
+        _ => about(neighbor_of(line), setting_of(number, form, behind)),
     }
 }

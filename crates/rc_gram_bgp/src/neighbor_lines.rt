@@ -3,8 +3,8 @@ ghost use Rattle.std.specs.Prelude.{◌≡◌};
 ghost use Rattle.rc_openings.specs.Words.{words_left};
 ghost use Rattle.rc_gram_bgp.specs.NeighborLines as lines;
 
-use rc_base::Addr;
-use rc_config::NeighborSetting;
+use rc_base::{Addr, Name};
+use rc_config::{Direction, Mention, NeighborSetting, direction_of};
 use rc_openings::{Form, Words, number_in, word_addr, word_interface, word_u32};
 
 /// The neighbour that a line is about, by all words of the line: the opening fits any word in its place.
@@ -67,15 +67,100 @@ fn alone(setting: NeighborSetting, mut words: Words) -> Option<NeighborSetting>
     }
 }
 
-/// What a line of a form sets for the neighbour that it is about, where it fits its row.
-pub(crate) fn setting_of(form: Form, behind: Words) -> Option<NeighborSetting>
-    ensures { result ≡ lines.setting_of form (words_left behind.entry) }
+/// `weight N`
+fn weight(mut words: Words) -> Option<NeighborSetting>
+    ensures { result ≡ lines.weight (words_left words.entry) }
+{
+    match (words.next_word(), words.next_word()) {
+        (Some(word), None) => match number_in(0, 65535, word) {
+            Some(weight) => Some(NeighborSetting::Weight(weight as u16)),
+            None => None,
+        },
+        _ => None,
+    }
+}
+
+fn sends_communities(word: &[u8]) -> bool
+    ensures { result ≡ lines.sends_communities word.now }
+{
+    word == b"standard".as_slice() || word == b"both".as_slice()
+}
+
+/// `send-community [standard|both]`
+fn send_community(mut words: Words) -> Option<NeighborSetting>
+    ensures { result ≡ lines.send_community (words_left words.entry) }
+{
+    match (words.next_word(), words.next_word()) {
+        (None, _) => Some(NeighborSetting::SendCommunity),
+        (Some(word), None) if sends_communities(word) => Some(NeighborSetting::SendCommunity),
+        _ => None,
+    }
+}
+
+/// The name that a word is, as the line of this number gives it.
+pub(crate) fn mention_of(number: u64, word: &[u8]) -> Option<Mention>
+    ensures { result ≡ lines.mention_of number word.now }
+{
+    match Name::new(word) {
+        Some(name) => Some(Mention { name, line: number }),
+        None => None,
+    }
+}
+
+fn map_in(map: Option<Mention>, direction: Option<Direction>) -> Option<NeighborSetting>
+    ensures { result ≡ lines.map_in map direction }
+{
+    match (map, direction) {
+        (Some(map), Some(direction)) => Some(NeighborSetting::RouteMap { map, direction }),
+        _ => None,
+    }
+}
+
+/// `route-map NAME in|out`
+fn route_map(number: u64, mut words: Words) -> Option<NeighborSetting>
+    ensures { result ≡ lines.route_map number (words_left words.entry) }
+{
+    match (words.next_word(), words.next_word(), words.next_word()) {
+        (Some(name), Some(way), None) => map_in(mention_of(number, name), direction_of(way)),
+        _ => None,
+    }
+}
+
+fn list_in(list: Option<Mention>, direction: Option<Direction>) -> Option<NeighborSetting>
+    ensures { result ≡ lines.list_in list direction }
+{
+    match (list, direction) {
+        (Some(list), Some(direction)) => Some(NeighborSetting::PrefixList { list, direction }),
+        _ => None,
+    }
+}
+
+/// `prefix-list NAME in|out`
+fn prefix_list(number: u64, mut words: Words) -> Option<NeighborSetting>
+    ensures { result ≡ lines.prefix_list number (words_left words.entry) }
+{
+    match (words.next_word(), words.next_word(), words.next_word()) {
+        (Some(name), Some(way), None) => list_in(mention_of(number, name), direction_of(way)),
+        _ => None,
+    }
+}
+
+/// What a line of a form sets for the neighbour that it is about, where it fits its row: by its number, and by the words
+/// behind the opening.
+pub(crate) fn setting_of(number: u64, form: Form, behind: Words) -> Option<NeighborSetting>
+    ensures { result ≡ lines.setting_of number form (words_left behind.entry) }
 {
     match form {
         Form::NeighborRemoteAs => remote_as(behind),
         Form::NeighborUpdateSource => update_source(behind),
         Form::NeighborEbgpMultihop => ebgp_multihop(behind),
         Form::NeighborShutdown => alone(NeighborSetting::Shutdown, behind),
+        Form::NeighborNextHopSelf => alone(NeighborSetting::NextHopSelf, behind),
+        Form::NeighborDefaultOriginate => alone(NeighborSetting::DefaultOriginate, behind),
+        Form::NeighborSendCommunity => send_community(behind),
+        Form::NeighborWeight => weight(behind),
+        Form::NeighborRouteMap => route_map(number, behind),
+        Form::NeighborPrefixList => prefix_list(number, behind),
         _ => None,
     }
 }

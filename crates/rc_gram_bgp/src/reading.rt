@@ -17,18 +17,22 @@ fn refused_words(form: Form) -> Words<'static>
 {
     match form {
         Form::BgpNetwork => Words::new(b"route-map backdoor"),
+        Form::NeighborDefaultOriginate => Words::new(b"route-map"),
+        Form::BgpRedistributeConnected => Words::new(b"tag nssa-only metric-type"),
+        Form::BgpRedistributeStatic => Words::new(b"tag nssa-only metric-type"),
+        Form::BgpRedistributeOspf => Words::new(b"tag nssa-only metric-type"),
         _ => Words::new(b""),
     }
 }
 
-/// What a line of a form says, by all its words and by those behind the opening.
+/// What a line of a form says, by its number and all its words, and by those behind the opening.
 fn answer(form: Form, behind: Words, line: &Line, file: &RouterText) -> Result<Command, LineError>
-    ensures row { Gives result (reading.row_answer file.now (words_of line.now.text) form (words_left behind.entry)) }
+    ensures row { Gives result (reading.row_answer file.now line.now.number (words_of line.now.text) form (words_left behind.entry)) }
     ensures takes_no_memory { result ≢ Err LineError.Memory }
     ensures in_range { IfOk result IsInRange }
     ensures fits { IfOk result (FitsFile file.now) }
 {
-    let said = row(form, file, line.words(), behind);
+    let said = row(form, file, line.number(), line.words(), behind);
     match judged(said, behind, refused_words(form)) {
         Ok(command) => Ok(command),
         Err(refusal) => Err(LineError::Refused(refusal)),
@@ -43,7 +47,7 @@ pub fn read_form(
     line: &Line,
     context: Context,
 ) -> Result<Command, LineError>
-    ensures row { Gives result (reading.row_answer context.entry.file.now (words_of line.now.text) form (words_left behind.entry)) }
+    ensures row { Gives result (reading.row_answer context.entry.file.now line.now.number (words_of line.now.text) form (words_left behind.entry)) }
     ensures takes_no_memory { result ≢ Err LineError.Memory }
     ensures in_range { IfOk result IsInRange }
     ensures fits { IfOk result (FitsFile context.entry.file.now) }
@@ -53,7 +57,7 @@ pub fn read_form(
 
 /// What a line says in this block, where its form is one of BGP.
 fn read_in(line: &Line, block: &OpenBlock, file: &RouterText) -> Result<Command, LineError>
-    ensures exact { Gives result (reading.says block.now file.now (words_of line.now.text)) }
+    ensures exact { Gives result (reading.says block.now file.now line.now.number (words_of line.now.text)) }
     ensures takes_no_memory { result ≢ Err LineError.Memory }
     ensures in_range { IfOk result IsInRange }
     ensures fits { IfOk result (FitsFile file.now) }
@@ -70,9 +74,9 @@ fn read_in(line: &Line, block: &OpenBlock, file: &RouterText) -> Result<Command,
 /// It errs exactly where the definition of its openings and rows does, and takes no memory.
 pub fn read_line(line: &Line, context: Context) -> Result<Command, LineError>
     // One opening decides, that with most words, and the row of its form is the meaning.
-    ensures decided { IfAnswered result (reading.Says context.entry.block context.entry.file.now (words_of line.now.text)) }
+    ensures decided { IfAnswered result (reading.Says context.entry.block context.entry.file.now line.now.number (words_of line.now.text)) }
     // So each line says one thing.
-    ensures exact { Gives result (reading.says context.entry.block context.entry.file.now (words_of line.now.text)) }
+    ensures exact { Gives result (reading.says context.entry.block context.entry.file.now line.now.number (words_of line.now.text)) }
     ensures takes_no_memory { result ≢ Err LineError.Memory }
     // Values are in their ranges.
     ensures in_range { IfOk result IsInRange }

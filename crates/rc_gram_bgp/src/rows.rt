@@ -1,5 +1,5 @@
 //! The rows of BGP: the line that opens the process of a router, and those in its block.
-ghost use Rattle.std.specs.Prelude.{◌≡◌, IfOk, IfSome};
+ghost use Rattle.std.specs.Prelude.{◌≡◌, [], IfOk, IfSome};
 ghost use Rattle.std.specs.Option.{option_copied};
 ghost use Rattle.rc_openings.specs.Values.{number_within};
 ghost use Rattle.rc_openings.specs.Words.{words_left};
@@ -73,20 +73,56 @@ fn in_block(line: Option<BgpLine>) -> Result<Command, LineRefusal>
     }
 }
 
-/// What a line of a form says, by all its words and by those behind the opening.
+fn is_extended(mut words: Words) -> bool
+    ensures { result ≡ rows.is_extended (words_left words.entry) }
+{
+    match (words.next_word(), words.next_word()) {
+        (Some(word), None) => word == b"extended".as_slice(),
+        _ => false,
+    }
+}
+
+/// A line that has no effect, where it is about a neighbour.
+fn without_effect(address: Option<Addr>) -> Result<Command, LineRefusal>
+    ensures row { result ≡ rows.activate address [] }
+    ensures in_range { IfOk result IsInRange }
+    ensures fits { (file : RouterText) → IfOk result (FitsFile file) }
+{
+    match address {
+        Some(_) => Ok(Command::Remark),
+        None => Err(LineRefusal::BadValue),
+    }
+}
+
+/// `neighbor A send-community [standard|both|extended]`
+fn send_community(number: u64, line: Words, behind: Words) -> Result<Command, LineRefusal>
+    ensures row { result ≡ rows.send_community number (words_left line.entry) (words_left behind.entry) }
+    ensures in_range { IfOk result IsInRange }
+    ensures fits { (file : RouterText) → IfOk result (FitsFile file) }
+{
+    if is_extended(behind) {
+        without_effect(neighbor_of(line))
+    } else {
+        in_block(line_of(number, Form::NeighborSendCommunity, line, behind))
+    }
+}
+
+/// What a line of a form says, by its number and all its words, and by those behind the opening.
 pub(crate) fn row(
     form: Form,
     file: &RouterText,
+    number: u64,
     line: Words,
     behind: Words,
 ) -> Result<Command, LineRefusal>
-    ensures row { result ≡ rows.row file.now (words_left line.entry) form (words_left behind.entry) }
+    ensures row { result ≡ rows.row file.now number (words_left line.entry) form (words_left behind.entry) }
     ensures in_range { IfOk result IsInRange }
     ensures fits { IfOk result (FitsFile file.now) }
 {
     match form {
         Form::RouterBgp => router_bgp(file, behind),
         Form::NeighborActivate => activate(neighbor_of(line), behind),
-        _ => in_block(line_of(form, line, behind)),
+        Form::NeighborSendCommunity => send_community(number, line, behind),
+        _ => in_block(line_of(number, form, line, behind)),
     }
 }

@@ -12,7 +12,7 @@ use Rattle.rc_config.specs.declared.context.OpenBlock.TheVariants as place
 use Rattle.rc_config.specs.declared.ospf.OspfLine.{OspfLine}
 use Rattle.rc_config.specs.declared.ospf.OspfLine.TheVariants.{RouterId, Network, PassiveDefault, Passive, ReferenceBandwidth, Stub, Redistribute, DefaultInformation}
 use Rattle.rc_config.specs.declared.ospf.RedistributedSource.{RedistributedSource}
-use Rattle.rc_config.specs.declared.ospf.RedistributedSource.TheVariants.{Connected, Static}
+use Rattle.rc_config.specs.declared.ospf.RedistributedSource.TheVariants.{Connected, Static, Bgp}
 use Rattle.rc_config.specs.declared.sets.MetricType.{MetricType}
 use Rattle.rc_config.specs.declared.sets.MetricType.TheVariants.{Type1, Type2}
 use Rattle.rc_config.specs.declared.router_text.RouterText.{RouterText}
@@ -98,7 +98,7 @@ values = (refl, refl, refl, refl, refl, refl)
 pub others :
     Says (codes " area 1") (Err Unsupported)
     × Says (codes " area 1 range 10.0.0.0 255.0.0.0") (Err Unsupported)
-    × Says (codes " redistribute bgp 65001 subnets") (Err Unsupported)
+    × Says (codes " redistribute bgp") (Err BadValue)
     × Says (codes " redistribute rip") (Err Unsupported)
     × Says (codes " default-information") (Err Unsupported)
     × Says (codes " maximum-paths 2") (Err Unsupported)
@@ -140,8 +140,11 @@ pub redistributions :
     × Is (codes " redistribute connected route-map M subnets metric-type 2 metric 5") (redistribution Connected (Some 5) (Some Type2) true (Some (codes "M")))
     × Is (codes " redistribute static route-map subnets") (redistribution Static None None false (Some (codes "subnets")))
     × Is (codes " redistribute static route-map tag") (redistribution Static None None false (Some (codes "tag")))
+    × Is (codes " redistribute bgp 65001 subnets") (redistribution (Bgp 65001) None None true None)
+    × Is (codes " redistribute bgp 0 metric 5 route-map M") (redistribution (Bgp 0) (Some 5) None false (Some (codes "M")))
+    × Is (codes " redistribute bgp 4294967295") (redistribution (Bgp 4294967295) None None false None)
 unfolding decided decisive_row ospf ospf_forms ospf_refused ospf_ignored refused_words words_of
-redistributions = (refl, refl, refl, refl, refl, refl, refl, refl, refl, refl)
+redistributions = (refl, refl, refl, refl, refl, refl, refl, refl, refl, refl, refl, refl, refl)
 
 pub redistributions_refused :
     Says (codes " redistribute static metric 16777215") (Err BadValue)
@@ -159,8 +162,12 @@ pub redistributions_refused :
     × Says (codes " redistribute connected nssa-only") (Err Unsupported)
     × Says (codes " redistribute connected metric 16777215 tag 5") (Err Unsupported)
     × Says (codes " redistribute connected match internal") (Err BadValue)
+    × Says (codes " redistribute bgp 4294967296") (Err BadValue)
+    × Says (codes " redistribute bgp subnets") (Err BadValue)
+    × Says (codes " redistribute bgp 65001 65002") (Err BadValue)
+    × Says (codes " redistribute bgp 65001 subnets nssa-only") (Err Unsupported)
 unfolding decided decisive_row ospf ospf_forms ospf_refused ospf_ignored refused_words words_of
-redistributions_refused = (refl, refl, refl, refl, refl, refl, refl, refl, refl, refl, refl, refl, refl, refl, refl)
+redistributions_refused = (refl, refl, refl, refl, refl, refl, refl, refl, refl, refl, refl, refl, refl, refl, refl, refl, refl, refl, refl)
 
 abbrev default : Bool → Option ℕ → Option MetricType → OspfLine
 default always metric type = DefaultInformation (record { always = always; metric = metric; metric_type = type })

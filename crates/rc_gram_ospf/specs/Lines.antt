@@ -6,7 +6,7 @@ use Rattle.std.specs.Str.{bytes_eq}
 use Rattle.rc_config.specs.declared.ospf.OspfLine.{OspfLine}
 use Rattle.rc_config.specs.declared.ospf.OspfLine.TheVariants.{RouterId, Network, PassiveDefault, Passive, ReferenceBandwidth, Stub, Redistribute, DefaultInformation}
 use Rattle.rc_config.specs.declared.ospf.RedistributedSource.{RedistributedSource}
-use Rattle.rc_config.specs.declared.ospf.RedistributedSource.TheVariants.{Connected, Static}
+use Rattle.rc_config.specs.declared.ospf.RedistributedSource.TheVariants.{Connected, Static, Bgp}
 use Rattle.rc_config.specs.declared.sets.MetricType.{MetricType}
 use Rattle.rc_openings.specs.Values.{address_of, area_of, interface_of, number_of, number_within}
 use Rattle.rc_openings.specs.declared.form.Form.{Form}
@@ -73,6 +73,15 @@ redistributed source number o = Redistribute (record {
 abbrev pub redistribute : RedistributedSource → ℕ → List (List ℕ) → Option OspfLine
 redistribute source number behind = option_map (redistributed source number) (options_in behind)
 
+abbrev pub redistribute_from : ℕ → Option ℕ → List (List ℕ) → Option OspfLine
+redistribute_from number (Some asn) options = redistribute (Bgp asn) number options
+redistribute_from number None options = None
+
+-- `redistribute bgp N ..`, N the number of an AS
+abbrev pub redistribute_bgp : ℕ → List (List ℕ) → Option OspfLine
+redistribute_bgp number (n ∷ options) = redistribute_from number (number_of n) options
+redistribute_bgp number [] = None
+
 abbrev pub default_with : Bool → Option ℕ → Option MetricType → OspfLine
 default_with always metric metric_type = DefaultInformation (record { always = always; metric = metric; metric_type = metric_type })
 
@@ -105,5 +114,6 @@ line_of form.ReferenceBandwidth number line behind = reference_bandwidth behind
 line_of form.StubArea number line behind = stub_area line
 line_of form.OspfRedistributeConnected number line behind = redistribute Connected number behind
 line_of form.OspfRedistributeStatic number line behind = redistribute Static number behind
+line_of form.OspfRedistributeBgp number line behind = redistribute_bgp number behind
 line_of form.DefaultInformationOriginate number line behind = default_information behind
 line_of _ number line behind = None

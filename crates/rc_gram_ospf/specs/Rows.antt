@@ -44,6 +44,7 @@ row file number line f behind = in_block (line_of f number line behind)
 unfoldable pub refused_words : Form → List (List ℕ)
 refused_words form.OspfRedistributeConnected = words_of (codes "tag nssa-only")
 refused_words form.OspfRedistributeStatic = words_of (codes "tag nssa-only")
+refused_words form.OspfRedistributeBgp = words_of (codes "tag nssa-only")
 refused_words form.DefaultInformationOriginate = words_of (codes "route-map")
 refused_words _ = []
 

@@ -170,6 +170,20 @@ fn redistribute(source: RedistributedSource, number: u64, behind: Words) -> Opti
     }
 }
 
+/// `redistribute bgp N ..`, N the number of an AS.
+fn redistribute_bgp(number: u64, mut words: Words) -> Option<OspfLine>
+    ensures row { result ≡ lines.redistribute_bgp number (words_left words.entry) }
+    ensures lawful { IfSome result IsLawfulOspfLine }
+{
+    let Some(word) = words.next_word() else {
+        return None;
+    };
+    match word_u32(word) {
+        Some(asn) => redistribute(RedistributedSource::Bgp(asn), number, words),
+        None => None,
+    }
+}
+
 fn default_with(always: bool, metric: Option<u32>, metric_type: Option<MetricType>) -> OspfLine
     ensures row { result ≡ lines.default_with always metric metric_type }
     ensures lawful { IsLawfulOspfLine result }
@@ -248,6 +262,7 @@ pub(crate) fn line_of(form: Form, line: &Line, behind: Words) -> Option<OspfLine
             line.number(),
             behind,
         ),
+        Form::OspfRedistributeBgp => redistribute_bgp(line.number(), behind),
         Form::DefaultInformationOriginate => default_information(behind),
         _ => None,
     }

@@ -72,6 +72,7 @@ fn refused_words(form: Form) -> Words<'static>
     match form {
         Form::OspfRedistributeConnected => Words::new(b"tag nssa-only"),
         Form::OspfRedistributeStatic => Words::new(b"tag nssa-only"),
+        Form::OspfRedistributeBgp => Words::new(b"tag nssa-only"),
         Form::DefaultInformationOriginate => Words::new(b"route-map"),
         _ => Words::new(b""),
     }

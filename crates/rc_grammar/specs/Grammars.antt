@@ -26,7 +26,7 @@ answer_in General block file number line f behind = general_answer block file nu
 answer_in AccessLists block file number line f behind = access_list_answer block file (written_at block line) f behind
 answer_in Policies block file number line f behind = policy_answer block file number f behind
 answer_in Ospf block file number line f behind = ospf_answer file number line f behind
-answer_in Bgp block file number line f behind = bgp_answer file line f behind
+answer_in Bgp block file number line f behind = bgp_answer file number line f behind
 
 -- the rows of all forms, for the line of this number at a place: each form has those of its grammar
 abbrev pub rows_at : OpenBlock → RouterText → ℕ → List (List ℕ) → FormRows Command

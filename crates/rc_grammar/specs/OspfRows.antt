@@ -1,5 +1,5 @@
 -- Lines of OSPF where they stand, by computation.
-use Rattle.std.specs.Prelude.{◌≡◌, refl, ℕ, true, List, Some, None, Ok, Err, codes}
+use Rattle.std.specs.Prelude.{◌≡◌, refl, ℕ, true, false, List, Some, None, Ok, Err, codes}
 use Rattle.rc_openings.specs.AccessListOpenings.{access_list, access_list_forms, access_list_refused, access_list_ignored}
 use Rattle.rc_openings.specs.BgpOpenings.{bgp, bgp_forms, bgp_refused, bgp_ignored}
 use Rattle.rc_openings.specs.GlobalOpenings.{global, global_forms, global_refused, global_ignored}
@@ -15,7 +15,7 @@ use Rattle.rc_config.specs.declared.command.Command.TheVariants as command
 use Rattle.rc_config.specs.declared.context.OpenBlock.TheVariants as place
 use Rattle.rc_config.specs.declared.ospf.OspfLine.TheVariants.{Network, PassiveDefault, Passive, Stub, Redistribute, DefaultInformation}
 use Rattle.rc_config.specs.declared.ospf.OspfSetting.TheVariants.{Cost, Area}
-use Rattle.rc_config.specs.declared.ospf.RedistributedSource.TheVariants.{Static}
+use Rattle.rc_config.specs.declared.ospf.RedistributedSource.TheVariants.{Static, Bgp}
 use Rattle.rc_grammar.specs.File.{open_after}
 use Rattle.rc_grammar.specs.PolicyRows.{Says}
 
@@ -29,7 +29,7 @@ pub processes :
     × Says place.Ospf (codes " passive-interface Serial0") (Ok (command.OspfLine (Passive serial true)))
     × Says place.Ospf (codes " passive-interface default") (Ok (command.OspfLine PassiveDefault))
     × Says place.Ospf (codes " log-adjacency-changes") (Ok Passed)
-    × Says place.Ospf (codes " redistribute bgp 65001") (Err Unsupported)
+    × Says place.Ospf (codes " redistribute bgp 65001") (Ok (command.OspfLine (Redistribute (record { source = Bgp 65001; metric = None; metric_type = None; subnets = false; route_map = None }))))
     × Says place.Ospf (codes " area 0.0.0.2 stub no-summary") (Ok (command.OspfLine (Stub (record { area = 2; no_summary = true }))))
     × Says place.Ospf (codes " redistribute static route-map M subnets") (Ok (command.OspfLine (Redistribute (record { source = Static; metric = None; metric_type = None; subnets = true; route_map = Some (record { name = codes "M"; line = 7 }) }))))
     × Says place.Ospf (codes " default-information originate always") (Ok (command.OspfLine (DefaultInformation (record { always = true; metric = None; metric_type = None }))))

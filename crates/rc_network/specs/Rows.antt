@@ -1,11 +1,16 @@
 -- Worked cases of what is named and not defined, each by computation.
-use Rattle.std.specs.Prelude.{◌≡◌, ℕ, false, List, [], ◌∷◌, ◌++◌, fold, Some, None, codes, refl}
+use Rattle.std.specs.Prelude.{◌≡◌, ℕ, true, false, List, [], ◌∷◌, ◌++◌, fold, Some, None, codes, refl}
 use Rattle.rc_config.specs.AccessList.{host_address, standard_line}
 use Rattle.rc_config.specs.Update.{after, empty}
+use Rattle.rc_config.specs.declared.bgp.BgpLine.TheVariants as bgp
+use Rattle.rc_config.specs.declared.bgp.BgpRedistribution.{BgpRedistribution}
+use Rattle.rc_config.specs.declared.bgp.NeighborSetting.{NeighborSetting}
+use Rattle.rc_config.specs.declared.bgp.NeighborSetting.TheVariants as setting
 use Rattle.rc_config.specs.declared.command.Command.{Command}
 use Rattle.rc_config.specs.declared.command.Command.TheVariants as command
 use Rattle.rc_config.specs.declared.access_list.Action.TheVariants.{Permit}
 use Rattle.rc_config.specs.declared.access_list.AccessListKind.TheVariants.{Standard, Extended}
+use Rattle.rc_config.specs.declared.interface.Direction.TheVariants.{In, Out}
 use Rattle.rc_config.specs.declared.map_line.MapLine.TheVariants.{Match, Set}
 use Rattle.rc_config.specs.declared.map_line.MatchKind.{MatchKind}
 use Rattle.rc_config.specs.declared.map_line.MatchKind.TheVariants.{AccessList, PrefixList, CommunityList}
@@ -13,6 +18,7 @@ use Rattle.rc_config.specs.declared.map_line.SetLine.TheVariants.{Weight}
 use Rattle.rc_config.specs.declared.ospf.OspfLine.TheVariants.{Redistribute}
 use Rattle.rc_config.specs.declared.ospf.RedistributedSource.{RedistributedSource}
 use Rattle.rc_config.specs.declared.ospf.RedistributedSource.TheVariants as source
+use Rattle.rc_config.specs.declared.route_map.Mention.{Mention}
 use Rattle.rc_config.specs.declared.router_text.RouterText.{RouterText}
 use Rattle.rc_base.specs.Prefix.{prefix_at}
 use Rattle.rc_network.specs.Build.{Model, first_refusal}
@@ -142,6 +148,72 @@ redistribute_first = refl
 
 pub least_of_sources : undefined_line (file (command.OspfOpened 1 ∷ redistributing source.Static one 6 ∷ redistributing source.Connected two 4 ∷ [])) ≡ Some 4
 least_of_sources = refl
+
+-- a line about a neighbour, in the block of a process
+abbrev about : ℕ → NeighborSetting → Command
+about address setting = command.BgpLine (bgp.Neighbor address setting)
+
+abbrev at : List ℕ → ℕ → Mention
+at name line = record { name = name; line = line }
+
+-- a neighbour's route map and prefix list have to be there, of each direction
+pub neighbor_map : undefined_line (file (command.BgpOpened 1 ∷ about 7 (setting.RouteMap (at one 5) In) ∷ [])) ≡ Some 5
+neighbor_map = refl
+
+pub neighbor_map_defined : undefined_line (file (command.BgpOpened 1 ∷ about 7 (setting.RouteMap (at one 5) Out) ∷ command.MapOpened one 10 Permit ∷ [])) ≡ None
+neighbor_map_defined = refl
+
+pub neighbor_list : undefined_line (file (command.BgpOpened 1 ∷ about 7 (setting.PrefixList (at one 5) Out) ∷ [])) ≡ Some 5
+neighbor_list = refl
+
+pub neighbor_list_defined : undefined_line (file (prefix_line one ∷ command.BgpOpened 1 ∷ about 7 (setting.PrefixList (at one 5) In) ∷ [])) ≡ None
+neighbor_list_defined = refl
+
+-- a prefix list is no route map, and a route map no prefix list
+pub list_for_map : undefined_line (file (prefix_line one ∷ command.BgpOpened 1 ∷ about 7 (setting.RouteMap (at one 5) In) ∷ [])) ≡ Some 5
+list_for_map = refl
+
+pub map_for_list : undefined_line (file (command.MapOpened one 10 Permit ∷ command.BgpOpened 1 ∷ about 7 (setting.PrefixList (at one 5) In) ∷ [])) ≡ Some 5
+map_for_list = refl
+
+-- of each direction the last line about a neighbour names, and lines about others name too
+pub neighbor_replaced : undefined_line (file (command.MapOpened two 10 Permit ∷ command.BgpOpened 1 ∷ about 7 (setting.RouteMap (at one 5) In) ∷ about 7 (setting.RouteMap (at two 6) In) ∷ [])) ≡ None
+neighbor_replaced = refl
+
+pub other_direction : undefined_line (file (command.MapOpened two 10 Permit ∷ command.BgpOpened 1 ∷ about 7 (setting.RouteMap (at one 5) In) ∷ about 7 (setting.RouteMap (at two 6) Out) ∷ [])) ≡ Some 5
+other_direction = refl
+
+pub other_neighbor : undefined_line (file (command.MapOpened two 10 Permit ∷ command.BgpOpened 1 ∷ about 9 (setting.RouteMap (at one 5) In) ∷ about 7 (setting.RouteMap (at two 6) In) ∷ [])) ≡ Some 5
+other_neighbor = refl
+
+-- what redistributes into BGP by a route map
+abbrev by_map : List ℕ → ℕ → BgpRedistribution
+by_map name line = record { metric = None; route_map = Some (at name line) }
+
+abbrev plain : BgpRedistribution
+plain = record { metric = Some 5; route_map = None }
+
+abbrev from_ospf : ℕ → BgpRedistribution → Command
+from_ospf process r = command.BgpLine (bgp.RedistributeOspf (record { process = process; kinds = record { internal = true; external_1 = false; external_2 = false }; redistribution = r }))
+
+pub sources_into_bgp :
+    (undefined_line (file (command.BgpOpened 1 ∷ command.BgpLine (bgp.RedistributeConnected (by_map one 5)) ∷ [])) ≡ Some 5)
+    × (undefined_line (file (command.BgpOpened 1 ∷ command.BgpLine (bgp.RedistributeStatic (by_map one 5)) ∷ [])) ≡ Some 5)
+    × (undefined_line (file (command.BgpOpened 1 ∷ from_ospf 3 (by_map one 5) ∷ [])) ≡ Some 5)
+    × (undefined_line (file (command.MapOpened one 10 Permit ∷ command.BgpOpened 1 ∷ from_ospf 3 (by_map one 5) ∷ command.BgpLine (bgp.RedistributeStatic (by_map one 6)) ∷ [])) ≡ None)
+sources_into_bgp = (refl, refl, refl, refl)
+
+-- a later line of the same source replaces, and one of another process doesn't
+pub sources_replaced :
+    (undefined_line (file (command.BgpOpened 1 ∷ command.BgpLine (bgp.RedistributeStatic (by_map one 5)) ∷ command.BgpLine (bgp.RedistributeStatic plain) ∷ [])) ≡ None)
+    × (undefined_line (file (command.BgpOpened 1 ∷ from_ospf 3 (by_map one 5) ∷ from_ospf 3 plain ∷ [])) ≡ None)
+    × (undefined_line (file (command.BgpOpened 1 ∷ from_ospf 3 (by_map one 5) ∷ from_ospf 4 plain ∷ [])) ≡ Some 5)
+sources_replaced = (refl, refl, refl)
+
+-- the least line counts, of whatever kind
+pub least_of_all : undefined_line (file (matching 10 PrefixList (one ∷ []) 9 ++ command.OspfOpened 1 ∷ redistributing source.Static one 8 ∷ command.BgpOpened 1 ∷ about 7 (setting.RouteMap (at one 7) In)
+    ∷ about 7 (setting.PrefixList (at one 6) Out) ∷ from_ospf 3 (by_map one 5) ∷ [])) ≡ Some 5
+least_of_all = refl
 
 -- the file of a router, whose first line gives the host name
 abbrev router : List ℕ → List ℕ → List Command → Model

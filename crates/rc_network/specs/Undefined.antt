@@ -1,10 +1,15 @@
--- What the lines of a file name (IOS `match` and `redistribute`), and what of it the file doesn't define.
+-- What the lines of a file name (IOS `match`, `redistribute` and `neighbor`), and what of it the file doesn't define.
 use Rattle.std.specs.Prelude.{ℕ, min, Bool, true, false, not, List, [], ◌∷◌, ◌++◌, map, filter, Option, is_some}
 use Rattle.std.specs.List.{flat_map, reduce}
 use Rattle.std.specs.Option.{option_map_or}
 use Rattle.rc_config.specs.Named.{named}
 use Rattle.rc_config.specs.declared.access_list.AccessListKind.{AccessListKind}
 use Rattle.rc_config.specs.declared.access_list.AccessListKind.TheVariants.{Standard, Extended}
+use Rattle.rc_config.specs.declared.bgp.BgpProcess.{BgpProcess}
+use Rattle.rc_config.specs.declared.bgp.BgpRedistribution.{BgpRedistribution}
+use Rattle.rc_config.specs.declared.bgp.BgpRedistributions.{BgpRedistributions}
+use Rattle.rc_config.specs.declared.bgp.Neighbor.{Neighbor}
+use Rattle.rc_config.specs.declared.bgp.OspfRedistribution.{OspfRedistribution}
 use Rattle.rc_config.specs.declared.ospf.OspfProcess.{OspfProcess}
 use Rattle.rc_config.specs.declared.ospf.Redistribution.{Redistribution}
 use Rattle.rc_config.specs.declared.route_map.MapEntry.{MapEntry}
@@ -39,9 +44,37 @@ named_by_redistribution line = option_map_or (λ m. (kind.RouteMap, m) ∷ []) l
 abbrev pub named_by_process : OspfProcess → List NamedThing
 named_by_process p = flat_map named_by_redistribution p.redistributions
 
+-- what may be named once, where it is
+abbrev pub named_once : NamedKind → Option Mention → List NamedThing
+named_once kind mention = option_map_or (λ m. (kind, m) ∷ []) mention []
+
+-- the route maps and prefix lists of a neighbour, by the last line of each direction
+abbrev pub named_by_neighbor : Neighbor → List NamedThing
+named_by_neighbor n = named_once kind.RouteMap n.map_in ++ named_once kind.RouteMap n.map_out ++ named_once kind.PrefixList n.list_in ++ named_once kind.PrefixList n.list_out
+
+abbrev pub named_by_neighbors : List Neighbor → List NamedThing
+named_by_neighbors neighbors = flat_map named_by_neighbor neighbors
+
+-- the route maps through which routes are redistributed into BGP
+abbrev pub named_by_source : Option BgpRedistribution → List NamedThing
+named_by_source r = option_map_or (λ (line : BgpRedistribution). named_once kind.RouteMap line.route_map) r []
+
+abbrev pub named_by_ospf : List OspfRedistribution → List NamedThing
+named_by_ospf lines = flat_map (λ (line : OspfRedistribution). named_once kind.RouteMap line.redistribution.route_map) lines
+
+abbrev pub named_by_sources : BgpRedistributions → List NamedThing
+named_by_sources r = named_by_source r.connected ++ named_by_source r.static_routes ++ named_by_ospf r.ospf
+
+abbrev pub named_by_bgp : BgpProcess → List NamedThing
+named_by_bgp p = named_by_neighbors p.neighbors ++ named_by_sources p.redistributions
+
+-- what the processes of a file name
+abbrev pub named_by_processes : RouterText → List NamedThing
+named_by_processes r = option_map_or named_by_process r.ospf [] ++ option_map_or named_by_bgp r.bgp []
+
 -- what the lines of a file name
 abbrev pub named_by : RouterText → List NamedThing
-named_by r = named_by_maps r.route_maps ++ option_map_or named_by_process r.ospf []
+named_by r = named_by_maps r.route_maps ++ named_by_processes r
 
 abbrev pub is_standard : AccessListKind → Bool
 is_standard Standard = true

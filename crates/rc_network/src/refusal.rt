@@ -11,8 +11,8 @@ pub enum NetCause {
     File(FileCause),
     /// Its host name is that of an earlier file.
     TwiceNamed,
-    /// A line of it names what no line of it defines: a `match` line a standard access list, a prefix list or a community list, or
-    /// a `redistribute` line a route map.
+    /// A line of it names what no line of it defines: a `match` line a standard access list, a prefix list or a community list, a
+    /// `redistribute` line a route map, or a `neighbor` line a route map or a prefix list.
     Undefined,
     /// It has more than 1,048,576 bytes.
     FileTooLong,

@@ -1,12 +1,15 @@
 //! What the lines of a file name and none of its lines defines.
 ghost use Rattle.std.specs.Prelude.{◌≡◌, [], None, slice_get};
 ghost use Rattle.std.specs.List.{flat_map};
-ghost use Rattle.std.specs.Option.{option_map_or};
+ghost use Rattle.std.specs.Option.{option_copied, option_map_or};
 ghost use Rattle.rc_network.specs.Least.{lower, least_from};
-ghost use Rattle.rc_network.specs.Undefined.{defines, is_standard, named_by_entry, named_by_map, named_by_maps, named_by_process, named_by_redistribution, of_kind, undefined_line};
+ghost use Rattle.rc_network.specs.Undefined.{defines, is_standard, named_by_bgp, named_by_entry, named_by_map, named_by_maps, named_by_neighbor, named_by_neighbors, named_by_ospf, named_by_process, named_by_processes, named_by_redistribution, named_by_source, named_by_sources, named_once, of_kind, undefined_line};
 
 use rc_base::Name;
-use rc_config::{AccessListKind, MapEntry, Mention, Redistribution, RouteMap, RouterText};
+use rc_config::{
+    AccessListKind, BgpRedistribution, BgpRedistributions, ByNumber, MapEntry, Mention, Neighbor,
+    OspfRedistribution, Redistribution, RouteMap, RouterText,
+};
 
 /// What a line may name that has to be in its file.
 #[derive(Clone, Copy, PartialEq, Eq)]
@@ -171,11 +174,133 @@ fn least_of_process(file: &RouterText, known: Option<u64>) -> Option<u64>
     }
 }
 
+/// The same of what may be named once.
+fn least_of_mention(
+    file: &RouterText,
+    kind: NamedKind,
+    mention: Option<&Mention>,
+    known: Option<u64>,
+) -> Option<u64>
+    ensures { result ≡ least_from known file.now (named_once kind (option_copied mention.entry)) }
+{
+    match mention {
+        Some(mention) => {
+            if defines(file, kind, &mention.name) {
+                known
+            } else {
+                lower(known, mention.line)
+            }
+        }
+        None => known,
+    }
+}
+
+/// The same of the lines about a neighbour.
+fn least_of_neighbor(file: &RouterText, neighbor: &Neighbor, known: Option<u64>) -> Option<u64>
+    ensures { result ≡ least_from known file.now (named_by_neighbor neighbor.now) }
+{
+    let known = least_of_mention(file, NamedKind::RouteMap, neighbor.map_in.as_ref(), known);
+    let known = least_of_mention(file, NamedKind::RouteMap, neighbor.map_out.as_ref(), known);
+    let known = least_of_mention(
+        file,
+        NamedKind::PrefixList,
+        neighbor.list_in.as_ref(),
+        known,
+    );
+    least_of_mention(
+        file,
+        NamedKind::PrefixList,
+        neighbor.list_out.as_ref(),
+        known,
+    )
+}
+
+/// The same of the lines about all neighbours.
+fn least_of_neighbors(
+    file: &RouterText,
+    neighbors: &ByNumber<Neighbor>,
+    known: Option<u64>,
+) -> Option<u64>
+    ensures { result ≡ least_from known file.now (named_by_neighbors neighbors.now) }
+{
+    let mut least = known;
+    for neighbor in neighbors.iter() {
+        least = least_of_neighbor(file, neighbor, least);
+    }
+    least
+}
+
+/// The same of a line that redistributes into BGP, where there is one.
+fn least_of_source(
+    file: &RouterText,
+    line: Option<&BgpRedistribution>,
+    known: Option<u64>,
+) -> Option<u64>
+    ensures { result ≡ least_from known file.now (named_by_source (option_copied line.entry)) }
+{
+    match line {
+        Some(line) => {
+            least_of_mention(file, NamedKind::RouteMap, line.route_map.as_ref(), known)
+        }
+        None => known,
+    }
+}
+
+/// The same of the lines that redistribute OSPF into BGP.
+fn least_of_ospf(
+    file: &RouterText,
+    lines: &ByNumber<OspfRedistribution>,
+    known: Option<u64>,
+) -> Option<u64>
+    ensures { result ≡ least_from known file.now (named_by_ospf lines.now) }
+{
+    let mut least = known;
+    for line in lines.iter() {
+        let mention = line.redistribution.route_map.as_ref();
+        least = least_of_mention(file, NamedKind::RouteMap, mention, least);
+    }
+    least
+}
+
+/// The same of all lines that redistribute into BGP.
+fn least_of_sources(
+    file: &RouterText,
+    lines: &BgpRedistributions,
+    known: Option<u64>,
+) -> Option<u64>
+    ensures { result ≡ least_from known file.now (named_by_sources lines.now) }
+{
+    let known = least_of_source(file, lines.connected.as_ref(), known);
+    let known = least_of_source(file, lines.static_routes.as_ref(), known);
+    least_of_ospf(file, &lines.ospf, known)
+}
+
+/// The same of the lines of the BGP process of the file, where there is one.
+fn least_of_bgp(file: &RouterText, known: Option<u64>) -> Option<u64>
+    ensures { result ≡ least_from known file.now (option_map_or named_by_bgp file.now.bgp []) }
+{
+    match &file.bgp {
+        Some(process) => {
+            let known = least_of_neighbors(file, &process.neighbors, known);
+            least_of_sources(file, &process.redistributions, known)
+        }
+        None => known,
+    }
+}
+
+/// The same of the lines of a file's processes.
+fn least_of_processes(file: &RouterText, known: Option<u64>) -> Option<u64>
+    ensures { result ≡ least_from known file.now (named_by_processes file.now) }
+{
+    let known = least_of_process(file, known);
+    least_of_bgp(file, known)
+}
+
 /// The least line of a file that names what no line of it defines, or `None` exactly where none does. It takes no memory, and one
 /// look-up for each name.
 pub(crate) fn undefined_line(file: &RouterText) -> Option<u64>
     ensures { result ≡ undefined_line file.now }
 {
     let known = least_of_maps(file);
-    least_of_process(file, known)
+    least_of_processes(file, known)
 }

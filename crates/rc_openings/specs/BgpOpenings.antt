@@ -1,7 +1,7 @@
 -- The openings of a line under `router bgp`.
 use Rattle.std.specs.Prelude.{List, [], ◌∷◌, ◌++◌, codes}
 use Rattle.rc_openings.specs.declared.form.Form.TheVariants.{BgpRouterId, BgpNetwork, NeighborRemoteAs, NeighborUpdateSource, NeighborEbgpMultihop, NeighborNextHopSelf, NeighborShutdown, NeighborDefaultOriginate, NeighborActivate, NeighborSendCommunity, NeighborRouteMap, NeighborPrefixList, NeighborWeight, BgpRedistributeConnected, BgpRedistributeStatic, BgpRedistributeOspf}
-use Rattle.rc_openings.specs.Opening.{Row, form, later, refused, ignored}
+use Rattle.rc_openings.specs.Opening.{Row, form, refused, ignored}
 
 -- with these begin the forms
 unfoldable pub bgp_forms : List Row
@@ -11,17 +11,17 @@ bgp_forms =
     ∷ form (codes "neighbor * remote-as") NeighborRemoteAs
     ∷ form (codes "neighbor * update-source") NeighborUpdateSource
     ∷ form (codes "neighbor * ebgp-multihop") NeighborEbgpMultihop
-    ∷ later (codes "neighbor * next-hop-self") NeighborNextHopSelf
+    ∷ form (codes "neighbor * next-hop-self") NeighborNextHopSelf
     ∷ form (codes "neighbor * shutdown") NeighborShutdown
-    ∷ later (codes "neighbor * default-originate") NeighborDefaultOriginate
+    ∷ form (codes "neighbor * default-originate") NeighborDefaultOriginate
     ∷ form (codes "neighbor * activate") NeighborActivate
-    ∷ later (codes "neighbor * send-community") NeighborSendCommunity
-    ∷ later (codes "neighbor * route-map") NeighborRouteMap
-    ∷ later (codes "neighbor * prefix-list") NeighborPrefixList
-    ∷ later (codes "neighbor * weight") NeighborWeight
-    ∷ later (codes "redistribute connected") BgpRedistributeConnected
-    ∷ later (codes "redistribute static") BgpRedistributeStatic
-    ∷ later (codes "redistribute ospf") BgpRedistributeOspf
+    ∷ form (codes "neighbor * send-community") NeighborSendCommunity
+    ∷ form (codes "neighbor * route-map") NeighborRouteMap
+    ∷ form (codes "neighbor * prefix-list") NeighborPrefixList
+    ∷ form (codes "neighbor * weight") NeighborWeight
+    ∷ form (codes "redistribute connected") BgpRedistributeConnected
+    ∷ form (codes "redistribute static") BgpRedistributeStatic
+    ∷ form (codes "redistribute ospf") BgpRedistributeOspf
     ∷ []
 
 -- with these begin lines whose meaning is not modelled

@@ -4,7 +4,7 @@ use Rattle.rc_openings.specs.declared.block.Block.{Block}
 use Rattle.rc_openings.specs.declared.block.Block.TheVariants as block
 use Rattle.rc_openings.specs.declared.form.Form.TheVariants as form
 use Rattle.rc_openings.specs.declared.opening.Verdict.{Verdict}
-use Rattle.rc_openings.specs.declared.opening.Verdict.TheVariants.{Form, Later, Refused, Ignored}
+use Rattle.rc_openings.specs.declared.opening.Verdict.TheVariants.{Form, Refused, Ignored}
 use Rattle.rc_openings.specs.declared.reading.LineRefusal.TheVariants.{Unknown, Unsupported, OutOfPlace}
 use Rattle.rc_openings.specs.Block.{rows_of}
 use Rattle.rc_openings.specs.Opening.{decisive_row}
@@ -68,7 +68,7 @@ pub other_lines :
     × IsDecided block.Ospf (codes " passive-interface default") (Some (Form form.PassiveInterfaceDefault))
     × IsDecided block.Ospf (codes " redistribute rip") (Some Refused)
     × IsDecided block.Ospf (codes " redistribute static subnets") (Some (Form form.OspfRedistributeStatic))
-    × IsDecided block.Ospf (codes " redistribute bgp 65001") (Some (Later form.OspfRedistributeBgp))
+    × IsDecided block.Ospf (codes " redistribute bgp 65001") (Some (Form form.OspfRedistributeBgp))
     × IsDecided block.Ospf (codes " area 0.0.0.1 stub no-summary") (Some (Form form.StubArea))
     × IsDecided block.Ospf (codes " area stub") (Some Refused)
     × IsDecided block.Ospf (codes " default-information originate always") (Some (Form form.DefaultInformationOriginate))
@@ -78,7 +78,7 @@ pub other_lines :
     × IsDecided block.Ospf (codes " no auto-cost") (Some Ignored)
     × IsDecided block.Ospf (codes " auto-cost") None
     × IsDecided block.Bgp (codes " neighbor 10.0.0.1 activate") (Some (Form form.NeighborActivate))
-    × IsDecided block.Bgp (codes " neighbor 10.0.0.1 weight 5") (Some (Later form.NeighborWeight))
+    × IsDecided block.Bgp (codes " neighbor 10.0.0.1 weight 5") (Some (Form form.NeighborWeight))
     × IsDecided block.Bgp (codes " neighbor 10.0.0.1 version 4") (Some Ignored)
     × IsDecided block.Bgp (codes " neighbor 10.0.0.1") (Some Refused)
     × IsDecided block.Bgp (codes " no bgp default ipv4-unicast") (Some Refused)
@@ -90,7 +90,7 @@ pub other_lines :
 unfolding decisive_row access_list access_list_forms access_list_refused access_list_ignored route_map route_map_forms route_map_refused route_map_ignored ospf ospf_forms ospf_refused ospf_ignored bgp bgp_forms bgp_refused bgp_ignored words_of
 other_lines = (refl, refl, refl, refl, refl, refl, refl, refl, refl, refl, refl, refl, refl, refl, refl, refl, refl, refl, refl, refl, refl, refl, refl, refl, refl, refl, refl)
 
--- forms of every block count, also those that are not read yet; openings that only ever refuse do not
+-- forms of every block count; openings that only ever refuse do not
 pub unopened_lines :
     (unopened (words_of (codes "permit any")) ≡ OutOfPlace)
     × (unopened (words_of (codes "hostname")) ≡ OutOfPlace)
@@ -165,7 +165,7 @@ pub decisions :
     × (decided block.Global (words_of (codes "ip prefix-list X permit 10.0.0.0/8")) ≡ OfForm form.PrefixList (codes "X" ∷ codes "permit" ∷ codes "10.0.0.0/8" ∷ []))
     × (decided block.Global (words_of (codes "ip community-list standard X")) ≡ OfForm form.StandardCommunityList (codes "X" ∷ []))
     × (decided block.Global (words_of (codes "router bgp 1")) ≡ OfForm form.RouterBgp (codes "1" ∷ []))
-    × (decided block.Bgp (words_of (codes " redistribute static")) ≡ Decided.Refused Unsupported)
+    × (decided block.Bgp (words_of (codes " redistribute static")) ≡ OfForm form.BgpRedistributeStatic [])
 unfolding decided decisive_row global global_forms global_refused global_ignored interface interface_forms interface_refused interface_ignored access_list access_list_forms access_list_refused access_list_ignored route_map route_map_forms route_map_refused route_map_ignored ospf ospf_forms ospf_refused ospf_ignored bgp bgp_forms bgp_refused bgp_ignored words_of
 decisions = (refl, refl, refl, refl, refl, refl, refl, refl, refl, refl)
 

@@ -1,7 +1,7 @@
 -- The openings of a line under `router ospf`.
 use Rattle.std.specs.Prelude.{List, [], ◌∷◌, ◌++◌, codes}
 use Rattle.rc_openings.specs.declared.form.Form.TheVariants.{OspfRouterId, OspfNetwork, StubArea, PassiveInterface, NoPassiveInterface, PassiveInterfaceDefault, ReferenceBandwidth, OspfRedistributeConnected, OspfRedistributeStatic, OspfRedistributeBgp, DefaultInformationOriginate}
-use Rattle.rc_openings.specs.Opening.{Row, form, later, refused, ignored}
+use Rattle.rc_openings.specs.Opening.{Row, form, refused, ignored}
 
 -- with these begin the forms
 unfoldable pub ospf_forms : List Row
@@ -15,7 +15,7 @@ ospf_forms =
     ∷ form (codes "auto-cost reference-bandwidth") ReferenceBandwidth
     ∷ form (codes "redistribute connected") OspfRedistributeConnected
     ∷ form (codes "redistribute static") OspfRedistributeStatic
-    ∷ later (codes "redistribute bgp") OspfRedistributeBgp
+    ∷ form (codes "redistribute bgp") OspfRedistributeBgp
     ∷ form (codes "default-information originate") DefaultInformationOriginate
     ∷ []
 

@@ -88,7 +88,7 @@ static MORE_WORDS: [Opening; 10] = [
     },
     Opening {
         text: b"redistribute connected",
-        verdict: Verdict::Later(Form::BgpRedistributeConnected),
+        verdict: Verdict::Form(Form::BgpRedistributeConnected),
     },
     Opening {
         text: b"bgp deterministic-med",
@@ -108,7 +108,7 @@ static MORE_WORDS: [Opening; 10] = [
     },
     Opening {
         text: b"redistribute ospf",
-        verdict: Verdict::Later(Form::BgpRedistributeOspf),
+        verdict: Verdict::Form(Form::BgpRedistributeOspf),
     },
     Opening {
         text: b"bgp router-id",
@@ -116,7 +116,7 @@ static MORE_WORDS: [Opening; 10] = [
     },
     Opening {
         text: b"redistribute static",
-        verdict: Verdict::Later(Form::BgpRedistributeStatic),
+        verdict: Verdict::Form(Form::BgpRedistributeStatic),
     },
 ];
 
@@ -140,7 +140,7 @@ static STARRED: [Opening; 18] = [
     },
     Opening {
         text: b"neighbor * next-hop-self",
-        verdict: Verdict::Later(Form::NeighborNextHopSelf),
+        verdict: Verdict::Form(Form::NeighborNextHopSelf),
     },
     Opening {
         text: b"neighbor * shutdown",
@@ -148,7 +148,7 @@ static STARRED: [Opening; 18] = [
     },
     Opening {
         text: b"neighbor * default-originate",
-        verdict: Verdict::Later(Form::NeighborDefaultOriginate),
+        verdict: Verdict::Form(Form::NeighborDefaultOriginate),
     },
     Opening {
         text: b"neighbor * activate",
@@ -156,19 +156,19 @@ static STARRED: [Opening; 18] = [
     },
     Opening {
         text: b"neighbor * send-community",
-        verdict: Verdict::Later(Form::NeighborSendCommunity),
+        verdict: Verdict::Form(Form::NeighborSendCommunity),
     },
     Opening {
         text: b"neighbor * route-map",
-        verdict: Verdict::Later(Form::NeighborRouteMap),
+        verdict: Verdict::Form(Form::NeighborRouteMap),
     },
     Opening {
         text: b"neighbor * prefix-list",
-        verdict: Verdict::Later(Form::NeighborPrefixList),
+        verdict: Verdict::Form(Form::NeighborPrefixList),
     },
     Opening {
         text: b"neighbor * weight",
-        verdict: Verdict::Later(Form::NeighborWeight),
+        verdict: Verdict::Form(Form::NeighborWeight),
     },
     Opening {
         text: b"neighbor * description",

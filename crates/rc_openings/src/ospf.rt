@@ -100,7 +100,7 @@ static ONE_WORD_STARTS: [u8; 59] = [
 static MORE_WORDS: [Opening; 7] = [
     Opening {
         text: b"redistribute bgp",
-        verdict: Verdict::Later(Form::OspfRedistributeBgp),
+        verdict: Verdict::Form(Form::OspfRedistributeBgp),
     },
     Opening {
         text: b"redistribute connected",

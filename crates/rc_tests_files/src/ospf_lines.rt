@@ -87,7 +87,6 @@ fn forms_of_a_process_that_are_not_modelled(rt: HostRuntime) {
         (b"area 1 range 10.0.0.0 255.0.0.0", UNSUPPORTED),
         (b"redistribute connected", UNSUPPORTED),
         (b"redistribute static subnets", UNSUPPORTED),
-        (b"redistribute bgp 65000", UNSUPPORTED),
         (b"redistribute rip", UNSUPPORTED),
         (b"default-information originate", UNSUPPORTED),
         (b"default-information", UNSUPPORTED),
