@@ -9,6 +9,7 @@ mod outcome;
 mod progress;
 mod round;
 mod rounds;
+mod shares;
 
 pub use outcome::Outcome;
 pub use rounds::{one_outcome, run_rounds};

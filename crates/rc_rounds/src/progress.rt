@@ -16,6 +16,7 @@ use rc_outside::Gate;
 use rc_rib::Inputs;
 use rc_route::{State, equal};
 use std::alloc::{AllocError, Global};
+use std::thread::Threads;
 
 /// How far the rounds are.
 ///
@@ -123,8 +124,9 @@ impl Progress {
     }
 
     /// The state after the next round, whose number is the phase of its workers at the gate.
-    pub fn next<G: Gate>(
+    pub fn next<R: Threads + Sync, G: Gate>(
         &self,
+        rt: &R,
         alloc: Global,
         net: &Network,
         internal: &Internal,
@@ -140,6 +142,7 @@ impl Progress {
         ensures in_order { IfOk result (IsStateOf (length net.now.routers)) }
     {
         next_state(
+            rt,
             alloc,
             &self.inputs(net, internal),
             workers,

@@ -35,7 +35,7 @@ pub fn run_rounds<R: Threads + Sync + AllocGlobal, G: Gate>(
     ensures in_order { IfOk result (IsInOrder (length net.now.routers)) }
 {
     let internal = internal_of(rt.alloc(), net)?;
-    rounds_within(rt.alloc(), net, &internal, limit, workers, gate)
+    rounds_within(rt, rt.alloc(), net, &internal, limit, workers, gate)
 }
 
 /// The OSPF routes of each router.
@@ -48,7 +48,8 @@ fn internal_of(alloc: Global, net: &Network) -> Result<Internal, AllocError>
 }
 
 /// How the rounds of a network end beside these OSPF routes, where at most so many are made.
-fn rounds_within<G: Gate>(
+fn rounds_within<R: Threads + Sync, G: Gate>(
+    rt: &R,
     alloc: Global,
     net: &Network,
     internal: &Internal,
@@ -65,7 +66,7 @@ fn rounds_within<G: Gate>(
 {
     let mut progress = Progress::start(alloc, net)?;
     for done in 0..limit {
-        let next = progress.next(alloc, net, internal, workers, gate)?;
+        let next = progress.next(rt, alloc, net, internal, workers, gate)?;
         let same = progress.same(&next);
         match same {
             Same::Last => return Ok(Outcome::Fixed(done + 1, next)),
