@@ -12,33 +12,28 @@ use Rattle.rc_route.specs.declared.state.RouterState.{RouterState}
 use Rattle.rc_rib.specs.Next.{next_router, next_state}
 use Rattle.rc_route.specs.Tables.{IsRouterState, IsStateOf}
 use Rattle.rc_rounds.specs.Rounds.{empty_state}
-use Rattle.rc_rounds.specs.Shares.{rows, share_start}
+use Rattle.rc_rounds.specs.Shares.{rows, share_start, IsShare, IsStretch}
 
-pub rows-none : (net : Network) (internal : Internal) (old : List RouterState) (a n : ℕ) → n ≡ 0 → rows net internal old a n ≡ []
+pub rows-none : (known : ℕ → RouterState) (a n : ℕ) → n ≡ 0 → rows known a n ≡ []
 unfolding rows
-rows-none net internal old a n e = rw e refl
+rows-none known a n e = rw e refl
 
-pub rows-more : (net : Network) (internal : Internal) (old : List RouterState) (a n j : ℕ) → a + n ≡ j → rows net internal old a (n + 1) ≡ rows net internal old a n ++ next_router net internal old j ∷ []
+pub rows-more : (known : ℕ → RouterState) (a n j : ℕ) → a + n ≡ j → rows known a (n + 1) ≡ rows known a n ++ known j ∷ []
 unfolding rows
-rows-more net internal old a n j e = map-range_with_len_more (next_router net internal old) a n j e
+rows-more known a n j e = map-range_with_len_more known a n j e
 
 -- two neighbouring stretches
-rows-append : (net : Network) (internal : Internal) (old : List RouterState) (a m n : ℕ) → rows net internal old a m ++ rows net internal old (a + m) n ≡ rows net internal old a (m + n)
+rows-append : (known : ℕ → RouterState) (a m n : ℕ) → rows known a m ++ rows known (a + m) n ≡ rows known a (m + n)
 unfolding rows
-rows-append net internal old a zero n = let e : a + 0 ≡ a = omega arith in let f : 0 + n ≡ n = omega arith in rw (e, f) refl
-rows-append net internal old a (suc m) n =
+rows-append known a zero n = let e : a + 0 ≡ a = omega arith in let f : 0 + n ≡ n = omega arith in rw (e, f) refl
+rows-append known a (suc m) n =
     let e : a + suc m ≡ a + 1 + m = omega arith in let f : suc m + n ≡ suc (m + n) = omega arith in
-    rw (e, f) (ap (λ l. next_router net internal old a ∷ l) (rows-append net internal old (a + 1) m n))
+    rw (e, f) (ap (λ l. known a ∷ l) (rows-append known (a + 1) m n))
 
-pub rows-extend : (net : Network) (internal : Internal) (old : List RouterState) (b e : ℕ) → b ≤ e → rows net internal old 0 b ++ rows net internal old b (e - b) ≡ rows net internal old 0 e
-rows-extend net internal old b e le =
-    let z : 0 + b ≡ b = omega arith in let f : b + (e - b) ≡ e = omega arith in
-    ap (λ k. rows net internal old 0 b ++ rows net internal old k (e - b)) (sym z) ∙ rows-append net internal old 0 b (e - b) ∙ ap (λ k. rows net internal old 0 k) f
-
--- all rows are the next state
-pub rows-all : (net : Network) (internal : Internal) (old : List RouterState) → rows net internal old 0 (length net.routers) ≡ next_state net internal old
-unfolding rows
-rows-all net internal old = refl
+rows-join : (known : ℕ → RouterState) (a b e : ℕ) → a ≤ b → b ≤ e → rows known a (b - a) ++ rows known b (e - b) ≡ rows known a (e - a)
+rows-join known a b e low high =
+    let f : a + (b - a) ≡ b = omega arith in let g : b - a + (e - b) ≡ e - a = omega arith in
+    ap (λ k. rows known a (b - a) ++ rows known k (e - b)) (sym f) ∙ rows-append known a (b - a) (e - b) ∙ ap (λ k. rows known a k) g
 
 pub share_start-up : (n w a b : ℕ) → 0 < w → a ≤ b → share_start n w a ≤ share_start n w b
 share_start-up n w a b pos le =
@@ -87,3 +82,29 @@ next-as_long net internal old = length-map-range_with_len (next_router net inter
 
 pub one-more : (state : List RouterState) (s : RouterState) → All IsRouterState state → IsRouterState s → All IsRouterState (state ++ s ∷ [])
 one-more state s all last = All-append IsRouterState state (s ∷ []) all (λ k d less. let first : k ≡ 0 = omega (arith, less) in rw first last)
+
+-- ---- the shares of workers
+
+-- those of two neighbouring stretches of workers, one behind the other
+pub put_together : (known : ℕ → RouterState) (n workers first middle last : ℕ) (left right all : List RouterState) → 0 < workers → first ≤ middle → middle ≤ last →
+    IsShare known n workers first middle left → IsShare known n workers middle last right → all ≡ left ++ right → IsShare known n workers first last all
+put_together known n workers first middle last left right all some low high l r e = record {
+  value = e ∙ (λ i. l.value i ++ r.value i)
+      ∙ rows-join known (share_start n workers first) (share_start n workers middle) (share_start n workers last)
+      (share_start-up n workers first middle some low) (share_start-up n workers middle last some high);
+  in_order = rw e (All-append IsRouterState left right l.in_order r.in_order);
+}
+
+-- that of all workers
+pub whole : (known : ℕ → RouterState) (n workers : ℕ) (s : List RouterState) → 0 < workers → IsShare known n workers 0 workers s → IsStretch known 0 n s
+whole known n workers s some share = record {
+  value = share.value ∙ (λ i. rows known (share_start-first n workers some i) (share_start-end n workers some i - share_start-first n workers some i));
+  in_order = share.in_order;
+}
+
+-- all rows are the next state
+pub all_rows : (net : Network) (internal : Internal) (old s : List RouterState) → IsStretch (next_router net internal old) 0 (length net.routers) s → s ≡ next_state net internal old
+unfolding rows
+all_rows net internal old s all =
+    let e : length net.routers - 0 ≡ length net.routers = omega arith in
+    all.value ∙ ap (rows (next_router net internal old) 0) e

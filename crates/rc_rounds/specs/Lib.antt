@@ -1,4 +1,6 @@
 pub mod Rounds
+pub mod Setting
 pub mod Shares
+pub mod Parts
 pub mod Progress
 pub mod Rows

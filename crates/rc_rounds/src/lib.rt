@@ -1,14 +1,17 @@
 //! Rounds of tables, until they change no more, come again, or reach a limit.
 //!
-//! It stands on the next table of one router (rc_rib), on the routes that OSPF gives without a state (rc_ospf), which are made
-//! once before the first round, and on the gate of rc_outside. The layer above knows the outcome as a relation on the states
+//! It stands on the next table of one router (rc_rib), on what OSPF gives without a state (rc_ospf) and the sessions of BGP (rc_bgp),
+//! which are made once before the first round, on what AS boundary routers send (rc_external), made once in each round, and on the
+//! gate of rc_outside. The layer above knows the outcome as a relation on the states
 //! after all rounds, of which there is one, whatever the number of workers.
 #![tactic(auto)]
 
 mod outcome;
+mod parts;
 mod progress;
 mod round;
 mod rounds;
+mod shares;
 
 pub use outcome::Outcome;
 pub use rounds::{one_outcome, run_rounds};

@@ -1,21 +1,24 @@
 //! What the rounds keep from one to the next.
 ghost use Rattle.std.specs.Prelude.{◌≡◌, ◌+◌, ◌≤◌, ◌<◌, ◌⊎◌, IfOk, IfSome, length, if◌then◌else◌};
-ghost use Rattle.rc_config.specs.Lawful.{IsLawful};
 ghost use Rattle.rc_config.specs.declared.network.Network.{Network as NetworkModel};
 ghost use Rattle.rc_rib.specs.Next as rib;
 ghost use Rattle.rc_ospf.specs.declared.model.Internal.{Internal as InternalModel};
 ghost use Rattle.rc_route.specs.Tables.{IsStateOf};
 ghost use Rattle.rc_rounds.specs.Progress.{IsProgress, IsPowerBelow, IsSame, checkpoint_state};
 ghost use Rattle.rc_rounds.specs.Rounds.{GoesOn};
+ghost use Rattle.rc_rounds.specs.Setting.{IsSetting};
 
+use crate::parts::Setting;
 use crate::round::{empty_state, next_state};
 use rc_base::Items;
+use rc_bgp::Sessions;
 use rc_config::Network;
+use rc_external::externals;
 use rc_ospf::Internal;
 use rc_outside::Gate;
-use rc_rib::Inputs;
 use rc_route::{State, equal};
 use std::alloc::{AllocError, Global};
+use std::thread::Threads;
 
 /// How far the rounds are.
 ///
@@ -123,15 +126,17 @@ impl Progress {
     }
 
     /// The state after the next round, whose number is the phase of its workers at the gate.
-    pub fn next<G: Gate>(
+    pub fn next<R: Threads + Sync, G: Gate>(
         &self,
+        rt: &R,
         alloc: Global,
         net: &Network,
         internal: &Internal,
+        sessions: &Sessions,
         workers: u32,
         gate: &G,
     ) -> Result<State, AllocError>
-        requires lawful { IsLawful net.now }
+        requires setting { IsSetting net.now internal.now sessions.now }
         requires made { IsProgress net.now internal.now self.now }
         requires few { self.now.done < 100000 }
         requires some_workers { 1 ≤ workers }
@@ -139,33 +144,24 @@ impl Progress {
         ensures value { IfOk result (λ s. s ≡ rib.next_state net.now internal.now self.now.last) }
         ensures in_order { IfOk result (IsStateOf (length net.now.routers)) }
     {
+        let externals = externals(alloc, net, &self.last)?;
+        let setting = Setting {
+            network: net,
+            internal,
+            sessions,
+            externals: &externals,
+            has_earlier: self.done > 0,
+        };
         next_state(
+            rt,
             alloc,
-            &self.inputs(net, internal),
+            &setting,
+            &self.last,
+            &self.before,
             workers,
             self.done + 1,
             gate,
         )
-    }
-
-    /// What the next round reads.
-    fn inputs<'a>(&'a self, net: &'a Network, internal: &'a Internal) -> Inputs<'a>
-        requires { IsProgress net.now internal.now self.now }
-        ensures network { result.network.now ≡ net.now }
-        ensures internal { result.internal.now ≡ internal.now }
-        ensures previous { result.previous.now ≡ self.now.last }
-        ensures earlier { IfSome result.earlier (λ old. self.now.last ≡ rib.next_state net.now internal.now old.now) }
-    {
-        Inputs {
-            network: net,
-            internal,
-            previous: &self.last,
-            earlier: if self.done == 0 {
-                None
-            } else {
-                Some(&self.before)
-            },
-        }
     }
 
     /// One round further.

@@ -1,12 +1,15 @@
 //! Rounds until a state comes again.
-ghost use Rattle.std.specs.Prelude.{◌≡◌, ◌≤◌, IfOk, length};
+ghost use Rattle.std.specs.Prelude.{◌≡◌, ◌≤◌, All, IfOk, length};
 ghost use Rattle.rc_config.specs.Lawful.{IsLawful};
 ghost use Rattle.rc_ospf.specs.Internal.{IsInternal};
+ghost use Rattle.rc_route.specs.Tables.{IsTable};
 ghost use Rattle.rc_topology.specs.Ports.{links_of};
 ghost use Rattle.rc_rounds.specs.Rounds.{EndsAs, IsInOrder, IsOutcome, HasOneOutcome};
+ghost use Rattle.rc_rounds.specs.Setting.{IsSetting};
 
 use crate::Outcome;
 use crate::progress::{Progress, Same};
+use rc_bgp::{Sessions, sessions};
 use rc_config::Network;
 use rc_ospf::{Internal, internal};
 use rc_outside::Gate;
@@ -16,8 +19,8 @@ use std::thread::Threads;
 
 /// How the rounds of a network end, of which at most so many are made.
 ///
-/// What OSPF gives by the configurations alone is made once, before the first round. `limit`
-/// is from 1 to 100,000 and `workers` from 1 to 64. Each worker passes the gate in each round, whose number is the phase. At a
+/// What OSPF gives by the configurations alone, and the sessions of BGP, are made once, before the first round; what AS boundary
+/// routers send is made once in each round. `limit` is from 1 to 100,000 and `workers` from 1 to 64. Each worker passes the gate in each round, whose number is the phase. At a
 /// fixed point each router's table is in order. It errs only where memory runs out.
 pub fn run_rounds<R: Threads + Sync + AllocGlobal, G: Gate>(
     rt: &R,
@@ -35,7 +38,17 @@ pub fn run_rounds<R: Threads + Sync + AllocGlobal, G: Gate>(
     ensures in_order { IfOk result (IsInOrder (length net.now.routers)) }
 {
     let internal = internal_of(rt.alloc(), net)?;
-    rounds_within(rt.alloc(), net, &internal, limit, workers, gate)
+    let sessions = sessions(rt.alloc(), net, &internal.links)?;
+    rounds_within(
+        rt,
+        rt.alloc(),
+        net,
+        &internal,
+        &sessions,
+        limit,
+        workers,
+        gate,
+    )
 }
 
 /// What OSPF gives without a state.
@@ -43,21 +56,24 @@ fn internal_of(alloc: Global, net: &Network) -> Result<Internal, AllocError>
     requires { IsLawful net.now }
     ensures links { IfOk result (λ i. i.links ≡ links_of net.now) }
     ensures internal { IfOk result (IsInternal net.now) }
+    ensures in_order { IfOk result (λ i. All IsTable i.routes) }
 {
     let links = Links::of(alloc, net)?;
     internal(alloc, net, links)
 }
 
-/// How the rounds of a network end beside these OSPF routes, where at most so many are made.
-fn rounds_within<G: Gate>(
+/// How the rounds of a network end beside what no round changes, where at most so many are made.
+fn rounds_within<R: Threads + Sync, G: Gate>(
+    rt: &R,
     alloc: Global,
     net: &Network,
     internal: &Internal,
+    sessions: &Sessions,
     limit: u32,
     workers: u32,
     gate: &G,
 ) -> Result<Outcome, AllocError>
-    requires lawful { IsLawful net.now }
+    requires setting { IsSetting net.now internal.now sessions.now }
     requires few_rounds { limit ≤ 100000 }
     requires some_workers { 1 ≤ workers }
     requires few_workers { workers ≤ 64 }
@@ -66,7 +82,7 @@ fn rounds_within<G: Gate>(
 {
     let mut progress = Progress::start(alloc, net)?;
     for done in 0..limit {
-        let next = progress.next(alloc, net, internal, workers, gate)?;
+        let next = progress.next(rt, alloc, net, internal, sessions, workers, gate)?;
         let same = progress.same(&next);
         match same {
             Same::Last => return Ok(Outcome::Fixed(done + 1, next)),

@@ -1,15 +1,12 @@
-use Rattle.std.proofs.Common.{◌≡◌, ◌∙◌, subst, length, IfOk}
-use Rattle.std.proofs.lemmas.Result.{IfOk-weaker}
-use Rattle.rc_config.specs.declared.network.Network.{Network}
-use Rattle.rc_route.specs.Tables.{IsStateOf}
-use Rattle.rc_rib.specs.Next.{next_state}
+use Rattle.std.proofs.lemmas.Bool.{ltb-true}
+use Rattle.rc_rounds.proofs.ProgressLaws.{last_is_next}
 use Rattle.rc_rounds.proofs.progress.Progress.next.Goals as goal
 
-pub returns-clause-value : goal.returns-clause-value
-returns-clause-value g c =
-    let read : next_state c.inputs.result.network.now c.inputs.result.internal.now c.inputs.result.previous.now ≡ next_state c.args.net.now c.args.internal.now c.args.self.now.last =
-    λ i. next_state (c.inputs.ensures.network i) (c.inputs.ensures.internal i) (c.inputs.ensures.previous i) in
-    IfOk-weaker _ _ (λ s. s ≡ next_state c.args.net.now c.args.internal.now c.args.self.now.last) (λ s made. made ∙ read) c.next_state.ensures.value
-
-pub returns-clause-in_order : goal.returns-clause-in_order
-returns-clause-in_order g c = subst (λ (n : Network). IfOk c.next_state.result (IsStateOf (length n.routers))) c.inputs.ensures.network c.next_state.ensures.in_order
+pub next_state-requires-clause-read : goal.next_state-requires-clause-read
+next_state-requires-clause-read g c κs within = record {
+  setting = c.requires.setting;
+  state = c.requires.made.in_order;
+  externals = c.in_ok-externals.ensures.value;
+  by_prefix = c.in_ok-externals.ensures.in_order;
+  earlier = λ has. last_is_next c.args.net.now c.args.internal.now c.args.self.now c.requires.made (ltb-true 0 c.args.self.now.done has);
+}

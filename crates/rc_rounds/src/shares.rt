@@ -1,0 +1,252 @@
+//! The work of a round, shared among workers.
+//!
+//! Routers are shared by halves: the workers of one half of the shares and those of the other work side by side, until a share stands
+//! alone. All of them read the state before, which nobody changes, and each makes a list of its own, so nothing has to be
+//! locked; the lists are put together in the order of the routers. Where a half has one router or none, no thread is started for it:
+//! its workers pass the gate one after another, and the router is made.
+ghost use Rattle.std.specs.Prelude.{◌≡◌, ◌++◌, ◌≤◌, ◌<◌, IfOk, IfSome, length, map, true};
+ghost use Rattle.std.specs.List.{range_with_len};
+ghost use Rattle.std.specs.Thread.{IsSync};
+ghost use Rattle.rc_rib.specs.Inputs.{AreInputs};
+ghost use Rattle.rc_rib.specs.Next.{next_router};
+ghost use Rattle.rc_rounds.specs.Parts.{IsReady};
+ghost use Rattle.rc_rounds.specs.Shares.{IsShare, IsStretch, share_start};
+
+use crate::parts::Setting;
+use rc_base::RouterId;
+use rc_outside::Gate;
+use rc_rib::{Inputs, table};
+use rc_route::{RouterState, State};
+use std::alloc::{AllocError, Global};
+use std::thread::{Threads, join};
+
+/// That workers have passed the gate: a share is worked by who can show this.
+#[derive(Drop)]
+pub(crate) struct Passed;
+
+/// The workers from one up to another pass the gate.
+fn pass_all<G: Gate>(gate: &G, phase: u32, first: u32, last: u32) -> Passed {
+    for worker in first..last {
+        gate.pass(phase, worker);
+    }
+    Passed
+}
+
+/// What the routers from one index up to another know after a round in which all read these inputs.
+fn share_of(
+    alloc: Global,
+    inputs: &Inputs<'_>,
+    from: usize,
+    to: usize,
+) -> Result<Vec<RouterState>, AllocError>
+    requires read { AreInputs inputs.now }
+    requires up { from ≤ to }
+    requires end { to ≤ length inputs.now.network.now.routers }
+    ensures { IfOk result (λ s. IsStretch (next_router inputs.now.network.now inputs.now.internal.now inputs.now.previous.now) from to s.items) }
+{
+    let mut state = Vec::new(alloc);
+    for index in from..to {
+        state.push(table(alloc, inputs, RouterId::at(index))?)?;
+    }
+    Ok(state)
+}
+
+/// A state, where there was a round earlier yet.
+fn earlier_of(has_earlier: bool, earlier: &State) -> Option<&State>
+    ensures { IfSome result (λ old. (has_earlier ≡ true) × (old.now ≡ earlier.now)) }
+{
+    if has_earlier { Some(earlier) } else { None }
+}
+
+/// What makes anew what each router knows, from what all workers read: this, what a round reads, and what was read a round earlier.
+/// These are parts, so that each by itself is shown to be shared by workers.
+pub(crate) trait Makes<B>: Sync {
+    ghost use Rattle.std.specs.Prelude.{ℕ};
+    ghost use Rattle.rc_route.specs.declared.state.RouterState.{RouterState as Known};
+
+    /// How many routers there are.
+    ghost count: { Self → ℕ };
+
+    /// What is read is as it has to be.
+    ghost ready: { Self → B → B → Type 0 };
+
+    /// What a router knows then, by its index.
+    ghost known: { Self → B → ℕ → Known };
+
+    /// How many routers there are.
+    fn routers(&self) -> usize
+        ensures { result ≡ count self.now };
+
+    /// What the routers from one index up to another know then.
+    fn share(
+        &self,
+        read: &B,
+        earlier: &B,
+        passed: Passed,
+        alloc: Global,
+        from: usize,
+        to: usize,
+    ) -> Result<Vec<RouterState>, AllocError>
+        requires ready { ready self.now read.now earlier.now }
+        requires up { from ≤ to }
+        requires end { to ≤ count self.now }
+        ensures { IfOk result (λ s. IsStretch (known self.now read.now) from to s.items) };
+}
+
+impl<'a> Makes<State> for Setting<'a> {
+    ghost use Rattle.std.specs.Prelude.{length};
+    ghost use Rattle.rc_rib.specs.Next.{next_router};
+    ghost use Rattle.rc_rounds.specs.Parts.{IsReady};
+
+    ghost count = { λ s. length s.network.now.routers };
+
+    ghost ready = { IsReady };
+
+    ghost known = { λ s b. next_router s.network.now s.internal.now b };
+
+    fn routers(&self) -> usize
+        ensures { result ≡ length self.now.network.now.routers }
+    {
+        self.network.routers.len()
+    }
+
+    fn share(
+        &self,
+        read: &State,
+        earlier: &State,
+        _passed: Passed,
+        alloc: Global,
+        from: usize,
+        to: usize,
+    ) -> Result<Vec<RouterState>, AllocError>
+        requires ready { IsReady self.now read.now earlier.now }
+        requires up { from ≤ to }
+        requires end { to ≤ length self.now.network.now.routers }
+        ensures { IfOk result (λ s. IsStretch (next_router self.now.network.now self.now.internal.now read.now) from to s.items) }
+    {
+        let inputs = Inputs {
+            network: self.network,
+            internal: self.internal,
+            sessions: self.sessions,
+            externals: self.externals,
+            previous: read,
+            earlier: earlier_of(self.has_earlier, earlier),
+        };
+        share_of(alloc, &inputs, from, to)
+    }
+}
+
+/// Where the share of a worker begins: the index of its first router.
+fn share_start(routers: usize, workers: u32, worker: u32) -> usize
+    requires few_routers { routers ≤ 512 }
+    requires some_workers { 0 < workers }
+    requires few_workers { worker ≤ 64 }
+    ensures { result ≡ share_start routers workers worker }
+{
+    routers * worker as usize / workers as usize
+}
+
+/// Two parts of a state, one behind the other.
+fn appended(
+    mut left: Vec<RouterState>,
+    mut right: Vec<RouterState>,
+) -> Result<Vec<RouterState>, AllocError>
+    ensures { IfOk result (λ all. all.items ≡ left.items ++ right.items) }
+{
+    left.append(&mut right)?;
+    Ok(left)
+}
+
+/// What the routers of the workers from `first` up to `last` know then. Each of the workers passes the gate before its work.
+fn work<R: Threads + Sync, W: Makes<B>, B: Sync, G: Gate>(
+    rt: &R,
+    alloc: Global,
+    round: &W,
+    read: &B,
+    earlier: &B,
+    workers: u32,
+    first: u32,
+    last: u32,
+    phase: u32,
+    gate: &G,
+) -> Result<Vec<RouterState>, AllocError>
+    requires ready { W.ready round.now read.now earlier.now }
+    requires few { W.count round.now ≤ 512 }
+    requires some { first < last }
+    requires end { last ≤ workers }
+    requires few_workers { workers ≤ 64 }
+    ensures { IfOk result (λ s. IsShare (W.known round.now read.now) (W.count round.now) workers first last s.items) }
+{
+    let routers = round.routers();
+    let from = share_start(routers, workers, first);
+    let to = share_start(routers, workers, last);
+    if last - first == 1 || to - from <= 1 {
+        let passed = pass_all(gate, phase, first, last);
+        return round.share(read, earlier, passed, alloc, from, to);
+    }
+    let middle = first + (last - first) / 2;
+    let (left, right) = join(
+        rt,
+        || -> Result<Vec<RouterState>, AllocError>
+            requires { IsSync R.row × IsSync W.row × IsSync B.row × W.ready round.now read.now earlier.now × (W.count round.now ≤ 512) × (workers ≤ 64) × (first < middle) × (middle ≤ workers) }
+            ensures { IfOk result (λ s. IsShare (W.known round.entry.now read.entry.now) (W.count round.entry.now) workers first middle s.items) }
+        {
+            work(
+                rt, alloc, round, read, earlier, workers, first, middle, phase, gate,
+            )
+        },
+        || -> Result<Vec<RouterState>, AllocError>
+            requires { IsSync R.row × IsSync W.row × IsSync B.row × W.ready round.now read.now earlier.now × (W.count round.now ≤ 512) × (workers ≤ 64) × (middle < last) × (last ≤ workers) }
+            ensures { IfOk result (λ s. IsShare (W.known round.entry.now read.entry.now) (W.count round.entry.now) workers middle last s.items) }
+        {
+            work(
+                rt, alloc, round, read, earlier, workers, middle, last, phase, gate,
+            )
+        },
+    );
+    let left = left?;
+    let right = right?;
+    appended(left, right)
+}
+
+/// What all routers know then.
+pub(crate) fn all_shares<R: Threads + Sync, W: Makes<B>, B: Sync, G: Gate>(
+    rt: &R,
+    alloc: Global,
+    round: &W,
+    read: &B,
+    earlier: &B,
+    workers: u32,
+    phase: u32,
+    gate: &G,
+) -> Result<Vec<RouterState>, AllocError>
+    requires ready { W.ready round.now read.now earlier.now }
+    requires few { W.count round.now ≤ 512 }
+    requires some_workers { 1 ≤ workers }
+    requires few_workers { workers ≤ 64 }
+    ensures { IfOk result (λ s. IsStretch (W.known round.now read.now) 0 (W.count round.now) s.items) }
+{
+    work(
+        rt, alloc, round, read, earlier, workers, 0, workers, phase, gate,
+    )
+}
+
+/// What all routers know after a round in which all read these states.
+pub(crate) fn next_shares<R: Threads + Sync, G: Gate>(
+    rt: &R,
+    alloc: Global,
+    setting: &Setting<'_>,
+    read: &State,
+    earlier: &State,
+    workers: u32,
+    phase: u32,
+    gate: &G,
+) -> Result<Vec<RouterState>, AllocError>
+    requires ready { IsReady setting.now read.now earlier.now }
+    requires few { length setting.now.network.now.routers ≤ 512 }
+    requires some_workers { 1 ≤ workers }
+    requires few_workers { workers ≤ 64 }
+    ensures { IfOk result (λ s. IsStretch (next_router setting.now.network.now setting.now.internal.now read.now) 0 (length setting.now.network.now.routers) s.items) }
+{
+    all_shares(rt, alloc, setting, read, earlier, workers, phase, gate)
+}
