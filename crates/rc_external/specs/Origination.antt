@@ -1,11 +1,13 @@
--- What an AS boundary router sends of the routes of its previous table (RFC 2328 s.12.4.4).
-use Rattle.std.specs.Prelude.{ℕ, ◌==◌, Bool, true, false, not, ◌&&◌, ◌||◌, nat_lt, List, [], ◌∷◌, ◌++◌, Option, Some, None, if◌then◌else◌, option_and_then, option_map, unwrap_or, slice_get}
+-- What an AS boundary router sends of its previous table (RFC 2328 s.12.4.4).
+use Rattle.std.specs.Prelude.{ℕ, ◌==◌, Bool, true, false, not, ◌&&◌, ◌||◌, List, [], ◌++◌, Option, Some, None, if◌then◌else◌, option_and_then, option_map, unwrap_or, slice_get}
 use Rattle.std.specs.List.{filter_map, find, flat_map}
 use Rattle.std.specs.Option.{option_map_or, option_to_list}
 use Rattle.rc_base.specs.Prefix.{Cidr, same_prefix}
 use Rattle.rc_base.specs.declared.origin.Origin.TheVariants.{Incomplete}
+use Rattle.rc_config.specs.Classes.{natural_length}
 use Rattle.rc_config.specs.Members.{router_at, router_ids}
 use Rattle.rc_config.specs.Named.{named}
+use Rattle.rc_config.specs.declared.bgp.BgpProcess.{BgpProcess}
 use Rattle.rc_config.specs.declared.network.Network.{Network}
 use Rattle.rc_config.specs.declared.ospf.DefaultInformation.{DefaultInformation}
 use Rattle.rc_config.specs.declared.ospf.OspfProcess.{OspfProcess}
@@ -15,9 +17,11 @@ use Rattle.rc_config.specs.declared.ospf.Redistribution.{Redistribution}
 use Rattle.rc_config.specs.declared.route_map.Mention.{Mention}
 use Rattle.rc_config.specs.declared.route_map.RouteMap.{RouteMap}
 use Rattle.rc_config.specs.declared.router_text.RouterText.{RouterText}
+use Rattle.rc_config.specs.declared.sets.MetricType.{MetricType}
 use Rattle.rc_config.specs.declared.sets.MetricType.TheVariants.{Type2}
 use Rattle.rc_policy.specs.Policy.{route_map}
 use Rattle.rc_policy.specs.declared.attrs.Attrs.{Attrs}
+use Rattle.rc_route.specs.declared.path.BgpPath.{BgpPath}
 use Rattle.rc_route.specs.declared.route.Route.{Route}
 use Rattle.rc_route.specs.declared.route.Source.{Source}
 use Rattle.rc_route.specs.declared.route.Source.TheVariants.{Connected, Static, Ebgp, Ospf, OspfIa, OspfE1, OspfE2, Ibgp}
@@ -31,40 +35,63 @@ default_prefix = record { network = 0; len = 0 }
 abbrev pub is_default : Cidr → Bool
 is_default p = same_prefix p default_prefix
 
--- The length of an address's class, where it has one: from 0.0.0.0 on 8, from 128.0.0.0 on 16, from 192.0.0.0 on 24; from 224.0.0.0 on
--- there is none.
-abbrev pub natural_length : ℕ → Option ℕ
-natural_length a = if nat_lt a 0x80000000 then Some 8 else (if nat_lt a 0xc0000000 then Some 16 else (if nat_lt a 0xe0000000 then Some 24 else None))
-
+-- a prefix has the length of its address's class; from 224.0.0.0 on there is none
 abbrev pub has_natural_length : Cidr → Bool
 has_natural_length p = option_map_or (λ n. n == p.len) (natural_length p.network) false
 
--- a line of this source takes routes of that one
-abbrev pub takes : RedistributedSource → Source → Bool
-takes line.Connected Connected = true
-takes line.Static Static = true
-takes _ _ = false
+-- the router runs BGP in the AS of this number
+abbrev pub is_in_as : RouterText → ℕ → Bool
+is_in_as file asn = option_map_or (λ (b : BgpProcess). b.asn == asn) file.bgp false
+
+-- A line of this source takes routes of that one. Of BGP it takes what came from another AS, where the number is that of the router's
+-- own AS.
+abbrev pub takes : RouterText → RedistributedSource → Source → Bool
+takes file line.Connected Connected = true
+takes file line.Static Static = true
+takes file (line.Bgp asn) Ebgp = is_in_as file asn
+takes file _ _ = false
 
 -- the line that takes routes of a source
-abbrev pub line_for : OspfProcess → Source → Option Redistribution
-line_for p source = find (λ (l : Redistribution). takes l.source source) p.redistributions
+abbrev pub line_for : RouterText → OspfProcess → Source → Option Redistribution
+line_for file p source = find (λ (l : Redistribution). takes file l.source source) p.redistributions
 
 -- The default route never passes, and without `subnets` only prefixes of their class's length.
 abbrev pub passes : Redistribution → Cidr → Bool
 passes l p = not (is_default p) && (l.subnets || has_natural_length p)
 
--- what the route map of a line sees of a route: the metric and the type that the line gives, else 20 and type 2
-abbrev pub attrs_of : Redistribution → Route → Attrs
-attrs_of l x = record {
-  prefix = x.prefix;
-  metric = unwrap_or l.metric 20;
-  metric_type = unwrap_or l.metric_type Type2;
-  local_preference = 100;
-  weight = 32768;
-  origin = Incomplete;
-  as_path = [];
-  communities = [];
+-- the metric of a line, 20 where it gives none, and of routes of BGP 1
+abbrev pub default_metric : RedistributedSource → ℕ
+default_metric line.Connected = 20
+default_metric line.Static = 20
+default_metric (line.Bgp asn) = 1
+
+abbrev pub metric_of : Redistribution → ℕ
+metric_of l = unwrap_or l.metric (default_metric l.source)
+
+abbrev pub type_of : Redistribution → MetricType
+type_of l = unwrap_or l.metric_type Type2
+
+-- the best path to the prefix of a route that it gave
+abbrev pub path_for : Source → Cidr → List BgpPath → Option BgpPath
+path_for Ebgp p paths = find (λ (b : BgpPath). same_prefix p b.prefix) paths
+path_for _ p paths = None
+
+-- What the route map of a line sees of a route: the metric and the type that it would be sent with, and the other attributes of its best
+-- path, or those of what begins here.
+abbrev pub attrs_with : Redistribution → Cidr → Option BgpPath → Attrs
+attrs_with l p path = record {
+  prefix = p;
+  metric = metric_of l;
+  metric_type = type_of l;
+  local_preference = option_map_or (λ (b : BgpPath). b.local_preference) path 100;
+  weight = option_map_or (λ (b : BgpPath). b.weight) path 32768;
+  origin = option_map_or (λ (b : BgpPath). b.origin) path Incomplete;
+  as_path = option_map_or (λ (b : BgpPath). b.as_path) path [];
+  communities = option_map_or (λ (b : BgpPath). b.communities) path [];
 }
+
+abbrev pub attrs_of : List BgpPath → Redistribution → Route → Attrs
+attrs_of paths l x = attrs_with l x.prefix (path_for x.source x.prefix paths)
 
 -- what the route map of this name makes of a route; without a name it stays as it is
 abbrev pub mapped : RouterText → Option Mention → Attrs → Option Attrs
@@ -75,12 +102,12 @@ mapped file (Some m) a = option_and_then (λ (map : RouteMap). route_map file.li
 abbrev pub external_of : ℕ → Cidr → Attrs → AsExternal
 external_of r p a = record { boundary = r; prefix = p; metric = sent_metric a.metric; metric_type = a.metric_type }
 
-abbrev pub redistributed_by : ℕ → RouterText → Route → Redistribution → Option AsExternal
-redistributed_by r file x l = if passes l x.prefix then option_map (external_of r x.prefix) (mapped file l.route_map (attrs_of l x)) else None
+abbrev pub redistributed_by : ℕ → RouterText → List BgpPath → Route → Redistribution → Option AsExternal
+redistributed_by r file paths x l = if passes l x.prefix then option_map (external_of r x.prefix) (mapped file l.route_map (attrs_of paths l x)) else None
 
--- what it sends of a route of its table
-abbrev pub redistributed : ℕ → RouterText → OspfProcess → Route → Option AsExternal
-redistributed r file p x = option_and_then (redistributed_by r file x) (line_for p x.source)
+-- what it sends of a route of its table, beside its best paths
+abbrev pub redistributed : ℕ → RouterText → OspfProcess → List BgpPath → Route → Option AsExternal
+redistributed r file p paths x = option_and_then (redistributed_by r file paths x) (line_for file p x.source)
 
 abbrev pub is_ospf : Source → Bool
 is_ospf Ospf = true
@@ -103,20 +130,17 @@ default_external r l = record { boundary = r; prefix = default_prefix; metric = 
 abbrev pub default_sent : ℕ → List Route → DefaultInformation → Option AsExternal
 default_sent r table l = if l.always || has_default table then Some (default_external r l) else None
 
--- all that a process sends of a table
-abbrev pub sent_by : ℕ → RouterText → List Route → OspfProcess → List AsExternal
-sent_by r file table p = option_to_list (option_and_then (default_sent r table) p.default_information) ++ filter_map (redistributed r file p) table
+-- all that a process sends of what its router knows
+abbrev pub sent_by : ℕ → RouterText → RouterState → OspfProcess → List AsExternal
+sent_by r file known p = option_to_list (option_and_then (default_sent r known.table) p.default_information) ++ filter_map (redistributed r file p known.paths) known.table
 
 -- a router without a process sends nothing
-abbrev pub sent_by_file : ℕ → List Route → RouterText → List AsExternal
-sent_by_file r table file = option_map_or (sent_by r file table) file.ospf []
+abbrev pub sent_by_file : ℕ → RouterText → RouterState → List AsExternal
+sent_by_file r file known = option_map_or (sent_by r file known) file.ospf []
 
--- the table of a router in a state
-abbrev pub table_in : List RouterState → ℕ → List Route
-table_in state r = option_map_or (λ (s : RouterState). s.table) (slice_get state r) []
-
+-- nothing is sent from a state in which nothing is known of a router
 abbrev pub sent_by_router : Network → List RouterState → ℕ → List AsExternal
-sent_by_router net old r = option_map_or (sent_by_file r (table_in old r)) (router_at net r) []
+sent_by_router net old r = option_map_or (λ file. option_map_or (sent_by_file r file) (slice_get old r) []) (router_at net r) []
 
 -- what all AS boundary routers of a network send from a state, in their order
 abbrev pub all_sent : Network → List RouterState → List AsExternal

@@ -8,7 +8,7 @@ use Rattle.rc_config.specs.declared.access_list.Action.TheVariants.{Permit, Deny
 use Rattle.rc_config.specs.declared.command.Command.{Command}
 use Rattle.rc_config.specs.declared.command.Command.TheVariants as command
 use Rattle.rc_config.specs.declared.map_line.MapLine.TheVariants.{Match, Set}
-use Rattle.rc_config.specs.declared.map_line.MatchKind.TheVariants.{PrefixList}
+use Rattle.rc_config.specs.declared.map_line.MatchKind.TheVariants.{PrefixList, CommunityList}
 use Rattle.rc_config.specs.declared.map_line.SetLine.{SetLine}
 use Rattle.rc_config.specs.declared.map_line.SetLine.TheVariants as set
 use Rattle.rc_config.specs.declared.network.Network.{Network}
@@ -20,6 +20,9 @@ use Rattle.rc_config.specs.declared.ospf.Redistribution.{Redistribution}
 use Rattle.rc_config.specs.declared.router_text.RouterText.{RouterText}
 use Rattle.rc_config.specs.declared.sets.MetricType.{MetricType}
 use Rattle.rc_config.specs.declared.sets.MetricType.TheVariants.{Type1, Type2}
+use Rattle.rc_base.specs.declared.origin.Origin.TheVariants.{Igp}
+use Rattle.rc_route.specs.declared.path.BgpPath.{BgpPath}
+use Rattle.rc_route.specs.declared.path.PathSource.TheVariants.{External}
 use Rattle.rc_route.specs.declared.route.Hop.TheVariants.{Null}
 use Rattle.rc_route.specs.declared.route.Route.{Route}
 use Rattle.rc_route.specs.declared.route.Source.{Source}
@@ -27,7 +30,7 @@ use Rattle.rc_route.specs.declared.route.Source.TheVariants.{Connected, Static, 
 use Rattle.rc_route.specs.declared.state.RouterState.{RouterState}
 use Rattle.rc_external.specs.AsExternal.{AsExternal}
 use Rattle.rc_external.specs.Externals.{by_prefix, externals}
-use Rattle.rc_external.specs.Origination.{all_sent, natural_length, sent_by_file}
+use Rattle.rc_external.specs.Origination.{all_sent, sent_by_file}
 
 -- a.b.c.0
 abbrev pub address : ℕ → ℕ → ℕ → ℕ
@@ -52,9 +55,12 @@ all_of s = record { source = s; metric = None; metric_type = None; subnets = tru
 abbrev redistribute : Redistribution → Command
 redistribute l = command.OspfLine (line.Redistribute l)
 
+abbrev knows : List Route → RouterState
+knows table = record { table = table; paths = [] }
+
 -- what router 3 with this file sends of these routes
 abbrev sends : RouterText → List Route → List AsExternal
-sends file table = sent_by_file 3 table file
+sends file table = sent_by_file 3 file (knows table)
 
 abbrev sent : Cidr → ℕ → MetricType → AsExternal
 sent p metric type = record { boundary = 3; prefix = p; metric = metric; metric_type = type }
@@ -89,19 +95,7 @@ no_line = refl
 pub no_process : sends (file []) every_source ≡ []
 no_process = refl
 
--- the length of an address's class
-pub classes :
-    (natural_length 0 ≡ Some 8)
-    × (natural_length 0x7fffffff ≡ Some 8)
-    × (natural_length 0x80000000 ≡ Some 16)
-    × (natural_length 0xbfffffff ≡ Some 16)
-    × (natural_length 0xc0000000 ≡ Some 24)
-    × (natural_length 0xdfffffff ≡ Some 24)
-    × (natural_length 0xe0000000 ≡ None)
-    × (natural_length 0xffffffff ≡ None)
-classes = (refl, refl, refl, refl, refl, refl, refl, refl)
-
--- without `subnets` only routes of that length pass, whatever their source
+-- without `subnets` only routes with the length of their address's class pass, whatever their source
 abbrev natural_only : RedistributedSource → RouterText
 natural_only s = process (redistribute (record (all_of s) { subnets = false }) ∷ [])
 
@@ -176,6 +170,66 @@ no_map = refl
 pub before_the_map : sends (process (redistribute (record by_map { subnets = false }) ∷ entry Permit [])) (route Static office ∷ []) ≡ []
 before_the_map = refl
 
+-- ---- routes of BGP
+
+abbrev of_bgp : Redistribution
+of_bgp = all_of (source.Bgp 65001)
+
+-- a router of the AS of this number that redistributes so
+abbrev speaker : ℕ → Redistribution → List Command → RouterText
+speaker asn l map = process (redistribute l ∷ command.BgpOpened asn ∷ map)
+
+-- those of another AS pass at the metric 1, where the number is that of the router's own AS; those of its own never do
+pub from_other_as : sends (speaker 65001 of_bgp []) every_source ≡ sent (prefix 10 0 2 24) 1 Type2 ∷ []
+from_other_as = refl
+
+pub other_number : sends (speaker 65002 of_bgp []) every_source ≡ []
+other_number = refl
+
+pub no_speaker : sends (process (redistribute of_bgp ∷ [])) every_source ≡ []
+no_speaker = refl
+
+pub as_the_line_says : sends (speaker 65001 (record of_bgp { metric = Some 20; metric_type = Some Type1 }) []) every_source ≡ sent (prefix 10 0 2 24) 20 Type1 ∷ []
+as_the_line_says = refl
+
+-- a route map sees the attributes of the best path to the prefix, and of other routes those of what begins here
+abbrev path : Cidr → List ℕ → BgpPath
+path p communities = record {
+  prefix = p;
+  next_hop = 9;
+  med = 7;
+  local_preference = 100;
+  weight = 0;
+  origin = Igp;
+  as_path = 65002 ∷ [];
+  communities = communities;
+  source = External;
+  sender = 1;
+  sender_id = 5;
+  neighbor = 9;
+  igp_metric = 0;
+}
+
+abbrev tagged : Action → List Command
+tagged action =
+    command.CommunityLine (codes "C") (record { action = Permit; communities = 7 ∷ [] }) ∷ command.MapOpened (codes "M") 10 action
+    ∷ command.MapLine (codes "M") 10 (Match CommunityList (codes "C" ∷ []) 9) ∷ setting (set.Metric 5) ∷ []
+
+abbrev through_map : Redistribution → Redistribution
+through_map l = record l { route_map = Some (record { name = codes "M"; line = 9 }) }
+
+abbrev sends_with : RouterText → List Route → List BgpPath → List AsExternal
+sends_with file table paths = sent_by_file 3 file (record { table = table; paths = paths })
+
+pub communities_seen : sends_with (speaker 65001 (through_map of_bgp) (tagged Permit)) (route Ebgp office ∷ []) (path (prefix 10 0 9 24) [] ∷ path office (7 ∷ []) ∷ []) ≡ sent office 5 Type2 ∷ []
+communities_seen = refl
+
+pub other_communities : sends_with (speaker 65001 (through_map of_bgp) (tagged Permit)) (route Ebgp office ∷ []) (path (prefix 10 0 9 24) (7 ∷ []) ∷ path office [] ∷ []) ≡ []
+other_communities = refl
+
+pub no_communities : sends_with (process (redistribute (through_map (all_of source.Static)) ∷ tagged Permit)) (route Static office ∷ []) (path office (7 ∷ []) ∷ []) ≡ []
+no_communities = refl
+
 -- ---- the default route
 
 abbrev originate : DefaultInformation
@@ -222,9 +276,6 @@ pub default_beside : sends (process (redistribute (all_of source.Static) ∷ com
 default_beside = refl
 
 -- ---- a network
-
-abbrev knows : List Route → RouterState
-knows table = record { table = table; paths = [] }
 
 abbrev statics : RouterText
 statics = process (redistribute (all_of source.Static) ∷ [])

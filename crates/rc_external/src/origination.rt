@@ -1,18 +1,20 @@
 //! What an AS boundary router sends of a route of its table (RFC 2328 s.12.4.4).
-ghost use Rattle.std.specs.Prelude.{◌≡◌, ◌≤◌, IfOk};
+ghost use Rattle.std.specs.Prelude.{◌≡◌, ◌≤◌, Some, IfOk, option_map};
 ghost use Rattle.std.specs.List.{find};
 ghost use Rattle.std.specs.Option.{option_copied};
+ghost use Rattle.rc_base.specs.Prefix.{same_prefix};
 ghost use Rattle.rc_external.specs.AsExternal.{sent_metric};
 ghost use Rattle.rc_external.specs.Origination as spec;
 
 use crate::External;
-use rc_base::{Addr, Communities, Items, Origin, Prefix, RouterId};
+use rc_as_path::AsPath;
+use rc_base::{Addr, Communities, Origin, Prefix, RouterId};
 use rc_config::{
     DefaultInformation, Mention, MetricType, OspfProcess, RedistributedSource, Redistribution,
-    RouterText,
+    RouterText, natural_len,
 };
 use rc_policy::{Attrs, apply};
-use rc_route::{Route, Source, Table};
+use rc_route::{BgpPath, Route, Source, Table};
 use std::alloc::{AllocError, Global};
 
 /// The greatest metric that is sent: LSInfinity (RFC 2328 appendix B) less one.
@@ -40,53 +42,51 @@ fn default_prefix() -> Prefix
     Prefix::new(Addr::new(0), 0).unwrap()
 }
 
-/// The length of an address's class, where it has one.
-fn natural_length(address: Addr) -> Option<u8>
-    ensures { result ≡ spec.natural_length address }
-{
-    let bits = address.bits();
-    if bits < 0x8000_0000 {
-        return Some(8);
-    }
-    if bits < 0xc000_0000 {
-        return Some(16);
-    }
-    if bits < 0xe000_0000 {
-        return Some(24);
-    }
-    None
-}
-
 /// Whether a prefix has the length of its address's class.
 fn has_natural_length(prefix: &Prefix) -> bool
     ensures { result ≡ spec.has_natural_length prefix.now }
 {
-    match natural_length(prefix.network()) {
+    match natural_len(prefix.network()) {
         Some(natural) => natural == prefix.len(),
         None => false,
     }
 }
 
+/// Whether the router runs BGP in the AS of this number.
+fn is_in_as(file: &RouterText, asn: u32) -> bool
+    ensures { result ≡ spec.is_in_as file.now asn }
+{
+    match &file.bgp {
+        Some(process) => process.asn == asn,
+        None => false,
+    }
+}
+
 /// Whether a line of this source takes routes of that one.
-fn takes(line: RedistributedSource, source: Source) -> bool
-    ensures { result ≡ spec.takes line source }
+fn takes(file: &RouterText, line: RedistributedSource, source: Source) -> bool
+    ensures { result ≡ spec.takes file.now line source }
 {
     match (line, source) {
         (RedistributedSource::Connected, Source::Connected) => true,
         (RedistributedSource::Static, Source::Static) => true,
+        (RedistributedSource::Bgp(asn), Source::Ebgp) => is_in_as(file, asn),
         _ => false,
     }
 }
 
 /// The line that takes routes of a source.
-fn line_for(process: &OspfProcess, source: Source) -> Option<&Redistribution>
-    ensures { option_copied result ≡ spec.line_for process.now source }
+fn line_for<'a>(
+    file: &RouterText,
+    process: &'a OspfProcess,
+    source: Source,
+) -> Option<&'a Redistribution>
+    ensures { option_copied result ≡ spec.line_for file.now process.now source }
 {
     process
         .redistributions
         .as_slice()
         .iter()
-        .find(|line| takes(line.source, source))
+        .find(|line| takes(file, line.source, source))
 }
 
 /// Whether a line lets a prefix pass: never the default route, and without `subnets` only one of its class's length.
@@ -96,35 +96,102 @@ fn passes(line: &Redistribution, prefix: &Prefix) -> bool
     !is_default(prefix) && (line.subnets || has_natural_length(prefix))
 }
 
-/// What the route map of a line sees of a route.
-fn attrs_of(alloc: Global, line: &Redistribution, route: &Route) -> Attrs
-    ensures { result ≡ spec.attrs_of line.now route.now }
+/// The metric of a line.
+fn metric_of(line: &Redistribution) -> u32
+    ensures { result ≡ spec.metric_of line.now }
 {
-    Attrs {
-        prefix: route.prefix,
-        metric: line.metric.unwrap_or(20),
-        metric_type: line.metric_type.unwrap_or(MetricType::Type2),
-        local_preference: 100,
-        weight: 32768,
-        origin: Origin::Incomplete,
-        as_path: Items::new(alloc),
-        communities: Communities::none(alloc),
+    let default = match line.source {
+        RedistributedSource::Connected => 20,
+        RedistributedSource::Static => 20,
+        RedistributedSource::Bgp(_) => 1,
+    };
+    line.metric.unwrap_or(default)
+}
+
+/// The type of the metric of a line.
+fn type_of(line: &Redistribution) -> MetricType
+    ensures { result ≡ spec.type_of line.now }
+{
+    line.metric_type.unwrap_or(MetricType::Type2)
+}
+
+/// The best path to a prefix.
+fn path_to<'a>(prefix: &Prefix, paths: &'a [BgpPath]) -> Option<&'a BgpPath>
+    ensures { option_copied result ≡ find (λ b. same_prefix prefix.now b.prefix) paths.now }
+{
+    paths.iter().find(|path| *prefix == path.prefix)
+}
+
+/// The best path to the prefix of a route that it gave.
+fn path_for<'a>(source: Source, prefix: &Prefix, paths: &'a [BgpPath]) -> Option<&'a BgpPath>
+    ensures { option_copied result ≡ spec.path_for source prefix.now paths.now }
+{
+    match source {
+        Source::Ebgp => path_to(prefix, paths),
+        _ => None,
     }
 }
 
-/// What the route map of a name makes of a route, `None` exactly where it rejects it. Without a name the route stays as it is.
+/// What the route map of a line sees of a route that a path gave, or that begins here.
+fn attrs_with(
+    alloc: Global,
+    line: &Redistribution,
+    prefix: Prefix,
+    path: Option<&BgpPath>,
+) -> Result<Attrs, AllocError>
+    ensures { IfOk result (λ attrs. attrs ≡ spec.attrs_with line.now prefix (option_copied path.entry)) }
+{
+    match path {
+        Some(path) => {
+            let communities = path.communities.copy(alloc)?;
+            let as_path = path.as_path.share()?;
+            Ok(Attrs {
+                prefix,
+                metric: metric_of(line),
+                metric_type: type_of(line),
+                local_preference: path.local_preference,
+                weight: path.weight,
+                origin: path.origin,
+                as_path,
+                communities,
+            })
+        }
+        None => Ok(Attrs {
+            prefix,
+            metric: metric_of(line),
+            metric_type: type_of(line),
+            local_preference: 100,
+            weight: 32768,
+            origin: Origin::Incomplete,
+            as_path: AsPath::empty(),
+            communities: Communities::none(alloc),
+        }),
+    }
+}
+
+/// What the route map of a line sees of a route.
+fn attrs_of(
+    alloc: Global,
+    paths: &[BgpPath],
+    line: &Redistribution,
+    route: &Route,
+) -> Result<Attrs, AllocError>
+    ensures { IfOk result (λ attrs. attrs ≡ spec.attrs_of paths.now line.now route.now) }
+{
+    let path = path_for(route.source, &route.prefix, paths);
+    attrs_with(alloc, line, route.prefix, path)
+}
+
+/// What a route map of the file makes of a route, `None` exactly where it rejects it, as one does that isn't there.
 fn mapped(
     alloc: Global,
     file: &RouterText,
-    name: Option<&Mention>,
+    name: &Mention,
     attrs: Attrs,
 ) -> Result<Option<Attrs>, AllocError>
-    ensures { IfOk result (λ made. made ≡ spec.mapped file.now (option_copied name.entry) attrs) }
+    ensures { IfOk result (λ made. made ≡ spec.mapped file.now (Some name.now) attrs) }
 {
-    let Some(mention) = name else {
-        return Ok(Some(attrs));
-    };
-    let found = file.route_maps.get(&mention.name);
+    let found = file.route_maps.get(&name.name);
     match found {
         Some(map) => apply(alloc, map, &file.lists, attrs),
         None => Ok(None),
@@ -138,43 +205,65 @@ fn external_of(router: RouterId, prefix: Prefix, attrs: &Attrs) -> External
     External::new(router, prefix, sent_metric(attrs.metric), attrs.metric_type)
 }
 
-/// What a router sends of a route by this line.
-fn redistributed_by(
+/// What a router sends of a route that the route map of a line has let pass.
+fn sent_through(
     alloc: Global,
     router: RouterId,
     file: &RouterText,
-    route: &Route,
-    line: &Redistribution,
+    prefix: Prefix,
+    name: &Mention,
+    attrs: Attrs,
 ) -> Result<Option<External>, AllocError>
-    ensures { IfOk result (λ sent. sent ≡ spec.redistributed_by router file.now route.now line.now) }
+    ensures { IfOk result (λ sent. sent ≡ option_map (spec.external_of router prefix) (spec.mapped file.now (Some name.now) attrs)) }
 {
-    if !passes(line, &route.prefix) {
-        return Ok(None);
-    }
-    match mapped(
-        alloc,
-        file,
-        line.route_map.as_ref(),
-        attrs_of(alloc, line, route),
-    )? {
-        Some(attrs) => Ok(Some(external_of(router, route.prefix, &attrs))),
+    match mapped(alloc, file, name, attrs)? {
+        Some(attrs) => Ok(Some(external_of(router, prefix, &attrs))),
         None => Ok(None),
     }
 }
 
-/// What a router sends of a route of its table.
+/// What a router sends of a route by this line. Where it has no route map, nothing but its metric and its type counts.
+fn redistributed_by(
+    alloc: Global,
+    router: RouterId,
+    file: &RouterText,
+    paths: &[BgpPath],
+    route: &Route,
+    line: &Redistribution,
+) -> Result<Option<External>, AllocError>
+    ensures { IfOk result (λ sent. sent ≡ spec.redistributed_by router file.now paths.now route.now line.now) }
+{
+    if !passes(line, &route.prefix) {
+        return Ok(None);
+    }
+    match &line.route_map {
+        Some(name) => {
+            let attrs = attrs_of(alloc, paths, line, route)?;
+            sent_through(alloc, router, file, route.prefix, name, attrs)
+        }
+        None => Ok(Some(External::new(
+            router,
+            route.prefix,
+            sent_metric(metric_of(line)),
+            type_of(line),
+        ))),
+    }
+}
+
+/// What a router sends of a route of its table, beside its best paths.
 pub(crate) fn redistributed(
     alloc: Global,
     router: RouterId,
     file: &RouterText,
     process: &OspfProcess,
+    paths: &[BgpPath],
     route: &Route,
 ) -> Result<Option<External>, AllocError>
-    ensures { IfOk result (λ sent. sent ≡ spec.redistributed router file.now process.now route.now) }
+    ensures { IfOk result (λ sent. sent ≡ spec.redistributed router file.now process.now paths.now route.now) }
 {
-    let found = line_for(process, route.source);
+    let found = line_for(file, process, route.source);
     match found {
-        Some(line) => redistributed_by(alloc, router, file, route, line),
+        Some(line) => redistributed_by(alloc, router, file, paths, route, line),
         None => Ok(None),
     }
 }

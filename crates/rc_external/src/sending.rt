@@ -40,47 +40,53 @@ fn add_redistributed(
     router: RouterId,
     file: &RouterText,
     process: &OspfProcess,
-    table: &Table,
+    known: &RouterState,
 ) -> Result<(), AllocError>
-    ensures { OnOk result (all.new ≡ all.old ++ filter_map (spec.redistributed router file.now process.now) table.now) }
+    ensures { OnOk result (all.new ≡ all.old ++ filter_map (spec.redistributed router file.now process.now known.now.paths) known.now.table) }
 {
     // For the proof: that of a push wants each enum within the element named in the function.
     let _type: Option<MetricType> = None;
-    for route in table.as_slice() {
-        if let Some(external) = redistributed(alloc, router, file, process, route)? {
+    let paths = known.paths.as_slice();
+    for route in known.table.as_slice() {
+        if let Some(external) = redistributed(alloc, router, file, process, paths, route)? {
             all.push(external)?;
         }
     }
     Ok(())
 }
 
-/// Puts all that a process sends of a table at the end.
+/// Puts all that a process sends of what its router knows at the end.
 fn add_sent(
     alloc: Global,
     all: &mut Items<External>,
     router: RouterId,
     file: &RouterText,
     process: &OspfProcess,
-    table: &Table,
+    known: &RouterState,
 ) -> Result<(), AllocError>
-    ensures { OnOk result (all.new ≡ all.old ++ spec.sent_by router file.now table.now process.now) }
+    ensures { OnOk result (all.new ≡ all.old ++ spec.sent_by router file.now known.now process.now) }
 {
-    add_default(all, router, table, process.default_information.as_ref())?;
-    add_redistributed(alloc, all, router, file, process, table)
+    add_default(
+        all,
+        router,
+        &known.table,
+        process.default_information.as_ref(),
+    )?;
+    add_redistributed(alloc, all, router, file, process, known)
 }
 
-/// Puts all that a router sends of a table at the end, where it has a process.
+/// Puts all that a router sends of what it knows at the end, where it has a process.
 fn add_of_file(
     alloc: Global,
     all: &mut Items<External>,
     router: RouterId,
     file: &RouterText,
-    table: &Table,
+    known: &RouterState,
 ) -> Result<(), AllocError>
-    ensures { OnOk result (all.new ≡ all.old ++ spec.sent_by_file router table.now file.now) }
+    ensures { OnOk result (all.new ≡ all.old ++ spec.sent_by_file router file.now known.now) }
 {
     match &file.ospf {
-        Some(process) => add_sent(alloc, all, router, file, process, table),
+        Some(process) => add_sent(alloc, all, router, file, process, known),
         None => Ok(()),
     }
 }
@@ -100,12 +106,12 @@ fn add_from_state(
     file: &RouterText,
     state: &State,
 ) -> Result<(), AllocError>
-    ensures { OnOk result (all.new ≡ all.old ++ spec.sent_by_file router (spec.table_in state.now router) file.now) }
+    ensures { OnOk result (all.new ≡ all.old ++ option_map_or (spec.sent_by_file router file.now) (slice_get state.now router) []) }
 {
     let known = known_at(state, router);
     match known {
-        Some(known) => add_of_file(alloc, all, router, file, &known.table),
-        None => add_of_file(alloc, all, router, file, &Items::new(alloc)),
+        Some(known) => add_of_file(alloc, all, router, file, known),
+        None => Ok(()),
     }
 }
 

@@ -1,60 +1,113 @@
 -- A router that reads what it read a round earlier knows the same again.
-use Rattle.std.proofs.Common.{refl, ◌≡◌, ◌⊎◌, inl, inr, ap, sym, ◌∙◌, subst, ℕ, ◌+◌, ◌<◌, List, [], ◌++◌, All, Option, Some, None, IfSome, length, arith}
-use Rattle.std.specs.List.{range_with_len, slice_get}
+use Rattle.std.proofs.Common.{refl, ◌≡◌, ◌⊎◌, inl, inr, ap, sym, ◌∙◌, subst, ℕ, ◌+◌, ◌<◌, List, [], ◌∷◌, ◌++◌, All, Option, Some, None, IfSome, length, arith}
+use Rattle.std.specs.List.{cons_option, filter, filter_map, range_with_len, slice_get}
 use Rattle.std.specs.Option.{option_map, option_map_or}
 use Rattle.std.proofs.lemmas.Option.{same_Some, slice_get-map, slice_get-get_or, slice_get_within, get_or_from_slice_get}
 use Rattle.std.proofs.lemmas.List.FromFn.{length-range_with_len, get_or-range_with_len}
+use Rattle.rc_base.specs.Prefix.{Cidr}
+use Rattle.rc_bgp.specs.Candidates.{all_best, best_paths}
+use Rattle.rc_bgp.specs.Known.{table_of}
+use Rattle.rc_bgp.specs.Originating.{by_networks, networks_of}
+use Rattle.rc_bgp.specs.Sessions.{is_up, sessions, sessions_of}
+use Rattle.rc_bgp.specs.declared.session.Session.{Session}
 use Rattle.rc_config.specs.Members.{router_at, router_ids}
+use Rattle.rc_config.specs.declared.bgp.BgpProcess.{BgpProcess}
 use Rattle.rc_config.specs.declared.network.Network.{Network}
 use Rattle.rc_config.specs.declared.router_text.RouterText.{RouterText}
 use Rattle.rc_config.specs.declared.static_route.StaticRoute.{StaticRoute}
+use Rattle.rc_external.specs.AsExternal.{AsExternal}
+use Rattle.rc_external.specs.Externals.{externals}
+use Rattle.rc_external.specs.Routes.{external_routes, route_over, route_to, routes_over}
+use Rattle.rc_external.specs.Ways.{best_of, way_to}
+use Rattle.rc_external.specs.declared.as_external.ExternalRow.{ExternalRow}
 use Rattle.rc_fib.specs.Forwarding.{resolved}
+use Rattle.rc_ospf.specs.declared.model.Internal.{Internal}
 use Rattle.rc_route.specs.Tables.{IsRouterState}
+use Rattle.rc_route.specs.declared.path.BgpPath.{BgpPath}
 use Rattle.rc_route.specs.declared.route.Route.{Route}
 use Rattle.rc_route.specs.declared.state.RouterState.{RouterState}
-use Rattle.rc_ospf.specs.declared.model.Internal.{Internal}
-use Rattle.rc_rib.specs.Again.{IsUnchanged, ReadsNoTable}
+use Rattle.rc_rib.specs.Again.{IsUnchanged, ReadsNoOthers}
 use Rattle.rc_rib.specs.Best.{best_routes}
 use Rattle.rc_rib.specs.Connected.{connected}
-use Rattle.rc_rib.specs.Next.{next_router, next_state, routes_of, table_after, table_of}
+use Rattle.rc_rib.specs.Next.{learned_routes, next_router, next_state, own_of, router_after, routes_of, to_others}
 use Rattle.rc_rib.specs.Static.{active_lines, static_routes}
 
 numbered : (n r : ℕ) → r < n → slice_get (range_with_len 0 n) r ≡ Some r
 numbered n r less =
     slice_get-get_or (range_with_len 0 n) r 0 (omega (arith, less, length-range_with_len 0 n)) ∙ ap Some (get_or-range_with_len 0 n r 0 less ∙ (let e : 0 + r ≡ r = omega arith in e))
 
-module _ (net : Network) (internal : Internal) (r : ℕ) (here : r < length net.routers) where
+-- ---- without a path to a router that sends it nothing comes from outside of the AS
+
+no_ways : (sent : List AsExternal) → filter_map (way_to []) sent ≡ []
+no_ways [] = refl
+no_ways (e ∷ es) = no_ways es
+
+no_route : (row : ExternalRow) → route_to [] row ≡ None
+no_route row = ap (λ ways. option_map (route_over row.prefix) (best_of ways)) (no_ways row.externals)
+
+nothing_outside : (rows : List ExternalRow) → routes_over [] rows ≡ []
+nothing_outside [] = refl
+nothing_outside (row ∷ rows) = ap (λ o. cons_option o (routes_over [] rows)) (no_route row) ∙ nothing_outside rows
+
+-- ---- without a process, and without a session, there is no path
+
+no_networks : (net : Network) (r : ℕ) (found : Option RouterText) → router_at net r ≡ found → IfSome found (λ (file : RouterText). file.bgp ≡ None) → networks_of net r ≡ []
+no_networks net r found is none = ap networks_in is ∙ by found none
+  where
+    networks_in : Option RouterText → List Cidr
+    networks_in o = option_map_or (λ (file : RouterText). option_map_or (λ (process : BgpProcess). process.networks) file.bgp []) o []
+
+    by : (o : Option RouterText) → IfSome o (λ (file : RouterText). file.bgp ≡ None) → networks_in o ≡ []
+    by None none = refl
+    by (Some file) none = ap (λ b. option_map_or (λ (process : BgpProcess). process.networks) b []) none
+
+no_paths : (net : Network) (all : List (List Session)) (old : List RouterState) (r : ℕ) → networks_of net r ≡ [] → sessions_of all r ≡ [] → best_paths net all old r ≡ []
+unfolding best_paths
+no_paths net all old r none silent =
+    ap (λ networks. all_best net old (table_of old r) (by_networks r (table_of old r) networks) (filter (is_up old) (sessions_of all r))) none
+    ∙ ap (λ ss. all_best net old (table_of old r) [] (filter (is_up old) ss)) silent
+
+module _ (net : Network) (internal : Internal) (all : List (List Session)) (r : ℕ) (here : r < length net.routers) where
   -- what the router knows after a round
   row : (old : List RouterState) → slice_get (next_state net internal old) r ≡ Some (next_router net internal old r)
   row old =
       slice_get-map (next_router net internal old) (router_ids net) r ∙ ap (option_map (next_router net internal old)) (numbered (length net.routers) r here)
 
-  -- it comes from the router's previous table
-  after : List Route → RouterState
-  after table = record { table = option_map_or (λ file. table_after r file (routes_of internal.routes r) table) (router_at net r) []; paths = [] }
+  -- with this file, from its previous table, its best paths and what comes from outside of the AS
+  after : RouterText → List Route → List BgpPath → List Route → RouterState
+  after file table paths outside = record {
+    table = best_routes (connected r file.interfaces ++ (static_routes (active_lines r file.interfaces (resolved table) file.static_routes) ++ (learned_routes paths ++ (routes_of internal r ++ to_others (own_of internal r) outside))));
+    paths = paths;
+  }
 
-  -- what it knows with these lines `ip route`
   with_lines : RouterText → List Route → List StaticRoute → RouterState
   with_lines file table lines = record {
-    table = best_routes (connected r file.interfaces ++ (static_routes (active_lines r file.interfaces (resolved table) lines) ++ routes_of internal.routes r));
+    table = best_routes (connected r file.interfaces ++ (static_routes (active_lines r file.interfaces (resolved table) lines) ++ (learned_routes [] ++ (routes_of internal r ++ to_others (own_of internal r) []))));
     paths = [];
   }
 
-  -- without such a line it comes from the file alone
-  from_file : (found : Option RouterText) (t u : List Route) → IfSome found (λ (file : RouterText). file.static_routes ≡ [])
-      → option_map_or (λ file. table_after r file (routes_of internal.routes r) t) found [] ≡ option_map_or (λ file. table_after r file (routes_of internal.routes r) u) found []
-  unfolding with_lines
-  from_file None t u none = refl
-  from_file (Some file) t u none = ap (λ lines. (with_lines file t lines).table) none ∙ sym (ap (λ lines. (with_lines file u lines).table) none)
-
-  pub again : (state before : List RouterState) (s : RouterState) → state ≡ next_state net internal before → IsUnchanged net state before r s → s ≡ next_router net internal state r
+  -- where it reads no other router
+  alone : (file : RouterText) → all ≡ sessions net internal.links → ReadsNoOthers net internal all r → (old : List RouterState) → router_after net internal old r file ≡ after file (table_of old r) [] []
   unfolding after
-  again state before s is same =
-      same_Some s (next_router net internal before r) (sym same.known ∙ ap (λ all. slice_get all r) is ∙ row before) ∙ reads same.reads
+  alone file these others old =
+      ap (λ paths. after file (table_of old r) paths (external_routes internal (externals net old) r))
+      (ap (λ ss. best_paths net ss old r) (sym these) ∙ no_paths net all old r (no_networks net r (router_at net r) refl others.no_process) others.no_sessions)
+      ∙ ap (after file (table_of old r) []) (ap (λ bs. routes_over bs (externals net old)) others.no_boundaries ∙ nothing_outside (externals net old))
+
+  -- without a line `ip route` it comes from the file alone
+  from_file : (file : RouterText) (t u : List Route) → file.static_routes ≡ [] → after file t [] [] ≡ after file u [] []
+  unfolding after with_lines
+  from_file file t u none = ap (with_lines file t) none ∙ sym (ap (with_lines file u) none)
+
+  pub again : all ≡ sessions net internal.links → (state before : List RouterState) (s : RouterState) → state ≡ next_state net internal before → IsUnchanged net internal all state before r s → s ≡ next_router net internal state r
+  again these state before s is same =
+      same_Some s (next_router net internal before r) (sym same.known ∙ ap (λ all. slice_get all r) is ∙ row before) ∙ by (router_at net r) same.reads
     where
-      reads : ReadsNoTable net r ⊎ (table_of state r ≡ table_of before r) → next_router net internal before r ≡ next_router net internal state r
-      reads (inl none) = ap (λ t. record { table = t; paths = [] }) (from_file (router_at net r) (table_of before r) (table_of state r) none)
-      reads (inr tables) = ap after (sym tables)
+      by : (o : Option RouterText) → (IfSome o (λ (file : RouterText). file.static_routes ≡ []) ⊎ (table_of state r ≡ table_of before r))
+          → option_map_or (router_after net internal before r) o (record { table = []; paths = [] }) ≡ option_map_or (router_after net internal state r) o (record { table = []; paths = [] })
+      by None reads = refl
+      by (Some file) (inl none) = alone file these same.others before ∙ from_file file (table_of before r) (table_of state r) none ∙ sym (alone file these same.others state)
+      by (Some file) (inr tables) = alone file these same.others before ∙ ap (λ t. after file t [] []) (sym tables) ∙ sym (alone file these same.others state)
 
 -- what stands in a state in order is in order
 pub known_in_order : (state : List RouterState) (r : ℕ) (s : RouterState) → All IsRouterState state → slice_get state r ≡ Some s → IsRouterState s

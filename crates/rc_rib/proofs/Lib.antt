@@ -1,5 +1,7 @@
 mod AgainLaws
 pub mod ConnectedLaws
 mod BestLaws
+pub mod MergingLaws
+mod OrderLaws
 mod TableLaws
 mod StaticLaws

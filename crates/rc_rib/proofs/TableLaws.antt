@@ -80,10 +80,6 @@ pub table_is_best : (ts : List Route) → IsTable ts → best_routes ts ≡ ts
 unfolding best_routes
 table_is_best ts up = ap (filter_map (λ p. preferred (routes_at p ts))) (in_order_again (map prefix_of ts) up) ∙ found_again ts ts (each_alone ts up)
 
--- a table with no other candidate
-pub best_alone : (ts none : List Route) → IsTable ts → none ≡ [] → ts ≡ best_routes (ts ++ none)
-best_alone ts none up empty = sym (ap (λ t. best_routes (ts ++ t)) empty ∙ ap best_routes (append-nil ts) ∙ table_is_best ts up)
-
 -- no routes are a table
 pub none_in_order : (table : List Route) → table ≡ [] → IsTable table
 unfolding IsStrictlySortedBy

@@ -1,16 +1,28 @@
 -- A router that knows the same again.
-use Rattle.std.specs.Prelude.{◌≡◌, ◌⊎◌, ℕ, List, [], Some, IfSome, slice_get}
+use Rattle.std.specs.Prelude.{◌≡◌, ◌⊎◌, ℕ, List, [], Some, None, IfSome, slice_get}
+use Rattle.rc_bgp.specs.Known.{table_of}
+use Rattle.rc_bgp.specs.Sessions.{sessions_of}
+use Rattle.rc_bgp.specs.declared.session.Session.{Session}
 use Rattle.rc_config.specs.Members.{router_at}
 use Rattle.rc_config.specs.declared.network.Network.{Network}
 use Rattle.rc_config.specs.declared.router_text.RouterText.{RouterText}
-use Rattle.rc_rib.specs.Next.{table_of}
+use Rattle.rc_external.specs.Routes.{boundaries_of}
+use Rattle.rc_ospf.specs.declared.model.Internal.{Internal}
 use Rattle.rc_route.specs.declared.state.RouterState.{RouterState}
 
--- the router has no line `ip route`: its table reads no other
-abbrev pub ReadsNoTable : Network → ℕ → Type 0
-ReadsNoTable net router = IfSome (router_at net router) (λ (file : RouterText). file.static_routes ≡ [])
+-- the router has no line `ip route`: its static routes read no table
+abbrev pub HasNoLines : Network → ℕ → Type 0
+HasNoLines net router = IfSome (router_at net router) (λ (file : RouterText). file.static_routes ≡ [])
 
--- this is what the router knows in the state, and the table that it reads, if any, is that of the state before
-pub record IsUnchanged (net : Network) (state before : List RouterState) (router : ℕ) (s : RouterState) : Type 0 where
+-- it originates no path and hears none, and has no path to a router from which it would have routes from outside of the AS: what
+-- other routers know changes nothing for it
+pub record ReadsNoOthers (net : Network) (internal : Internal) (sessions : List (List Session)) (router : ℕ) : Type 0 where
+  pub no_process : IfSome (router_at net router) (λ (file : RouterText). file.bgp ≡ None)
+  pub no_sessions : sessions_of sessions router ≡ []
+  pub no_boundaries : boundaries_of internal router ≡ []
+
+-- this is what the router knows in the state, and it reads at most its own table, which is that of the state before
+pub record IsUnchanged (net : Network) (internal : Internal) (sessions : List (List Session)) (state before : List RouterState) (router : ℕ) (s : RouterState) : Type 0 where
   pub known : slice_get state router ≡ Some s
-  pub reads : ReadsNoTable net router ⊎ (table_of state router ≡ table_of before router)
+  pub others : ReadsNoOthers net internal sessions router
+  pub reads : HasNoLines net router ⊎ (table_of state router ≡ table_of before router)

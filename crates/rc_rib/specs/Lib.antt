@@ -7,3 +7,5 @@ pub mod Rows
 pub mod StaticRows
 pub mod OspfRows
 pub mod Again
+pub mod Merging
+pub mod Inputs

@@ -1,37 +1,69 @@
 -- The next table and best paths of one router, from what all routers know.
-use Rattle.std.specs.Prelude.{ℕ, List, [], ◌++◌, map, slice_get, unwrap_or}
+use Rattle.std.specs.Prelude.{ℕ, Bool, not, List, [], ◌++◌, filter, map, slice_get, unwrap_or}
+use Rattle.std.specs.List.{filter_map, list_any}
 use Rattle.std.specs.Option.{option_map_or}
+use Rattle.rc_base.specs.Prefix.{Cidr, same_prefix}
+use Rattle.rc_bgp.specs.Candidates.{best_paths}
+use Rattle.rc_bgp.specs.Known.{table_of}
+use Rattle.rc_bgp.specs.Learning.{learned_route}
+use Rattle.rc_bgp.specs.Sessions.{sessions}
 use Rattle.rc_config.specs.declared.network.Network.{Network}
 use Rattle.rc_config.specs.declared.router_text.RouterText.{RouterText}
 use Rattle.rc_config.specs.Members.{router_at, router_ids}
+use Rattle.rc_external.specs.Externals.{externals}
+use Rattle.rc_external.specs.Routes.{external_routes}
+use Rattle.rc_external.specs.declared.as_external.ExternalRow.{ExternalRow}
 use Rattle.rc_fib.specs.Forwarding.{resolved}
 use Rattle.rc_ospf.specs.declared.model.Internal.{Internal}
 use Rattle.rc_rib.specs.Best.{best_routes}
 use Rattle.rc_rib.specs.Connected.{connected}
 use Rattle.rc_rib.specs.Static.{active_lines, static_routes}
+use Rattle.rc_route.specs.declared.path.BgpPath.{BgpPath}
 use Rattle.rc_route.specs.declared.route.Route.{Route}
 use Rattle.rc_route.specs.declared.state.RouterState.{RouterState}
 
--- the candidates of a router: the connected routes of its file, its static routes that the previous table makes active, and its
--- routes of OSPF
-abbrev pub candidates : ℕ → RouterText → List Route → List Route → List Route
-candidates r file ospf old = connected r file.interfaces ++ (static_routes (active_lines r file.interfaces (resolved old) file.static_routes) ++ ospf)
+-- the OSPF routes of a router inside and between areas, among those of all
+abbrev pub routes_of : Internal → ℕ → List Route
+routes_of internal r = unwrap_or (slice_get internal.routes r) []
 
--- the next table of a router, from its file, its routes of OSPF and its previous table
-abbrev pub table_after : ℕ → RouterText → List Route → List Route → List Route
-table_after r file ospf old = best_routes (candidates r file ospf old)
+-- the prefixes that a router advertises itself
+abbrev pub own_of : Internal → ℕ → List Cidr
+own_of internal r = unwrap_or (slice_get internal.own r) []
 
--- the table of a router in a state
-abbrev pub table_of : List RouterState → ℕ → List Route
-table_of state r = option_map_or (λ (s : RouterState). s.table) (slice_get state r) []
+abbrev pub is_own : List Cidr → Cidr → Bool
+is_own own p = list_any (same_prefix p) own
 
--- the OSPF routes of a router, among those of all
-abbrev pub routes_of : List (List Route) → ℕ → List Route
-routes_of internal r = unwrap_or (slice_get internal r) []
+-- routes to prefixes other than a router's own ones
+abbrev pub to_others : List Cidr → List Route → List Route
+to_others own routes = filter (λ (x : Route). not (is_own own x.prefix)) routes
 
--- what a router knows after a round in which all read the old state, beside what OSPF gives without a state; there are no BGP paths
+-- the OSPF routes of a router: inside and between areas, and from outside of the AS to what it doesn't advertise itself. Where both
+-- are there for a prefix, the order of sources decides
+abbrev pub ospf_routes : Internal → List ExternalRow → ℕ → List Route
+ospf_routes internal rows r = routes_of internal r ++ to_others (own_of internal r) (external_routes internal rows r)
+
+-- the candidates of a router: the connected routes of its file, its static routes that the previous table makes active, and the
+-- routes that it learned by BGP and by OSPF
+abbrev pub candidates : ℕ → RouterText → List Route → List Route → List Route → List Route
+candidates r file learned ospf old = connected r file.interfaces ++ (static_routes (active_lines r file.interfaces (resolved old) file.static_routes) ++ (learned ++ ospf))
+
+-- the next table of a router, from its file, what it learned, and its previous table
+abbrev pub table_after : ℕ → RouterText → List Route → List Route → List Route → List Route
+table_after r file learned ospf old = best_routes (candidates r file learned ospf old)
+
+-- the routes that best paths give
+abbrev pub learned_routes : List BgpPath → List Route
+learned_routes paths = filter_map learned_route paths
+
+-- what a router of this file knows after a round
+abbrev pub router_after : Network → Internal → List RouterState → ℕ → RouterText → RouterState
+router_after net internal old r file =
+    let best = best_paths net (sessions net internal.links) old r in
+    record { table = table_after r file (learned_routes best) (ospf_routes internal (externals net old) r) (table_of old r); paths = best }
+
+-- what a router knows after a round in which all read the old state, beside what OSPF gives without any
 abbrev pub next_router : Network → Internal → List RouterState → ℕ → RouterState
-next_router net internal old r = record { table = option_map_or (λ file. table_after r file (routes_of internal.routes r) (table_of old r)) (router_at net r) []; paths = [] }
+next_router net internal old r = option_map_or (router_after net internal old r) (router_at net r) (record { table = []; paths = [] })
 
 -- a round: all routers read the old state
 abbrev pub next_state : Network → Internal → List RouterState → List RouterState

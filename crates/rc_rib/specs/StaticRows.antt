@@ -55,7 +55,7 @@ before = route_over 7 (subnet 1) (0 ∷ []) ∷ route_over 7 (subnet 2) (1 ∷ [
 
 -- the next table, with a route for 10.0.9.0/24 behind the connected ones
 abbrev Gives : List StaticRoute → List Route → Type 0
-Gives lines routes = table_after 7 (file lines) [] before ≡ route_over 7 (subnet 1) (0 ∷ []) ∷ route_over 7 (subnet 2) (1 ∷ []) ∷ routes
+Gives lines routes = table_after 7 (file lines) [] [] before ≡ route_over 7 (subnet 1) (0 ∷ []) ∷ route_over 7 (subnet 2) (1 ∷ []) ∷ routes
 
 pub no_lines : Gives [] []
 unfolding connected static_routes best_routes
@@ -72,7 +72,7 @@ unfolding connected static_routes best_routes hops_within
 unreached = refl
 
 -- a next hop that the route's own prefix holds
-pub own_prefix : table_after 7 (file (line (subnet 9) (target.Via (address 9 2)) 1 ∷ [])) [] (static (subnet 9) 1 (Dev (interface 0) ∷ []) ∷ []) ≡ before
+pub own_prefix : table_after 7 (file (line (subnet 9) (target.Via (address 9 2)) 1 ∷ [])) [] [] (static (subnet 9) 1 (Dev (interface 0) ∷ []) ∷ []) ≡ before
 unfolding connected static_routes best_routes hops_within
 own_prefix = refl
 
@@ -81,7 +81,7 @@ pub to_null : Gives (line (subnet 9) target.Null 1 ∷ []) (static (subnet 9) 1 
 unfolding connected static_routes best_routes hops_within
 to_null = refl
 
-pub over_null : table_after 7 (file (line (subnet 9) (target.Via (address 8 2)) 1 ∷ [])) [] (static (subnet 8) 1 (Null ∷ []) ∷ []) ≡ before
+pub over_null : table_after 7 (file (line (subnet 9) (target.Via (address 8 2)) 1 ∷ [])) [] [] (static (subnet 8) 1 (Null ∷ []) ∷ []) ≡ before
 unfolding connected static_routes best_routes hops_within
 over_null = refl
 
@@ -115,12 +115,12 @@ undeclared = refl
 abbrev shut : Entries
 shut = (first, record fresh { shutdown = true }) ∷ (codes "Gi0/0.7", fresh) ∷ []
 
-pub over_shut : table_after 7 (record empty { interfaces = shut; static_routes = line (subnet 9) (target.Dev first) 1 ∷ line (subnet 8) (target.Dev (codes "Gi0/0.7")) 1 ∷ [] }) [] [] ≡ []
+pub over_shut : table_after 7 (record empty { interfaces = shut; static_routes = line (subnet 9) (target.Dev first) 1 ∷ line (subnet 8) (target.Dev (codes "Gi0/0.7")) 1 ∷ [] }) [] [] [] ≡ []
 unfolding connected static_routes best_routes hops_within
 over_shut = refl
 
 -- an interface needs no address
-pub over_unnumbered : table_after 7 (record empty { interfaces = (first, fresh) ∷ []; static_routes = line (subnet 9) (target.Dev first) 1 ∷ [] }) [] [] ≡ static (subnet 9) 1 (Dev (interface 0) ∷ []) ∷ []
+pub over_unnumbered : table_after 7 (record empty { interfaces = (first, fresh) ∷ []; static_routes = line (subnet 9) (target.Dev first) 1 ∷ [] }) [] [] [] ≡ static (subnet 9) 1 (Dev (interface 0) ∷ []) ∷ []
 unfolding connected static_routes best_routes hops_within
 over_unnumbered = refl
 
@@ -135,6 +135,6 @@ unfolding connected static_routes best_routes hops_within
 by_prefix = refl
 
 -- a default route
-pub default_route : table_after 7 (file (line (prefix_at 0 0) (target.Via (address 2 9)) 1 ∷ [])) [] before ≡ static (prefix_at 0 0) 1 (Via (address 2 9) None ∷ []) ∷ before
+pub default_route : table_after 7 (file (line (prefix_at 0 0) (target.Via (address 2 9)) 1 ∷ [])) [] [] before ≡ static (prefix_at 0 0) 1 (Via (address 2 9) None ∷ []) ∷ before
 unfolding connected static_routes best_routes hops_within
 default_route = refl

@@ -1,5 +1,7 @@
 //! What tables are made from.
+use rc_bgp::Sessions;
 use rc_config::Network;
+use rc_external::Externals;
 use rc_ospf::Internal;
 use rc_route::State;
 
@@ -7,8 +9,12 @@ use rc_route::State;
 #[derive(Drop)]
 pub struct Inputs<'a> {
     pub network: &'a Network,
-    /// What OSPF gives without a state, which no round changes.
+    /// What OSPF gives without any table, which no round changes.
     pub internal: &'a Internal,
+    /// The sessions of BGP, which no round changes.
+    pub sessions: &'a Sessions,
+    /// What AS boundary routers send of the tables of the round before.
+    pub externals: &'a Externals,
     /// What each router knows after the round before.
     pub previous: &'a State,
     /// What each router knew a round earlier yet, where there was such a round. Who read the same then knows the same again.

@@ -1,16 +1,17 @@
-//! The next table of one router.
+//! The next table and best paths of one router.
 //!
-//! It stands on the model of rc_config, on the routes of rc_route, on the hops of addresses of rc_fib and on the OSPF routes of
-//! rc_ospf. The layer above knows what a router knows after a round as a function of the network, of each router's OSPF routes
-//! and of what all routers knew before it, in its order.
+//! It stands on the model of rc_config, on the routes of rc_route, on the hops of addresses of rc_fib, on the routes of rc_ospf and
+//! rc_external, and on the best paths of rc_bgp. The layer above knows what a router knows after a round as a function of the
+//! network, of what OSPF gives without any table, and of what all routers knew before it, in its order.
 #![tactic(auto)]
 
 mod active;
-mod best;
 mod connected_routes;
 mod grouping;
 mod inputs;
+mod merging;
 mod next;
+mod outside;
 mod rows;
 
 pub use inputs::Inputs;

@@ -1,24 +1,32 @@
 //! One router's next table and best paths.
-ghost use Rattle.std.specs.Prelude.{◌≡◌, ◌++◌, [], All, IfOk, IfSome, IsTrue, OnOk, length, slice_get};
+ghost use Rattle.std.specs.Prelude.{◌≡◌, ◌++◌, ◌∷◌, [], All, IfOk, IfSome, IsTrue, OnOk, None, slice_get};
 ghost use Rattle.std.specs.Option.{option_map, option_map_or};
-ghost use Rattle.rc_config.specs.Lawful.{IsLawful, IsRouter};
+ghost use Rattle.rc_bgp.specs.Known.{table_of};
+ghost use Rattle.rc_bgp.specs.Sessions.{sessions_of};
+ghost use Rattle.rc_config.specs.Lawful.{IsRouter};
 ghost use Rattle.rc_config.specs.Members.{router_at};
+ghost use Rattle.rc_external.specs.Routes.{boundaries_of, external_routes};
 ghost use Rattle.rc_fib.specs.Forwarding.{resolved};
-ghost use Rattle.rc_route.specs.Tables.{IsStateOf, IsRouterState, IsTable};
+ghost use Rattle.rc_route.specs.Tables.{IsRouterState, IsPathList, IsTable};
+ghost use Rattle.rc_rib.specs.Connected as connected_spec;
+ghost use Rattle.rc_rib.specs.Again.{HasNoLines, IsUnchanged, ReadsNoOthers};
+ghost use Rattle.rc_rib.specs.Inputs.{AreInputs};
+ghost use Rattle.rc_rib.specs.Merging as merging_spec;
 ghost use Rattle.rc_rib.specs.Next as spec;
-ghost use Rattle.rc_rib.specs.Again.{IsUnchanged, ReadsNoTable};
 ghost use Rattle.rc_rib.specs.Static.{active_lines, static_routes};
 
 use crate::Inputs;
 use crate::active::active_lines;
-use crate::best::best_routes;
 use crate::connected_routes::connected;
 use crate::grouping::static_routes;
+use crate::merging::merged;
+use crate::outside::{outside_routes, routes_of};
 use rc_base::{Items, RouterId};
+use rc_bgp::{Sessions, best_paths, learned_route};
 use rc_config::{Network, RouterText};
 use rc_fib::Fib;
 use rc_ospf::Internal;
-use rc_route::{Route, RouterState, State, Table, copy, same_table};
+use rc_route::{BgpPath, Route, RouterState, State, Table, copy, same_table};
 use std::alloc::{AllocError, Global};
 
 /// The static routes of a file that its router's previous table makes active. Only where the file has some, that table is
@@ -41,51 +49,161 @@ fn active_routes(
     static_routes(alloc, lines.as_slice())
 }
 
-/// Puts copies of routes at the end of a table.
-fn add_copies(alloc: Global, table: &mut Table, routes: &[Route]) -> Result<(), AllocError>
-    ensures { OnOk result (table.new ≡ table.old ++ routes.now) }
-{
-    for route in routes {
-        table.push(route.copy(alloc)?)?;
-    }
-    Ok(())
-}
-
-/// The best of the connected and the static routes of a file and of its router's OSPF routes.
-fn file_table(
+/// The connected and the static routes of a file, from its router's previous table.
+fn own_routes(
     alloc: Global,
     router: RouterId,
     file: &RouterText,
-    ospf: &[Route],
     old: &Table,
 ) -> Result<Table, AllocError>
     requires { IsTable old.now }
-    ensures value { IfOk result (λ table. table ≡ spec.table_after router file.now ospf.now old.now) }
-    ensures in_order { IfOk result IsTable }
+    ensures { IfOk result (λ table. table ≡ merging_spec.merged (connected_spec.connected router file.now.interfaces) (static_routes (active_lines router file.now.interfaces (resolved old.now) file.now.static_routes))) }
 {
-    let mut others = active_routes(alloc, router, file, old)?;
-    add_copies(alloc, &mut others, ospf)?;
+    let active = active_routes(alloc, router, file, old)?;
     let connected = connected(alloc, router, file)?;
-    best_routes(alloc, connected, others)
+    merged(alloc, connected, active)
 }
 
-/// The next table of a router, from its previous one.
-#[tactic(auto, using(crate::proofs::TableLaws::none_in_order))]
-fn own_table(
+/// The same, from the state before.
+fn own_from(
     alloc: Global,
     router: RouterId,
-    net: &Network,
-    ospf: &[Route],
-    old: &Table,
+    file: &RouterText,
+    state: &State,
 ) -> Result<Table, AllocError>
-    requires { IsTable old.now }
-    ensures value { IfOk result (λ table. table ≡ option_map_or (λ file. spec.table_after router file ospf.now old.now) (router_at net.now router) []) }
+    requires { All IsRouterState state.now }
+    ensures { IfOk result (λ table. table ≡ merging_spec.merged (connected_spec.connected router file.now.interfaces) (static_routes (active_lines router file.now.interfaces (resolved (table_of state.now router)) file.now.static_routes))) }
+{
+    let known = known_at(state, router);
+    match known {
+        Some(known) => own_routes(alloc, router, file, &known.table),
+        None => own_routes(alloc, router, file, &Items::new(alloc)),
+    }
+}
+
+/// Puts the route of a path, where it gives one, at the end of some.
+fn push_learned(routes: &mut Table, path: &BgpPath) -> Result<(), AllocError>
+    ensures { OnOk result (routes.new ≡ routes.old ++ spec.learned_routes (path.now ∷ [])) }
+{
+    let learned = learned_route(path);
+    match learned {
+        Some(route) => routes.push(route),
+        None => Ok(()),
+    }
+}
+
+/// The routes that best paths give.
+fn learned_routes(alloc: Global, paths: &[BgpPath]) -> Result<Table, AllocError>
+    ensures { IfOk result (λ routes. routes ≡ spec.learned_routes paths.now) }
+{
+    let mut routes = Items::new(alloc);
+    for path in paths {
+        push_learned(&mut routes, path)?;
+    }
+    Ok(routes)
+}
+
+/// A table with what best paths give.
+fn with_learned(alloc: Global, table: Table, paths: &[BgpPath]) -> Result<Table, AllocError>
+    ensures { IfOk result (λ made. made ≡ merging_spec.merged table (spec.learned_routes paths.now)) }
+{
+    let learned = learned_routes(alloc, paths)?;
+    merged(alloc, table, learned)
+}
+
+/// Routes again.
+fn copied(alloc: Global, routes: &[Route]) -> Result<Table, AllocError>
+    ensures { IfOk result (λ copied. copied ≡ routes.now) }
+{
+    let mut copied = Items::new(alloc);
+    for route in routes {
+        copied.push(route.copy(alloc)?)?;
+    }
+    Ok(copied)
+}
+
+/// A table with the OSPF routes of a router inside and between areas.
+fn with_internal(
+    alloc: Global,
+    table: Table,
+    internal: &Internal,
+    router: RouterId,
+) -> Result<Table, AllocError>
+    requires { All IsTable internal.now.routes }
+    ensures { IfOk result (λ made. made ≡ merging_spec.merged table (spec.routes_of internal.now router)) }
+{
+    let routes = copied(alloc, routes_of(internal, router))?;
+    merged(alloc, table, routes)
+}
+
+/// A table with the OSPF routes of a router from outside of the AS.
+fn with_outside(
+    alloc: Global,
+    table: Table,
+    inputs: &Inputs<'_>,
+    router: RouterId,
+) -> Result<Table, AllocError>
+    requires { AreInputs inputs.now }
+    ensures { IfOk result (λ made. made ≡ merging_spec.merged table (spec.to_others (spec.own_of inputs.now.internal.now router) (external_routes inputs.now.internal.now inputs.now.externals.now router))) }
+{
+    let routes = outside_routes(alloc, inputs.internal, inputs.externals, router)?;
+    merged(alloc, table, routes)
+}
+
+/// The next table of a router of this file that has these best paths.
+fn table_beside(
+    alloc: Global,
+    inputs: &Inputs<'_>,
+    router: RouterId,
+    file: &RouterText,
+    paths: &[BgpPath],
+) -> Result<Table, AllocError>
+    requires inputs { AreInputs inputs.now }
+    requires paths { IsPathList paths.now }
+    ensures value { IfOk result (λ table. table ≡ spec.table_after router file.now (spec.learned_routes paths.now) (spec.ospf_routes inputs.now.internal.now inputs.now.externals.now router) (table_of inputs.now.previous.now router)) }
     ensures in_order { IfOk result IsTable }
 {
-    let found = net.router_at(router);
+    let table = own_from(alloc, router, file, inputs.previous)?;
+    let table = with_learned(alloc, table, paths)?;
+    let table = with_internal(alloc, table, inputs.internal, router)?;
+    with_outside(alloc, table, inputs, router)
+}
+
+/// What a router of this file knows after a round, made anew.
+fn made(
+    alloc: Global,
+    inputs: &Inputs<'_>,
+    router: RouterId,
+    file: &RouterText,
+) -> Result<RouterState, AllocError>
+    requires { AreInputs inputs.now }
+    ensures next { IfOk result (λ s. s ≡ spec.router_after inputs.now.network.now inputs.now.internal.now inputs.now.previous.now router file.now) }
+    ensures in_order { IfOk result IsRouterState }
+{
+    let paths = best_paths(
+        alloc,
+        inputs.network,
+        inputs.sessions,
+        inputs.previous,
+        router,
+    )?;
+    let table = table_beside(alloc, inputs, router, file, paths.as_slice())?;
+    Ok(RouterState { table, paths })
+}
+
+/// What a router knows after a round, made anew.
+fn anew(alloc: Global, inputs: &Inputs<'_>, router: RouterId) -> Result<RouterState, AllocError>
+    requires { AreInputs inputs.now }
+    ensures next { IfOk result (λ s. s ≡ spec.next_router inputs.now.network.now inputs.now.internal.now inputs.now.previous.now router) }
+    ensures in_order { IfOk result IsRouterState }
+{
+    let found = inputs.network.router_at(router);
     match found {
-        Some(file) => file_table(alloc, router, file, ospf, old),
-        None => Ok(Items::new(alloc)),
+        Some(file) => made(alloc, inputs, router, file),
+        None => Ok(RouterState {
+            table: Items::new(alloc),
+            paths: Items::new(alloc),
+        }),
     }
 }
 
@@ -96,54 +214,9 @@ fn known_at(state: &State, router: RouterId) -> Option<&RouterState>
     state.as_slice().get(router.index())
 }
 
-/// The next table of a router, from the state before.
-#[tactic(auto, using(crate::proofs::TableLaws::none_in_order))]
-fn next_table(
-    alloc: Global,
-    router: RouterId,
-    net: &Network,
-    ospf: &[Route],
-    state: &State,
-) -> Result<Table, AllocError>
-    requires { All IsRouterState state.now }
-    ensures value { IfOk result (λ table. table ≡ option_map_or (λ file. spec.table_after router file ospf.now (spec.table_of state.now router)) (router_at net.now router) []) }
-    ensures in_order { IfOk result IsTable }
-{
-    let known = known_at(state, router);
-    match known {
-        Some(known) => own_table(alloc, router, net, ospf, &known.table),
-        None => own_table(alloc, router, net, ospf, &Items::new(alloc)),
-    }
-}
-
-/// The OSPF routes of a router, of which it has none past the end.
-fn ospf_routes(internal: &Internal, router: RouterId) -> &[Route]
-    ensures { result.now ≡ spec.routes_of internal.now.routes router }
-{
-    let found = internal.routes.as_slice().get(router.index());
-    match found {
-        Some(routes) => routes.as_slice(),
-        None => &[],
-    }
-}
-
-/// What a router knows after a round, made anew.
-fn anew(alloc: Global, inputs: &Inputs<'_>, router: RouterId) -> Result<RouterState, AllocError>
-    requires { All IsRouterState inputs.now.previous.now }
-    ensures next { IfOk result (λ s. s ≡ spec.next_router inputs.now.network.now inputs.now.internal.now inputs.now.previous.now router) }
-    ensures in_order { IfOk result IsRouterState }
-{
-    let ospf = ospf_routes(inputs.internal, router);
-    let table = next_table(alloc, router, inputs.network, ospf, inputs.previous)?;
-    Ok(RouterState {
-        table,
-        paths: Items::new(alloc),
-    })
-}
-
-/// Whether a router has no line `ip route`, so that its table reads no other.
-fn reads_no_table(net: &Network, router: RouterId) -> bool
-    ensures { IsTrue result → ReadsNoTable net.now router }
+/// Whether a router has no line `ip route`.
+fn has_no_lines(net: &Network, router: RouterId) -> bool
+    ensures { IsTrue result → HasNoLines net.now router }
 {
     let found = net.router_at(router);
     match found {
@@ -152,20 +225,60 @@ fn reads_no_table(net: &Network, router: RouterId) -> bool
     }
 }
 
-/// What a router knows in a state, where the table that it reads, if any, is that of a state before.
-fn unchanged<'a>(
-    net: &Network,
-    state: &'a State,
-    before: &State,
-    router: RouterId,
-) -> Option<&'a RouterState>
-    ensures { IfSome result (λ s. IsUnchanged net.now state.now before.now router s.now) }
+/// Whether a router has no BGP process.
+fn has_no_process(net: &Network, router: RouterId) -> bool
+    ensures { IsTrue result → IfSome (router_at net.now router) (λ file. file.bgp ≡ None) }
 {
-    let known = known_at(state, router)?;
-    if reads_no_table(net, router) {
+    let found = net.router_at(router);
+    match found {
+        Some(file) => file.bgp.is_none(),
+        None => true,
+    }
+}
+
+/// Whether there is no session to a router.
+fn has_no_sessions(sessions: &Sessions, router: RouterId) -> bool
+    ensures { IsTrue result → sessions_of sessions.now router ≡ [] }
+{
+    let found = sessions.as_slice().get(router.index());
+    match found {
+        Some(sessions) => sessions.is_empty(),
+        None => true,
+    }
+}
+
+/// Whether a router has no path to an AS boundary router.
+fn has_no_boundaries(internal: &Internal, router: RouterId) -> bool
+    ensures { IsTrue result → boundaries_of internal.now router ≡ [] }
+{
+    let found = internal.boundaries.as_slice().get(router.index());
+    match found {
+        Some(boundaries) => boundaries.is_empty(),
+        None => true,
+    }
+}
+
+/// Whether what other routers know changes nothing for this one.
+fn reads_no_others(inputs: &Inputs<'_>, router: RouterId) -> bool
+    ensures { IsTrue result → ReadsNoOthers inputs.now.network.now inputs.now.internal.now inputs.now.sessions.now router }
+{
+    has_no_process(inputs.network, router)
+        && has_no_sessions(inputs.sessions, router)
+        && has_no_boundaries(inputs.internal, router)
+}
+
+/// What a router knows in the state before, where it reads at most its own table, and that is the one of a state earlier yet.
+fn unchanged<'a>(inputs: &Inputs<'a>, earlier: &State, router: RouterId) -> Option<&'a RouterState>
+    ensures { IfSome result (λ s. IsUnchanged inputs.now.network.now inputs.now.internal.now inputs.now.sessions.now inputs.now.previous.now earlier.now router s.now) }
+{
+    if !reads_no_others(inputs, router) {
+        return None;
+    }
+    let known = known_at(inputs.previous, router)?;
+    if has_no_lines(inputs.network, router) {
         return Some(known);
     }
-    let old = known_at(before, router)?;
+    let old = known_at(earlier, router)?;
     if same_table(&known.table, &old.table) {
         Some(known)
     } else {
@@ -175,18 +288,17 @@ fn unchanged<'a>(
 
 /// What a router knows after a round in which all routers read these inputs: its table, and its best BGP paths.
 ///
-/// Its connected routes, its static routes that its previous table makes active, and its OSPF routes; for each prefix the least
-/// administrative distance wins, and at one distance the source that stands first. A router that reads what it read a round
-/// earlier knows the same again, and nothing is made anew for it. It errs only where memory runs out.
+/// Its connected routes, its static routes that its previous table makes active, and its routes by BGP and by OSPF; for each prefix
+/// the least administrative distance wins, and at one distance the source that stands first. A router that reads no more than its
+/// own table, and reads what it read a round earlier, knows the same again, and nothing is made anew for it. It errs only where
+/// memory runs out.
 pub fn table(
     alloc: Global,
     inputs: &Inputs<'_>,
     router: RouterId,
 ) -> Result<RouterState, AllocError>
-    requires lawful { IsLawful inputs.now.network.now }
+    requires inputs { AreInputs inputs.now }
     requires router { IsRouter inputs.now.network.now router }
-    requires state { IsStateOf (length inputs.now.network.now.routers) inputs.now.previous.now }
-    requires earlier { IfSome inputs.now.earlier (λ old. inputs.now.previous.now ≡ spec.next_state inputs.now.network.now inputs.now.internal.now old.now) }
     ensures next { IfOk result (λ s. s ≡ spec.next_router inputs.now.network.now inputs.now.internal.now inputs.now.previous.now router) }
     ensures in_order { IfOk result IsRouterState }
 {
@@ -194,7 +306,7 @@ pub fn table(
     match earlier {
         None => anew(alloc, inputs, router),
         Some(earlier) => {
-            let known = unchanged(inputs.network, inputs.previous, earlier, router);
+            let known = unchanged(inputs, earlier, router);
             match known {
                 Some(known) => copy(alloc, known),
                 None => anew(alloc, inputs, router),

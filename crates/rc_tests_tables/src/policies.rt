@@ -1,4 +1,5 @@
 //! Lists and maps as they stand in a configuration, tried by routes.
+use rc_as_path::AsPath;
 use rc_base::{Addr, Communities, Items, Name, Origin, Prefix};
 use rc_config::{
     AccessList, AccessListKind, AccessListLine, Action, AddressTest, CommunityLine, CommunityList,
@@ -13,9 +14,8 @@ const FIRST: u32 = 4259840001;
 
 const SECOND: u32 = 4259840002;
 
-fn numbers(alloc: Global, numbers: &[u32]) -> Result<Items<u32>, AllocError> {
-    let numbers = Vec::from_slice(alloc, numbers)?;
-    Ok(Items::from_vec(numbers))
+fn path(alloc: Global, numbers: &[u32]) -> Result<AsPath, AllocError> {
+    AsPath::empty().prepend_all(alloc, numbers)
 }
 
 fn communities(alloc: Global, numbers: &[u32]) -> Result<Communities, AllocError> {
@@ -31,7 +31,7 @@ fn route(alloc: Global, prefix: Prefix, has: &[u32]) -> Result<Attrs, AllocError
         local_preference: 100,
         weight: 0,
         origin: Origin::Igp,
-        as_path: numbers(alloc, &[65003])?,
+        as_path: path(alloc, &[65003])?,
         communities: communities(alloc, has)?,
     })
 }
@@ -138,7 +138,7 @@ fn adding(alloc: Global) -> Result<MapLine, AllocError> {
 
 /// `set as-path prepend 65001 65001`
 fn prepending(alloc: Global) -> Result<MapLine, AllocError> {
-    let numbers = numbers(alloc, &[65001, 65001])?;
+    let numbers = Items::from_vec(Vec::from_slice(alloc, &[65001, 65001])?);
     Ok(MapLine::Set(SetLine::Prepend(numbers)))
 }
 
@@ -165,7 +165,7 @@ fn applied(
 /// The route with both communities behind two more AS numbers.
 fn wanted(alloc: Global, prefix: Prefix) -> Result<Option<Attrs>, AllocError> {
     let mut made = route(alloc, prefix, &[FIRST, SECOND])?;
-    made.as_path = numbers(alloc, &[65001, 65001, 65003])?;
+    made.as_path = path(alloc, &[65001, 65001, 65003])?;
     Ok(Some(made))
 }
 

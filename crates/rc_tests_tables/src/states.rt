@@ -1,6 +1,7 @@
 //! States that differ in one field, copies, and the orders of hops and sources.
 ghost use Rattle.std.specs.Prelude.{◌≡◌, ◌≤◌, ◌∷◌, ◌++◌, [], IfOk};
 
+use rc_as_path::AsPath;
 use rc_base::{Addr, Communities, IfId, Items, Origin, Prefix, RouterId};
 use rc_route::{
     BgpPath, Hop, Hops, PathSource, Route, RouterState, Source, State, Table, compare_hops,
@@ -77,28 +78,29 @@ fn route_at(alloc: Global, changed: usize) -> Result<Route, Fail> {
 
 /// A path whose fields are all 1 but the one that is changed, from 5 to 17.
 fn path_at(alloc: Global, changed: usize) -> Result<BgpPath, Fail> {
+    let numbers = numbers_at(alloc, 11, changed)?;
     Ok(BgpPath {
         prefix: prefix_at(5, changed)?,
         next_hop: addr_at(6, changed),
         med: u32::from(value_at(7, changed)),
         local_preference: u32::from(value_at(8, changed)),
         weight: u32::from(value_at(9, changed)),
+        sender_id: addr_at(15, changed),
+        neighbor: addr_at(16, changed),
+        igp_metric: u32::from(value_at(17, changed)),
         origin: if changed == 10 {
             Origin::Egp
         } else {
             Origin::Igp
         },
-        as_path: Items::from_vec(numbers_at(alloc, 11, changed)?),
-        communities: Communities::of(numbers_at(alloc, 12, changed)?)?,
         source: if changed == 13 {
             PathSource::Internal
         } else {
             PathSource::External
         },
         sender: RouterId::at(usize::from(value_at(14, changed))),
-        sender_id: addr_at(15, changed),
-        neighbor: addr_at(16, changed),
-        igp_metric: u32::from(value_at(17, changed)),
+        communities: Communities::of(numbers_at(alloc, 12, changed)?)?,
+        as_path: AsPath::empty().prepend_all(alloc, numbers.as_slice())?,
     })
 }
 

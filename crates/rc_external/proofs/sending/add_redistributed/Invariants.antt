@@ -5,4 +5,5 @@ use Rattle.rc_external.proofs.sending.add_redistributed.Given as goal
 
 abbrev pub invariant-loop-route : goal.invariant-loop-route
 invariant-loop-route l =
-    l.all ++ filter_map (redistributed l.router l.file l.process) (drop l.route-index l.table) ≡ l.initial.all ++ filter_map (redistributed l.router l.file l.process) l.table
+    l.all ++ filter_map (redistributed l.router l.file l.process l.known.paths) (drop l.route-index l.known.table)
+    ≡ l.initial.all ++ filter_map (redistributed l.router l.file l.process l.known.paths) l.known.table

@@ -1,5 +1,5 @@
-use Rattle.rc_rib.proofs.TableLaws.{both_in_order}
+use Rattle.rc_rib.proofs.TableLaws.{both_in_order, none_in_order}
 use Rattle.rc_rib.proofs.next.anew.Goals as goal
 
-pub returns-clause-in_order : goal.returns-clause-in_order
-returns-clause-in_order c = both_in_order _ c.in_ok-table.ensures.in_order c.new.ensures
+pub returns-in-None-clause-in_order : goal.returns-in-None-clause-in_order
+returns-in-None-clause-in_order c = both_in_order _ (none_in_order c.new.result c.new.ensures) c.new-in-None.ensures

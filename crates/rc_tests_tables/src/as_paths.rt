@@ -1,0 +1,72 @@
+//! AS paths that share their tails.
+use rc_as_path::AsPath;
+use std::alloc::{AllocError, Global};
+use std::process::Abort;
+use std::test::Fail;
+
+fn path(alloc: Global, numbers: &[u32]) -> Result<AsPath, AllocError> {
+    AsPath::empty().prepend_all(alloc, numbers)
+}
+
+/// Asserts what is told of the path 65001 65002 65001.
+fn check_told(rt: &impl Abort, path: &AsPath) {
+    assert!(rt; path.len() == 3);
+    assert!(rt; path.first() == Some(65001));
+    assert!(rt; path.holds(65002));
+    assert!(rt; !path.holds(65003));
+}
+
+#[test]
+fn a_path_tells_its_numbers(rt: HostRuntime) -> Result<(), Fail> {
+    let short = path(rt.alloc(), &[65002, 65001])?;
+    check_told(&rt, &short.prepend(rt.alloc(), 65001)?);
+    Ok(())
+}
+
+#[test]
+fn the_empty_path_has_no_first(rt: HostRuntime) {
+    let empty = AsPath::empty();
+    assert!(rt; empty.len() == 0);
+    assert!(rt; empty.first().is_none());
+    assert!(rt; !empty.holds(0));
+}
+
+/// Asserts that a path is equal to those that it is to be equal to, and to no others.
+fn check_equal(rt: &impl Abort, one: &AsPath, other: &AsPath, wanted: bool) {
+    assert!(rt; (one == other) == wanted);
+    assert!(rt; (other == one) == wanted);
+}
+
+#[test]
+fn paths_are_equal_by_their_numbers(rt: HostRuntime) -> Result<(), Fail> {
+    let alloc = rt.alloc();
+    let tail = path(alloc, &[65002, 65001])?;
+    let one = tail.prepend(alloc, 65003)?;
+    check_equal(&rt, &one, &path(alloc, &[65003, 65002, 65001])?, true);
+    check_equal(&rt, &one, &one.share()?, true);
+    check_equal(&rt, &one, &tail, false);
+    check_equal(&rt, &one, &path(alloc, &[65003, 65002])?, false);
+    check_equal(&rt, &one, &path(alloc, &[65003, 65002, 65009])?, false);
+    check_equal(&rt, &tail, &AsPath::empty(), false);
+    Ok(())
+}
+
+/// A path of so many numbers.
+fn long_path(alloc: Global, numbers: u32) -> Result<AsPath, AllocError> {
+    let mut path = AsPath::empty();
+    for number in 0..numbers {
+        path = path.prepend(alloc, number)?;
+    }
+    Ok(path)
+}
+
+/// More numbers than a stack would hold calls: none of these calls itself for each number.
+#[test]
+fn a_long_path_is_compared_and_dropped(rt: HostRuntime) -> Result<(), Fail> {
+    let one = long_path(rt.alloc(), 1_000_000)?;
+    let other = long_path(rt.alloc(), 1_000_000)?;
+    check_equal(&rt, &one, &other, true);
+    assert!(rt; !one.holds(1_000_000));
+    assert!(rt; one.len() == 1_000_000);
+    Ok(())
+}
