@@ -32,6 +32,10 @@ fn undefined_lists(rt: HostRuntime) -> Result<(), Fail> {
             "route-map M permit 20\n match community 7\nroute-map M permit 10\n match community 8\n",
             "5: 9",
         ),
+        (
+            "router ospf 1\n redistribute static route-map M\n redistribute static route-map N\n",
+            "6: 9",
+        ),
     ];
     check_all_refused(&rt, &rows)
 }
