@@ -65,3 +65,32 @@ fn redistributed_static_routes(rt: HostRuntime) -> Result<(), Fail> {
 fn default_routes_that_are_sent(rt: HostRuntime) -> Result<(), Fail> {
     check_beside(&rt, &DEFAULT_ROUTES)
 }
+
+/// Area 1, then a border router, area 0, another border router, and area 2 with a boundary router.
+const ROW: [(&str, &str); 4] = [
+    (
+        "a.cfg",
+        "hostname A\ninterface GigabitEthernet0/0\n ip address 10.0.1.1 255.255.255.0\nrouter ospf 1\n network 10.0.0.0 0.255.255.255 area 1\n",
+    ),
+    (
+        "b.cfg",
+        "hostname B\ninterface GigabitEthernet0/0\n ip address 10.0.1.2 255.255.255.0\ninterface GigabitEthernet0/1\n ip address 10.0.2.2 255.255.255.0\nrouter ospf 1\n network 10.0.1.0 0.0.0.255 area 1\n network 10.0.2.0 0.0.0.255 area 0\n",
+    ),
+    (
+        "c.cfg",
+        "hostname C\ninterface GigabitEthernet0/0\n ip address 10.0.2.3 255.255.255.0\ninterface GigabitEthernet0/1\n ip address 10.0.3.3 255.255.255.0\nrouter ospf 1\n network 10.0.2.0 0.0.0.255 area 0\n network 10.0.3.0 0.0.0.255 area 2\n",
+    ),
+    (
+        "d.cfg",
+        "hostname D\ninterface GigabitEthernet0/0\n ip address 10.0.3.4 255.255.255.0\nip route 172.16.0.0 255.255.0.0 Null0\nip route 192.168.7.0 255.255.255.0 Null0\nrouter ospf 1\n redistribute static metric-type 1\n network 10.0.3.0 0.0.0.255 area 2\n",
+    ),
+];
+
+/// The first router's: each interface on the way costs 1, and the metric of type 1 counts with the distance.
+const OF_FIRST: &str =
+    "outcome fixed 3\nrouter A\n10.0.1.0/24 connected 0/0 dev GigabitEthernet0/0\n10.0.2.0/24 ospf-ia 110/2 via 10.0.1.2 dev GigabitEthernet0/0\n10.0.3.0/24 ospf-ia 110/3 via 10.0.1.2 dev GigabitEthernet0/0\n172.16.0.0/16 ospf-e1 110/23 via 10.0.1.2 dev GigabitEthernet0/0\n192.168.7.0/24 ospf-e1 110/23 via 10.0.1.2 dev GigabitEthernet0/0\n";
+
+#[test]
+fn across_areas(rt: HostRuntime) -> Result<(), Fail> {
+    check_line(&rt, &ROW, "routes d --router A", Status::Done, OF_FIRST)
+}
