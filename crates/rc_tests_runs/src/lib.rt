@@ -9,6 +9,8 @@ mod access_lists;
 #[cfg(test)]
 mod answers;
 #[cfg(test)]
+mod externals;
+#[cfg(test)]
 mod faults;
 #[cfg(test)]
 mod gates;
