@@ -17,6 +17,8 @@ mod gates;
 #[cfg(test)]
 mod ospf;
 #[cfg(test)]
+mod ospf_areas;
+#[cfg(test)]
 mod ospf_networks;
 #[cfg(test)]
 mod policies;
