@@ -1,9 +1,9 @@
 -- A command whose values are in range keeps a file's interfaces lawful.
-use Rattle.std.proofs.Common.{◌≡◌, ℕ, Bool, true, false, cond, List, [], ◌∷◌, ◌++◌, Option, Some, None, Result, Ok, Err, OnOk, IsSome, refl, sym, subst, arith}
+use Rattle.std.proofs.Common.{◌≡◌, ℕ, Bool, true, false, not, filter, cond, List, [], ◌∷◌, ◌++◌, Option, Some, None, Result, Ok, Err, OnOk, IsSome, refl, sym, subst, arith}
 use Rattle.std.specs.Prelude.{All, IfSome, unwrap_or}
 use Rattle.std.specs.declared.alloc.AllocError.{AllocError}
 use Rattle.std.specs.Option.{option_map, option_map_or}
-use Rattle.std.proofs.lemmas.List.Elements.{All-nil, All-cons, All-head, All-tail, All-push}
+use Rattle.std.proofs.lemmas.List.Elements.{All-nil, All-cons, All-filter, All-head, All-tail, All-push}
 use Rattle.std.specs.Cmp.Lexicographic.{bytes_decides}
 use Rattle.rc_base.specs.Name.{same_name}
 use Rattle.rc_config.specs.declared.command.Command.{Command}
@@ -17,11 +17,12 @@ use Rattle.rc_config.specs.declared.interface.Direction.TheVariants.{In, Out}
 use Rattle.rc_config.specs.declared.interface.IfAddr.{IfAddr}
 use Rattle.rc_config.specs.declared.interface.Interface.{Interface as Block}
 use Rattle.rc_config.specs.declared.ospf.OspfLine.{OspfLine as OspfRow}
-use Rattle.rc_config.specs.declared.ospf.OspfLine.TheVariants.{RouterId, Network, PassiveDefault, Passive, ReferenceBandwidth}
+use Rattle.rc_config.specs.declared.ospf.OspfLine.TheVariants.{RouterId, Network, PassiveDefault, Passive, ReferenceBandwidth, Stub, Redistribute, DefaultInformation}
 use Rattle.rc_config.specs.declared.ospf.OspfProcess.{OspfProcess}
 use Rattle.rc_config.specs.declared.ospf.OspfSetting.{OspfSetting}
 use Rattle.rc_config.specs.declared.ospf.OspfSetting.TheVariants.{Cost, HelloInterval, DeadInterval, NetworkType, Area}
 use Rattle.rc_config.specs.declared.ospf.OspfSettings.{OspfSettings}
+use Rattle.rc_config.specs.declared.ospf.Redistribution.{Redistribution}
 use Rattle.rc_config.specs.declared.router_text.RouterText.{RouterText}
 use Rattle.rc_config.specs.declared.static_route.StaticRoute.{StaticRoute as Route}
 use Rattle.rc_config.specs.IfType.{type_of}
@@ -30,7 +31,7 @@ use Rattle.rc_config.specs.AccessList.{IsLawfulAccessList, IsLawfulLine}
 use Rattle.rc_config.specs.Interface.{fresh, with_address, with_group}
 use Rattle.rc_config.specs.Lawful.{IsLawfulInterface, HasLawfulInterfaces, HasLawfulRoutes, HasLawfulLists, HasLawfulOspf, HasLawfulBgp, IsDistance, IsInRange, FitsFile}
 use Rattle.rc_config.specs.Lists.{access_list_named, prefix_list_named, with_access_list_line, with_prefix_line}
-use Rattle.rc_config.specs.Ospf.{no_settings, with_setting, with_line as with_ospf_line, IsLawfulOspf, IsLawfulOspfLine, IsLawfulProcess, IsLawfulSetting, IsOspfNumber}
+use Rattle.rc_config.specs.Ospf.{area_of, is_same_source, no_settings, with_redistribution, with_setting, with_line as with_ospf_line, IsLawfulOspf, IsLawfulOspfLine, IsLawfulProcess, IsLawfulSetting, IsOspfNumber, IsRedistribution, IsStubArea}
 use Rattle.rc_config.specs.PrefixList.{IsLawfulLine as IsLawfulPrefixLine, IsLawfulList as IsLawfulPrefixList}
 use Rattle.rc_config.specs.RouteMap.{IsLawfulMap}
 use Rattle.rc_config.specs.declared.access_list.AccessListLine.{AccessListLine as AccessListRow}
@@ -41,6 +42,7 @@ use Rattle.rc_config.specs.Named.{named, with_value}
 use Rattle.rc_config.specs.Update.{after, bgp_opened, interface_named, ospf_opened, route_map_named}
 use Rattle.rc_config.proofs.ByNumberLaws.{placed_in_order}
 use Rattle.rc_config.proofs.AccessListLaws.{no_lines_lawful, placed_lawful}
+use Rattle.rc_config.proofs.ByNumberLaws.{placed-All}
 use Rattle.rc_config.proofs.PolicyLaws.{line_lawful as prefix_line_lawful, map_line_lawful, no_entries_lawful, no_lines_lawful as no_prefix_lines_lawful, opened_lawful}
 
 module _ {V : Type 0} (P : List ℕ → V → Type 0) where
@@ -157,15 +159,33 @@ after-routes r (BgpOpened asn) h k = h
 after-routes r (BgpLine line) h k = h
 
 -- and its OSPF process
+redistributed-lawful : (known : List Redistribution) (line : Redistribution) → All IsRedistribution known → IsRedistribution line → All IsRedistribution (with_redistribution known line)
+redistributed-lawful known line h k =
+    All-push IsRedistribution (filter (λ (other : Redistribution). not (is_same_source other.source line.source)) known) line
+    (All-filter (λ (other : Redistribution). not (is_same_source other.source line.source)) IsRedistribution known h) k
+
 process-lawful : (p : OspfProcess) (line : OspfRow) → IsLawfulProcess p → IsLawfulOspfLine line → IsLawfulProcess (with_ospf_line p line)
-process-lawful p (RouterId id) h k = record { process = h.process; reference_bandwidth = h.reference_bandwidth }
-process-lawful p (Network network) h k = record { process = h.process; reference_bandwidth = h.reference_bandwidth }
-process-lawful p PassiveDefault h k = record { process = h.process; reference_bandwidth = h.reference_bandwidth }
-process-lawful p (Passive interface passive) h k = record { process = h.process; reference_bandwidth = h.reference_bandwidth }
-process-lawful p (ReferenceBandwidth mbits) h k = record { process = h.process; reference_bandwidth = k }
+process-lawful p (RouterId id) h k = record { process = h.process; reference_bandwidth = h.reference_bandwidth; stub_areas = h.stub_areas; redistributions = h.redistributions }
+process-lawful p (Network network) h k = record { process = h.process; reference_bandwidth = h.reference_bandwidth; stub_areas = h.stub_areas; redistributions = h.redistributions }
+process-lawful p PassiveDefault h k = record { process = h.process; reference_bandwidth = h.reference_bandwidth; stub_areas = h.stub_areas; redistributions = h.redistributions }
+process-lawful p (Passive interface passive) h k = record { process = h.process; reference_bandwidth = h.reference_bandwidth; stub_areas = h.stub_areas; redistributions = h.redistributions }
+process-lawful p (ReferenceBandwidth mbits) h k = record { process = h.process; reference_bandwidth = k; stub_areas = h.stub_areas; redistributions = h.redistributions }
+process-lawful p (Stub area) h k = record {
+  process = h.process;
+  reference_bandwidth = h.reference_bandwidth;
+  stub_areas = placed-All area_of IsStubArea area p.stub_areas k h.stub_areas;
+  redistributions = h.redistributions;
+}
+process-lawful p (Redistribute line) h k = record {
+  process = h.process;
+  reference_bandwidth = h.reference_bandwidth;
+  stub_areas = h.stub_areas;
+  redistributions = redistributed-lawful p.redistributions line h.redistributions k;
+}
+process-lawful p (DefaultInformation line) h k = record { process = h.process; reference_bandwidth = h.reference_bandwidth; stub_areas = h.stub_areas; redistributions = h.redistributions }
 
 opened-lawful : (ospf : Option OspfProcess) (n : ℕ) → IfSome ospf IsLawfulProcess → IsOspfNumber n → IsLawfulProcess (ospf_opened ospf n)
-opened-lawful None n h k = record { process = k; reference_bandwidth = (omega arith, omega arith) }
+opened-lawful None n h k = record { process = k; reference_bandwidth = (omega arith, omega arith); stub_areas = All-nil IsStubArea; redistributions = All-nil IsRedistribution }
 opened-lawful (Some p) n h k = h
 
 lined-lawful : (ospf : Option OspfProcess) (line : OspfRow) → IfSome ospf IsLawfulProcess → IsLawfulOspfLine line → IfSome (option_map (λ p. with_ospf_line p line) ospf) IsLawfulProcess

@@ -67,7 +67,12 @@ pub other_lines :
     × IsDecided block.RouteMap (codes " set tag 3") (Some Ignored)
     × IsDecided block.Ospf (codes " passive-interface default") (Some (Form form.PassiveInterfaceDefault))
     × IsDecided block.Ospf (codes " redistribute rip") (Some Refused)
-    × IsDecided block.Ospf (codes " redistribute static subnets") (Some (Later form.OspfRedistributeStatic))
+    × IsDecided block.Ospf (codes " redistribute static subnets") (Some (Form form.OspfRedistributeStatic))
+    × IsDecided block.Ospf (codes " redistribute bgp 65001") (Some (Later form.OspfRedistributeBgp))
+    × IsDecided block.Ospf (codes " area 0.0.0.1 stub no-summary") (Some (Form form.StubArea))
+    × IsDecided block.Ospf (codes " area stub") (Some Refused)
+    × IsDecided block.Ospf (codes " default-information originate always") (Some (Form form.DefaultInformationOriginate))
+    × IsDecided block.Ospf (codes " default-information") (Some Refused)
     × IsDecided block.Ospf (codes " area 1 range 10.0.0.0 255.0.0.0") (Some Refused)
     × IsDecided block.Ospf (codes " no passive-interface default") (Some (Form form.NoPassiveInterface))
     × IsDecided block.Ospf (codes " no auto-cost") (Some Ignored)
@@ -83,7 +88,7 @@ pub other_lines :
     × IsDecided block.Ignored (codes " anything at all") (Some Ignored)
     × IsDecided block.Closed (codes " ip address 10.0.0.1 255.0.0.0") None
 unfolding decisive_row access_list access_list_forms access_list_refused access_list_ignored route_map route_map_forms route_map_refused route_map_ignored ospf ospf_forms ospf_refused ospf_ignored bgp bgp_forms bgp_refused bgp_ignored words_of
-other_lines = (refl, refl, refl, refl, refl, refl, refl, refl, refl, refl, refl, refl, refl, refl, refl, refl, refl, refl, refl, refl, refl, refl)
+other_lines = (refl, refl, refl, refl, refl, refl, refl, refl, refl, refl, refl, refl, refl, refl, refl, refl, refl, refl, refl, refl, refl, refl, refl, refl, refl, refl, refl)
 
 -- forms of every block count, also those that are not read yet; openings that only ever refuse do not
 pub unopened_lines :
