@@ -14,3 +14,4 @@ pub mod Nets
 pub mod SessionRows
 pub mod PassingRows
 pub mod CandidateRows
+pub mod RedistributionRows
