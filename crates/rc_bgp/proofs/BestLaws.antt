@@ -1,22 +1,25 @@
 -- The best paths are in order of prefix: each candidate has the prefix for which it is one.
-use Rattle.std.proofs.Common.{refl, ◌≡◌, ap, sym, subst, ◌∙◌, ℕ, zero, suc, ◌==◌, Bool, true, false, not, cond, ◌||◌, List, [], ◌∷◌, ◌++◌, Option, Some, None, option_and_then}
+use Rattle.std.proofs.Common.{refl, ◌≡◌, ap, sym, subst, ◌∙◌, ℕ, zero, suc, ◌==◌, Bool, true, false, not, cond, ◌||◌, List, [], ◌∷◌, ◌++◌, All, Option, Some, None, option_and_then}
 use Rattle.std.specs.Prelude.{slice_get}
 use Rattle.std.specs.List.{AllByRecursion, cons_option, filter_map, find, flat_map, fold, list_any}
 use Rattle.std.specs.List.Sorted.{IsStrictlySortedBy}
 use Rattle.std.specs.Option.{option_map, option_or, option_to_list}
 use Rattle.std.specs.BTreeSet.{insert_key}
+use Rattle.std.proofs.lemmas.List.Elements.{All-from_recursion}
 use Rattle.std.proofs.lemmas.List.Sums.{fold-append}
 use Rattle.rc_base.specs.Prefix.{Cidr, prefix_cmp, same_prefix}
 use Rattle.rc_base.proofs.OrderedLaws.{in_order-sorted, prefix_cmp_total, same_by_prefix_cmp}
 use Rattle.rc_bgp_decide.specs.Decision.{best_path, best_place}
 use Rattle.rc_bgp_decide.proofs.DecisionLaws.{best_path_at_place}
-use Rattle.rc_base.specs.declared.origin.Origin.TheVariants.{Igp}
+use Rattle.rc_base.specs.declared.origin.Origin.TheVariants.{Igp, Incomplete}
 use Rattle.rc_config.specs.Bgp.{address_of}
 use Rattle.rc_config.specs.ByNumber.{with_number}
 use Rattle.rc_config.specs.Members.{router_at}
 use Rattle.rc_config.specs.Named.{named}
 use Rattle.rc_config.specs.declared.bgp.BgpProcess.{BgpProcess}
+use Rattle.rc_config.specs.declared.bgp.BgpRedistribution.{BgpRedistribution}
 use Rattle.rc_config.specs.declared.bgp.Neighbor.{Neighbor}
+use Rattle.rc_config.specs.declared.bgp.OspfKinds.{OspfKinds}
 use Rattle.rc_config.specs.declared.network.Network.{Network}
 use Rattle.rc_config.specs.declared.route_map.Mention.{Mention}
 use Rattle.rc_config.specs.declared.route_map.RouteMap.{RouteMap}
@@ -26,16 +29,18 @@ use Rattle.rc_policy.specs.declared.attrs.Attrs.{Attrs}
 use Rattle.rc_route.specs.declared.path.BgpPath.{BgpPath}
 use Rattle.rc_route.specs.declared.route.Route.{Route}
 use Rattle.rc_route.specs.declared.state.RouterState.{RouterState}
+use Rattle.rc_route.specs.declared.path.PathSource.{PathSource}
 use Rattle.rc_route.specs.declared.path.PathSource.TheVariants.{Network as ByNetwork}
-use Rattle.rc_route.specs.Tables.{IsPathList}
-use Rattle.rc_topology.proofs.ListLaws.{found_passes}
+use Rattle.rc_route.specs.Tables.{IsPathList, IsTable}
+use Rattle.rc_topology.proofs.ListLaws.{all_append, found_passes}
 use Rattle.rc_bgp.specs.Known.{path_at, paths_of, route_at}
 use Rattle.rc_bgp.specs.Originating.{by_network, by_networks, from_route, is_bgp, originated}
+use Rattle.rc_bgp.specs.Redistributing.{med_of, redistributed, redistributed_paths, takes}
 use Rattle.rc_bgp.specs.Passing.{ask, as_sent, as_received, attrs_of, default_path, default_prefix, exported, export, imported, import, is_withheld, mapped, mapped_by, originated_default, passes_list, with_attrs, with_med}
 use Rattle.rc_bgp.specs.Reaching.{metric_to}
-use Rattle.rc_bgp.specs.Candidates.{advertised, advertised_best, advertised_default, best_among, candidates_at, heard, prefixes_of, prefixes_seen, reachable, sender_prefixes}
+use Rattle.rc_bgp.specs.Candidates.{advertised, advertised_best, advertised_default, best_among, candidates_at, heard, own_at, prefixes_of, prefixes_seen, reachable, sender_prefixes}
 use Rattle.rc_bgp.specs.declared.session.Session.{Session}
-use Rattle.rc_bgp.proofs.PrefixLaws.{made_in_order, same_is}
+use Rattle.rc_bgp.proofs.PrefixLaws.{made_from, made_in_order, same_is}
 
 at_index : {X : Type 0} (P : X → Type 0) (xs : List X) (i : ℕ) (x : X) → AllByRecursion P xs → slice_get xs i ≡ Some x → P x
 at_index P [] i x all found = absurd (cc)
@@ -143,8 +148,8 @@ module _ (net : Network) (old : List RouterState) where
       then_has p (reachable table) (reachable_has p table) (option_and_then (import net s) (advertised net old s p))
       (then_has p (import net s) (λ x is. ask_has p net s.receiver s.sender_address (λ file asn n. imported file asn n s x) (imported_has p s x is)) (advertised net old s p) (advertised_has p s))
 
-  candidates_have : (p : Cidr) (table : List Route) (own : List BgpPath) (sessions : List Session) → AllByRecursion (λ (x : BgpPath). x.prefix ≡ p) (candidates_at net old table own sessions p)
-  candidates_have p table own sessions = first (path_at own p) (at_has p own)
+  candidates_have : (p : Cidr) (table : List Route) (own : List (List BgpPath)) (sessions : List Session) → AllByRecursion (λ (x : BgpPath). x.prefix ≡ p) (candidates_at net old table own sessions p)
+  candidates_have p table own sessions = all_append (λ (x : BgpPath). x.prefix ≡ p) (own_at own p) (filter_map (λ s. heard net old table s p) sessions) (own_all own) (heard_all sessions)
     where
       heard_all : (ss : List Session) → AllByRecursion (λ (x : BgpPath). x.prefix ≡ p) (filter_map (λ s. heard net old table s p) ss)
       heard_all [] = tt
@@ -154,11 +159,15 @@ module _ (net : Network) (old : List RouterState) where
           by None has rest = rest
           by (Some x) has rest = (has x refl, rest)
 
-      first : (o : Option BgpPath) → Has p o → AllByRecursion (λ (x : BgpPath). x.prefix ≡ p) (option_to_list o ++ filter_map (λ s. heard net old table s p) sessions)
-      first None has = heard_all sessions
-      first (Some x) has = (has x refl, heard_all sessions)
+      own_all : (all : List (List BgpPath)) → AllByRecursion (λ (x : BgpPath). x.prefix ≡ p) (own_at all p)
+      own_all [] = tt
+      own_all (paths ∷ rest) = by (path_at paths p) (at_has p paths) (own_all rest)
+        where
+          by : (o : Option BgpPath) → Has p o → AllByRecursion (λ (x : BgpPath). x.prefix ≡ p) (own_at rest p) → AllByRecursion (λ (x : BgpPath). x.prefix ≡ p) (cons_option o (own_at rest p))
+          by None has all = all
+          by (Some x) has all = (has x refl, all)
 
-  among_has : (p : Cidr) (table : List Route) (own : List BgpPath) (sessions : List Session) → Has p (best_among net old table own sessions p)
+  among_has : (p : Cidr) (table : List Route) (own : List (List BgpPath)) (sessions : List Session) → Has p (best_among net old table own sessions p)
   among_has p table own sessions x e =
       let paths = candidates_at net old table own sessions p in
       by paths (best_place paths) (candidates_have p table own sessions) (sym (best_path_at_place paths) ∙ e)
@@ -168,10 +177,10 @@ module _ (net : Network) (old : List RouterState) where
       by paths (Some i) all found = at_index (λ (y : BgpPath). y.prefix ≡ p) paths i x all found
 
   -- the best paths of prefixes in order are in order
-  pub best_in_order : (table : List Route) (own : List BgpPath) (sessions : List Session) (paths : List BgpPath) → paths ≡ filter_map (best_among net old table own sessions) (prefixes_seen old own sessions) → IsPathList paths
+  pub best_in_order : (table : List Route) (own : List (List BgpPath)) (sessions : List Session) (paths : List BgpPath) → paths ≡ filter_map (best_among net old table own sessions) (prefixes_seen old own sessions) → IsPathList paths
   best_in_order table own sessions paths is = subst IsPathList (sym is)
       (made_in_order (λ (x : BgpPath). x.prefix) (best_among net old table own sessions) (λ p. among_has p table own sessions) (prefixes_seen old own sessions)
-      (in_order-sorted prefix_cmp prefix_cmp_total (default_prefix ∷ (prefixes_of own ++ flat_map (sender_prefixes old) sessions))))
+      (in_order-sorted prefix_cmp prefix_cmp_total (default_prefix ∷ (flat_map prefixes_of own ++ flat_map (sender_prefixes old) sessions))))
 
 -- ---- own paths
 
@@ -182,17 +191,35 @@ by_network_has r table p = by (route_at table p)
     by None = none_has p
     by (Some x) = either_has p (is_bgp x.source) None (Some (originated r ByNetwork Igp x.metric p)) (none_has p) (some_has p (originated r ByNetwork Igp x.metric p) refl)
 
-pub own_in_order : (r : ℕ) (table : List Route) (networks : List Cidr) (paths : List BgpPath) → paths ≡ by_networks r table networks → IsPathList paths
-own_in_order r table networks paths is = subst IsPathList (sym is)
+pub networks_in_order : (r : ℕ) (table : List Route) (networks : List Cidr) (paths : List BgpPath) → paths ≡ by_networks r table networks → IsPathList paths
+networks_in_order r table networks paths is = subst IsPathList (sym is)
     (made_in_order (λ (x : BgpPath). x.prefix) (by_network r table) (by_network_has r table) _ (in_order-sorted prefix_cmp prefix_cmp_total networks))
+
+-- redistributed paths stand as the routes do
+redistributed_has : (r : ℕ) (file : RouterText) (source : PathSource) (k : OspfKinds) (prefixes : List Cidr) (line : BgpRedistribution) (x : Route) → Has x.prefix (redistributed r file source k prefixes line x)
+redistributed_has r file source k prefixes line x =
+    either_has x.prefix (not (takes source k prefixes x)) None _ (none_has x.prefix)
+    (either_has x.prefix (same_prefix x.prefix default_prefix) None _ (none_has x.prefix)
+    (map_has x.prefix file line.route_map (originated r source Incomplete (med_of line x) x.prefix) refl))
+
+pub redistributed_in_order : (r : ℕ) (file : RouterText) (source : PathSource) (k : OspfKinds) (prefixes : List Cidr) (table : List Route) (line : BgpRedistribution) (paths : List BgpPath) → IsTable table
+    → paths ≡ redistributed_paths r file source k prefixes table line → IsPathList paths
+redistributed_in_order r file source k prefixes table line paths up is = subst IsPathList (sym is)
+    (made_from (λ (x : Route). x.prefix) (λ (x : BgpPath). x.prefix) (redistributed r file source k prefixes line) (redistributed_has r file source k prefixes line) table up)
+
+pub none_in_order : (own : List (List BgpPath)) → own ≡ [] → All IsPathList own
+none_in_order own is = subst (All IsPathList) (sym is) (All-from_recursion IsPathList [] tt)
+
+pub four_in_order : (own : List (List BgpPath)) (a b c d : List BgpPath) → own ≡ a ∷ b ∷ c ∷ d ∷ [] → IsPathList a → IsPathList b → IsPathList c → IsPathList d → All IsPathList own
+four_in_order own a b c d is p q r s = subst (All IsPathList) (sym is) (All-from_recursion IsPathList (a ∷ b ∷ c ∷ d ∷ []) (p, (q, (r, (s, tt)))))
 
 -- ---- the prefixes seen, part by part
 
-pub seen_in_parts : (old : List RouterState) (own : List BgpPath) (sessions : List Session) (first second last : List Cidr) → first ≡ insert_key prefix_cmp [] default_prefix → second ≡ fold (insert_key prefix_cmp) first (prefixes_of own)
+pub seen_in_parts : (old : List RouterState) (own : List (List BgpPath)) (sessions : List Session) (first second last : List Cidr) → first ≡ insert_key prefix_cmp [] default_prefix → second ≡ fold (insert_key prefix_cmp) first (flat_map prefixes_of own)
     → last ≡ fold (insert_key prefix_cmp) second (flat_map (sender_prefixes old) sessions) → last ≡ prefixes_seen old own sessions
 seen_in_parts old own sessions first second last a b c =
-    c ∙ ap (λ ks. fold (insert_key prefix_cmp) ks (flat_map (sender_prefixes old) sessions)) (b ∙ ap (λ ks. fold (insert_key prefix_cmp) ks (prefixes_of own)) a)
-    ∙ sym (fold-append (insert_key prefix_cmp) (default_prefix ∷ []) (prefixes_of own) (flat_map (sender_prefixes old) sessions))
+    c ∙ ap (λ ks. fold (insert_key prefix_cmp) ks (flat_map (sender_prefixes old) sessions)) (b ∙ ap (λ ks. fold (insert_key prefix_cmp) ks (flat_map prefixes_of own)) a)
+    ∙ sym (fold-append (insert_key prefix_cmp) (default_prefix ∷ []) (flat_map prefixes_of own) (flat_map (sender_prefixes old) sessions))
 
 -- ---- the best by its place
 

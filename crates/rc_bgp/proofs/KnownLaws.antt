@@ -32,3 +32,6 @@ paths_in_order state r paths all is = subst IsPathList (sym is) (lists state r (
 pub nothing_in_order : IsStrictlySortedBy prefix_cmp []
 unfolding IsStrictlySortedBy
 nothing_in_order = tt
+
+pub none_listed : (paths : List BgpPath) → paths ≡ [] → IsPathList paths
+none_listed paths is = subst IsPathList (sym is) nothing_in_order

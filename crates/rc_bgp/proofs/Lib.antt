@@ -4,3 +4,4 @@ mod ListLaws
 mod KnownLaws
 mod RangeLaws
 mod BestLaws
+mod WayLaws

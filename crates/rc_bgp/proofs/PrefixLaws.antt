@@ -1,5 +1,5 @@
 -- Things in order of prefix: the one of a prefix is found by bisection, and what is made prefix by prefix is in order.
-use Rattle.std.proofs.Common.{refl, ◌≡◌, ap, sym, ◌∙◌, ℕ, zero, suc, ◌+◌, ◌<◌, ◌≤◌, Bool, true, false, not, cond, List, [], ◌∷◌, length, map, get_or, Option, Some, None, option_and_then, arith}
+use Rattle.std.proofs.Common.{refl, ◌≡◌, ap, sym, subst, ◌∙◌, ℕ, zero, suc, ◌+◌, ◌<◌, ◌≤◌, Bool, true, false, not, cond, List, [], ◌∷◌, length, map, get_or, Option, Some, None, option_and_then, arith}
 use Rattle.std.specs.List.{AllByRecursion, cons_option, filter_map, find}
 use Rattle.std.specs.List.Sorted.{IsStrictlySortedBy, IsPartitionedBy}
 use Rattle.std.specs.Ordering.{is_eq, is_lt, is_some_and, partial_lt, partial_ordering_then, nat_cmp, ordering_reverse, ordering_then}
@@ -107,21 +107,30 @@ module _ {A : Type 0} (prefix_of : A → Cidr) where
   pub nowhere : (p : Cidr) (xs : List A) → IsStrictlySortedBy prefix_cmp (map prefix_of xs) → None ≡ find (λ y. not (is_before prefix_of p y)) xs → None ≡ find (λ y. same_prefix p (prefix_of y)) xs
   nowhere p xs up first = sym (found_first p xs up ∙ ap (option_and_then (if_same p)) (sym first))
 
-  -- ---- what is made prefix by prefix is in order
-  module _ (f : Cidr → Option A) (keeps : (p : Cidr) (x : A) → f p ≡ Some x → prefix_of x ≡ p) where
-    below : (q : Cidr) (ps : List Cidr) → AllByRecursion (λ p. prefix_cmp q p ≡ Less) ps → AllByRecursion (λ p. prefix_cmp q p ≡ Less) (map prefix_of (filter_map f ps))
-    below q [] all = tt
-    below q (p ∷ ps) all = by (f p) refl (below q ps all.1)
-      where
-        by : (o : Option A) → f p ≡ o → AllByRecursion (λ r. prefix_cmp q r ≡ Less) (map prefix_of (filter_map f ps)) → AllByRecursion (λ r. prefix_cmp q r ≡ Less) (map prefix_of (cons_option o (filter_map f ps)))
-        by None e rest = rest
-        by (Some x) e rest = (ap (prefix_cmp q) (keeps p x e) ∙ all.0, rest)
+-- ---- what is made one by one of things in order is in order
 
-    pub made_in_order : (ps : List Cidr) → IsStrictlySortedBy prefix_cmp ps → IsStrictlySortedBy prefix_cmp (map prefix_of (filter_map f ps))
-    unfolding IsStrictlySortedBy
-    made_in_order [] up = tt
-    made_in_order (p ∷ ps) up = by (f p) refl (made_in_order ps up.1)
-      where
-        by : (o : Option A) → f p ≡ o → IsStrictlySortedBy prefix_cmp (map prefix_of (filter_map f ps)) → IsStrictlySortedBy prefix_cmp (map prefix_of (cons_option o (filter_map f ps)))
-        by None e rest = rest
-        by (Some x) e rest = (all-weaker (λ r. prefix_cmp p r ≡ Less) (λ r. prefix_cmp (prefix_of x) r ≡ Less) (λ r less. ap (λ q. prefix_cmp q r) (keeps p x e) ∙ less) (map prefix_of (filter_map f ps)) (below p ps up.0), rest)
+module _ {X A : Type 0} (key : X → Cidr) (prefix_of : A → Cidr) (f : X → Option A) (keeps : (x : X) (a : A) → f x ≡ Some a → prefix_of a ≡ key x) where
+  below : (q : Cidr) (xs : List X) → AllByRecursion (λ p. prefix_cmp q p ≡ Less) (map key xs) → AllByRecursion (λ p. prefix_cmp q p ≡ Less) (map prefix_of (filter_map f xs))
+  below q [] all = tt
+  below q (x ∷ xs) all = by (f x) refl (below q xs all.1)
+    where
+      by : (o : Option A) → f x ≡ o → AllByRecursion (λ r. prefix_cmp q r ≡ Less) (map prefix_of (filter_map f xs)) → AllByRecursion (λ r. prefix_cmp q r ≡ Less) (map prefix_of (cons_option o (filter_map f xs)))
+      by None e rest = rest
+      by (Some a) e rest = (ap (prefix_cmp q) (keeps x a e) ∙ all.0, rest)
+
+  pub made_from : (xs : List X) → IsStrictlySortedBy prefix_cmp (map key xs) → IsStrictlySortedBy prefix_cmp (map prefix_of (filter_map f xs))
+  unfolding IsStrictlySortedBy
+  made_from [] up = tt
+  made_from (x ∷ xs) up = by (f x) refl (made_from xs up.1)
+    where
+      by : (o : Option A) → f x ≡ o → IsStrictlySortedBy prefix_cmp (map prefix_of (filter_map f xs)) → IsStrictlySortedBy prefix_cmp (map prefix_of (cons_option o (filter_map f xs)))
+      by None e rest = rest
+      by (Some a) e rest = (all-weaker (λ r. prefix_cmp (key x) r ≡ Less) (λ r. prefix_cmp (prefix_of a) r ≡ Less) (λ r less. ap (λ q. prefix_cmp q r) (keeps x a e) ∙ less) (map prefix_of (filter_map f xs)) (below (key x) xs up.0), rest)
+
+map_itself : (ps : List Cidr) → map (λ p. p) ps ≡ ps
+map_itself [] = refl
+map_itself (p ∷ ps) = ap (λ t. p ∷ t) (map_itself ps)
+
+-- prefix by prefix
+pub made_in_order : {A : Type 0} (prefix_of : A → Cidr) (f : Cidr → Option A) → ((p : Cidr) (a : A) → f p ≡ Some a → prefix_of a ≡ p) → (ps : List Cidr) → IsStrictlySortedBy prefix_cmp ps → IsStrictlySortedBy prefix_cmp (map prefix_of (filter_map f ps))
+made_in_order prefix_of f keeps ps up = made_from (λ p. p) prefix_of f keeps ps (subst (IsStrictlySortedBy prefix_cmp) (sym (map_itself ps)) up)

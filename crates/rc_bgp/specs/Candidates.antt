@@ -1,7 +1,7 @@
 -- The candidates of a router for each prefix, and the best of them (RFC 4271 s.9.1).
 use Rattle.std.specs.Prelude.{ℕ, Bool, if◌then◌else◌, List, [], ◌∷◌, ◌++◌, map, Option, Some, None, option_and_then}
 use Rattle.std.specs.List.{filter_map, flat_map}
-use Rattle.std.specs.Option.{option_map, option_or, option_to_list}
+use Rattle.std.specs.Option.{option_map, option_or}
 use Rattle.rc_base.specs.Lists.{in_order}
 use Rattle.rc_base.specs.Prefix.{Cidr, prefix_cmp, same_prefix}
 use Rattle.rc_bgp_decide.specs.Decision.{best_path}
@@ -10,7 +10,7 @@ use Rattle.rc_route.specs.declared.path.BgpPath.{BgpPath}
 use Rattle.rc_route.specs.declared.route.Route.{Route}
 use Rattle.rc_route.specs.declared.state.RouterState.{RouterState}
 use Rattle.rc_bgp.specs.Known.{path_at, paths_of, table_of}
-use Rattle.rc_bgp.specs.Originating.{own_paths}
+use Rattle.rc_bgp.specs.Own.{own_paths}
 use Rattle.rc_bgp.specs.Passing.{default_prefix, export, import, originated_default}
 use Rattle.rc_bgp.specs.Reaching.{metric_to}
 use Rattle.rc_bgp.specs.Sessions.{up_sessions}
@@ -24,8 +24,12 @@ abbrev pub sender_prefixes : List RouterState → Session → List Cidr
 sender_prefixes old s = prefixes_of (paths_of old s.sender)
 
 -- the prefixes that may have candidates, by address, then length
-abbrev pub prefixes_seen : List RouterState → List BgpPath → List Session → List Cidr
-prefixes_seen old own sessions = in_order prefix_cmp (default_prefix ∷ (prefixes_of own ++ flat_map (sender_prefixes old) sessions))
+abbrev pub prefixes_seen : List RouterState → List (List BgpPath) → List Session → List Cidr
+prefixes_seen old own sessions = in_order prefix_cmp (default_prefix ∷ (flat_map prefixes_of own ++ flat_map (sender_prefixes old) sessions))
+
+-- the paths that a router originates for a prefix
+abbrev pub own_at : List (List BgpPath) → Cidr → List BgpPath
+own_at own p = filter_map (λ paths. path_at paths p) own
 
 -- a path is a candidate where its next hop resolves (RFC 4271 s.9.1.2), with the metric of the route to it
 abbrev pub reachable : List Route → BgpPath → Option BgpPath
@@ -49,29 +53,29 @@ module _ (net : Network) (old : List RouterState) where
   heard table s p = option_and_then (reachable table) (option_and_then (import net s) (advertised s p))
 
   -- the candidates for a prefix: what the router originates, then what it hears over each session
-  abbrev pub candidates_at : List Route → List BgpPath → List Session → Cidr → List BgpPath
-  candidates_at table own sessions p = option_to_list (path_at own p) ++ filter_map (λ s. heard table s p) sessions
+  abbrev pub candidates_at : List Route → List (List BgpPath) → List Session → Cidr → List BgpPath
+  candidates_at table own sessions p = own_at own p ++ filter_map (λ s. heard table s p) sessions
 
   -- all candidates, by prefix, then sender, then the sender's address; what the router originates stands first
-  abbrev pub all_candidates : List Route → List BgpPath → List Session → List BgpPath
+  abbrev pub all_candidates : List Route → List (List BgpPath) → List Session → List BgpPath
   all_candidates table own sessions = flat_map (candidates_at table own sessions) (prefixes_seen old own sessions)
 
   -- the best path for a prefix
-  abbrev pub best_among : List Route → List BgpPath → List Session → Cidr → Option BgpPath
+  abbrev pub best_among : List Route → List (List BgpPath) → List Session → Cidr → Option BgpPath
   best_among table own sessions p = best_path (candidates_at table own sessions p)
 
   -- the best path of each prefix that has one, by address, then length
-  abbrev pub all_best : List Route → List BgpPath → List Session → List BgpPath
+  abbrev pub all_best : List Route → List (List BgpPath) → List Session → List BgpPath
   all_best table own sessions = filter_map (best_among table own sessions) (prefixes_seen old own sessions)
 
 -- the candidates of a router in a state, from the sessions of the network
 unfoldable pub candidates : Network → List (List Session) → List RouterState → ℕ → List BgpPath
-candidates net sessions old r = all_candidates net old (table_of old r) (own_paths net old r) (up_sessions sessions old r)
+candidates net sessions old r = all_candidates net old (table_of old r) (own_paths net (table_of old r) r) (up_sessions sessions old r)
 
 -- the best path of a router for a prefix, after the state
 abbrev pub best_at : Network → List (List Session) → List RouterState → ℕ → Cidr → Option BgpPath
-best_at net sessions old r p = best_among net old (table_of old r) (own_paths net old r) (up_sessions sessions old r) p
+best_at net sessions old r p = best_among net old (table_of old r) (own_paths net (table_of old r) r) (up_sessions sessions old r) p
 
 -- the best paths of a router after the state
 unfoldable pub best_paths : Network → List (List Session) → List RouterState → ℕ → List BgpPath
-best_paths net sessions old r = all_best net old (table_of old r) (own_paths net old r) (up_sessions sessions old r)
+best_paths net sessions old r = all_best net old (table_of old r) (own_paths net (table_of old r) r) (up_sessions sessions old r)

@@ -3,11 +3,15 @@ pub mod Speakers
 pub mod Sessions
 pub mod Levels
 pub mod Reaching
+pub mod Ways
 pub mod Originating
 pub mod Passing
+pub mod Redistributing
+pub mod Own
 pub mod Candidates
 pub mod Learning
 pub mod Nets
 pub mod SessionRows
 pub mod PassingRows
 pub mod CandidateRows
+pub mod RedistributionRows

@@ -10,14 +10,16 @@ ghost use Rattle.rc_bgp.specs.Candidates as spec;
 
 use crate::hearing::candidates_at;
 use crate::known::{at_path, paths_of, table_of};
-use crate::originating::{listed, own_paths};
+use crate::originating::listed;
+use crate::own_paths::own_paths;
 use crate::passing::default_prefix;
+use crate::resolver::Resolver;
 use crate::up::up_sessions;
 use crate::{Session, Sessions};
 use rc_base::{Items, Prefix, RouterId};
 use rc_bgp_decide::best;
 use rc_config::Network;
-use rc_route::{BgpPath, Route, State};
+use rc_route::{BgpPath, State};
 use std::alloc::{AllocError, Global};
 use std::collections::BTreeSet;
 
@@ -44,16 +46,17 @@ fn best_among(
     alloc: Global,
     net: &Network,
     state: &State,
-    table: &[Route],
-    own: &[BgpPath],
+    resolver: &mut Resolver<'_>,
+    own: &[Items<BgpPath>],
     sessions: &[Session],
     prefix: &Prefix,
 ) -> Result<Option<BgpPath>, AllocError>
     requires state { All IsRouterState state.now }
-    requires own { IsPathList own.now }
-    ensures { IfOk result (λ path. path ≡ spec.best_among net.now state.now table.now own.now sessions.now prefix.now) }
+    requires own { All IsPathList own.now }
+    ensures value { IfOk result (λ path. path ≡ spec.best_among net.now state.now resolver.old own.now sessions.now prefix.now) }
+    ensures same { OnOk result (resolver.new ≡ resolver.old) }
 {
-    let paths = candidates_at(alloc, net, state, table, own, sessions, prefix)?;
+    let paths = candidates_at(alloc, net, state, resolver, own, sessions, prefix)?;
     best_of(alloc, paths.as_slice())
 }
 
@@ -71,6 +74,16 @@ fn add_prefixes(set: &mut BTreeSet<Prefix>, paths: &[BgpPath]) -> Result<(), All
 {
     for path in paths {
         insert(set, path.prefix)?;
+    }
+    Ok(())
+}
+
+/// Puts the prefixes of originated paths into a set.
+fn add_own(set: &mut BTreeSet<Prefix>, own: &[Items<BgpPath>]) -> Result<(), AllocError>
+    ensures { OnOk result (keys set.new ≡ fold (insert_key prefix_cmp) (keys set.old) (flat_map spec.prefixes_of own.now)) }
+{
+    for paths in own {
+        add_prefixes(set, paths.as_slice())?;
     }
     Ok(())
 }
@@ -95,7 +108,7 @@ fn add_senders(
 fn prefixes_seen(
     alloc: Global,
     state: &State,
-    own: &[BgpPath],
+    own: &[Items<BgpPath>],
     sessions: &[Session],
 ) -> Result<Items<Prefix>, AllocError>
     requires { All IsRouterState state.now }
@@ -103,7 +116,7 @@ fn prefixes_seen(
 {
     let mut set = BTreeSet::new(alloc);
     insert(&mut set, default_prefix())?;
-    add_prefixes(&mut set, own)?;
+    add_own(&mut set, own)?;
     add_senders(&mut set, state, sessions)?;
     listed(alloc, set)
 }
@@ -124,18 +137,18 @@ fn best_for(
     alloc: Global,
     net: &Network,
     state: &State,
-    table: &[Route],
-    own: &[BgpPath],
+    resolver: &mut Resolver<'_>,
+    own: &[Items<BgpPath>],
     sessions: &[Session],
     prefixes: &[Prefix],
 ) -> Result<Items<BgpPath>, AllocError>
     requires state { All IsRouterState state.now }
-    requires own { IsPathList own.now }
-    ensures { IfOk result (λ paths. paths ≡ filter_map (spec.best_among net.now state.now table.now own.now sessions.now) prefixes.now) }
+    requires own { All IsPathList own.now }
+    ensures { IfOk result (λ paths. paths ≡ filter_map (spec.best_among net.now state.now resolver.old own.now sessions.now) prefixes.now) }
 {
     let mut paths = Items::new(alloc);
     for prefix in prefixes {
-        let path = best_among(alloc, net, state, table, own, sessions, prefix)?;
+        let path = best_among(alloc, net, state, resolver, own, sessions, prefix)?;
         push_some(&mut paths, path)?;
     }
     Ok(paths)
@@ -159,11 +172,12 @@ pub fn best_paths(
     let own = own_paths(alloc, net, table, router)?;
     let up = up_sessions(alloc, sessions, previous, router)?;
     let prefixes = prefixes_seen(alloc, previous, own.as_slice(), up.as_slice())?;
+    let mut resolver = Resolver::new(alloc, table);
     best_for(
         alloc,
         net,
         previous,
-        table,
+        &mut resolver,
         own.as_slice(),
         up.as_slice(),
         prefixes.as_slice(),
@@ -185,21 +199,19 @@ fn candidates_for(
     alloc: Global,
     net: &Network,
     state: &State,
-    table: &[Route],
-    own: &[BgpPath],
+    resolver: &mut Resolver<'_>,
+    own: &[Items<BgpPath>],
     sessions: &[Session],
     prefixes: &[Prefix],
 ) -> Result<Items<BgpPath>, AllocError>
     requires state { All IsRouterState state.now }
-    requires own { IsPathList own.now }
-    ensures { IfOk result (λ all. all ≡ flat_map (spec.candidates_at net.now state.now table.now own.now sessions.now) prefixes.now) }
+    requires own { All IsPathList own.now }
+    ensures { IfOk result (λ all. all ≡ flat_map (spec.candidates_at net.now state.now resolver.old own.now sessions.now) prefixes.now) }
 {
     let mut all = Items::new(alloc);
     for prefix in prefixes {
-        append(
-            &mut all,
-            candidates_at(alloc, net, state, table, own, sessions, prefix)?,
-        )?;
+        let paths = candidates_at(alloc, net, state, resolver, own, sessions, prefix)?;
+        append(&mut all, paths)?;
     }
     Ok(all)
 }
@@ -221,11 +233,12 @@ pub fn candidates(
     let own = own_paths(alloc, net, table, router)?;
     let up = up_sessions(alloc, sessions, previous, router)?;
     let prefixes = prefixes_seen(alloc, previous, own.as_slice(), up.as_slice())?;
+    let mut resolver = Resolver::new(alloc, table);
     candidates_for(
         alloc,
         net,
         previous,
-        table,
+        &mut resolver,
         own.as_slice(),
         up.as_slice(),
         prefixes.as_slice(),

@@ -9,10 +9,10 @@ ghost use Rattle.rc_bgp.specs.Passing as pass;
 use crate::Session;
 use crate::known::{path_at, paths_of};
 use crate::passing::{default_prefix, export, originated_default, taken};
-use crate::reaching::metric_to;
-use rc_base::Prefix;
+use crate::resolver::Resolver;
+use rc_base::{Items, Prefix};
 use rc_config::Network;
-use rc_route::{BgpPath, Route, State};
+use rc_route::{BgpPath, State};
 use std::alloc::{AllocError, Global};
 
 /// What the sender's best path of a prefix becomes on a session.
@@ -70,10 +70,15 @@ fn advertised(
 }
 
 /// A path with the metric of the route to its next hop, where that resolves.
-fn reachable(alloc: Global, table: &[Route], path: BgpPath) -> Result<Option<BgpPath>, AllocError>
-    ensures { IfOk result (λ made. made ≡ spec.reachable table.now path) }
+fn reachable(
+    alloc: Global,
+    resolver: &mut Resolver<'_>,
+    path: BgpPath,
+) -> Result<Option<BgpPath>, AllocError>
+    ensures value { IfOk result (λ made. made ≡ spec.reachable resolver.old path) }
+    ensures same { OnOk result (resolver.new ≡ resolver.old) }
 {
-    let metric = metric_to(alloc, table, path.next_hop)?;
+    let metric = resolver.metric_to(alloc, path.next_hop)?;
     match metric {
         None => Ok(None),
         Some(metric) => {
@@ -88,16 +93,17 @@ fn reachable(alloc: Global, table: &[Route], path: BgpPath) -> Result<Option<Bgp
 fn heard_path(
     alloc: Global,
     net: &Network,
-    table: &[Route],
+    resolver: &mut Resolver<'_>,
     session: &Session,
     path: BgpPath,
 ) -> Result<Option<BgpPath>, AllocError>
-    ensures { IfOk result (λ made. made ≡ option_and_then (spec.reachable table.now) (pass.import net.now session.now path)) }
+    ensures value { IfOk result (λ made. made ≡ option_and_then (spec.reachable resolver.old) (pass.import net.now session.now path)) }
+    ensures same { OnOk result (resolver.new ≡ resolver.old) }
 {
     let made = taken(alloc, net, session, path)?;
     match made {
         None => Ok(None),
-        Some(path) => reachable(alloc, table, path),
+        Some(path) => reachable(alloc, resolver, path),
     }
 }
 
@@ -106,17 +112,18 @@ fn heard(
     alloc: Global,
     net: &Network,
     state: &State,
-    table: &[Route],
+    resolver: &mut Resolver<'_>,
     session: &Session,
     prefix: &Prefix,
 ) -> Result<Option<BgpPath>, AllocError>
     requires { All IsRouterState state.now }
-    ensures { IfOk result (λ made. made ≡ spec.heard net.now state.now table.now session.now prefix.now) }
+    ensures value { IfOk result (λ made. made ≡ spec.heard net.now state.now resolver.old session.now prefix.now) }
+    ensures same { OnOk result (resolver.new ≡ resolver.old) }
 {
     let advertised = advertised(alloc, net, state, session, prefix)?;
     match advertised {
         None => Ok(None),
-        Some(path) => heard_path(alloc, net, table, session, path),
+        Some(path) => heard_path(alloc, net, resolver, session, path),
     }
 }
 
@@ -131,16 +138,37 @@ fn push_some(paths: &mut Vec<BgpPath>, path: Option<BgpPath>) -> Result<(), Allo
     Ok(())
 }
 
-/// The path that a router originates for a prefix, again.
-fn own_at(alloc: Global, own: &[BgpPath], prefix: &Prefix) -> Result<Option<BgpPath>, AllocError>
-    requires { IsPathList own.now }
-    ensures { IfOk result (λ path. path ≡ path_at own.now prefix.now) }
+/// One of the paths of a prefix, again.
+fn copied_at(
+    alloc: Global,
+    paths: &[BgpPath],
+    prefix: &Prefix,
+) -> Result<Option<BgpPath>, AllocError>
+    requires { IsPathList paths.now }
+    ensures { IfOk result (λ path. path ≡ path_at paths.now prefix.now) }
 {
-    let found = path_at(own, prefix);
+    let found = path_at(paths, prefix);
     match found {
         Some(path) => Ok(Some(path.copy(alloc)?)),
         None => Ok(None),
     }
+}
+
+/// The paths that a router originates for a prefix.
+fn own_at(
+    alloc: Global,
+    own: &[Items<BgpPath>],
+    prefix: &Prefix,
+) -> Result<Vec<BgpPath>, AllocError>
+    requires { All IsPathList own.now }
+    ensures { IfOk result (λ made. made.items ≡ spec.own_at own.now prefix.now) }
+{
+    let mut made = Vec::new(alloc);
+    for paths in own {
+        let path = copied_at(alloc, paths.as_slice(), prefix)?;
+        push_some(&mut made, path)?;
+    }
+    Ok(made)
 }
 
 /// The candidates of a router for a prefix.
@@ -148,20 +176,19 @@ pub(crate) fn candidates_at(
     alloc: Global,
     net: &Network,
     state: &State,
-    table: &[Route],
-    own: &[BgpPath],
+    resolver: &mut Resolver<'_>,
+    own: &[Items<BgpPath>],
     sessions: &[Session],
     prefix: &Prefix,
 ) -> Result<Vec<BgpPath>, AllocError>
     requires state { All IsRouterState state.now }
-    requires own { IsPathList own.now }
-    ensures { IfOk result (λ paths. paths.items ≡ spec.candidates_at net.now state.now table.now own.now sessions.now prefix.now) }
+    requires own { All IsPathList own.now }
+    ensures value { IfOk result (λ paths. paths.items ≡ spec.candidates_at net.now state.now resolver.old own.now sessions.now prefix.now) }
+    ensures same { OnOk result (resolver.new ≡ resolver.old) }
 {
-    let mut paths = Vec::new(alloc);
-    let own = own_at(alloc, own, prefix)?;
-    push_some(&mut paths, own)?;
+    let mut paths = own_at(alloc, own, prefix)?;
     for session in sessions {
-        let path = heard(alloc, net, state, table, session, prefix)?;
+        let path = heard(alloc, net, state, resolver, session, prefix)?;
         push_some(&mut paths, path)?;
     }
     Ok(paths)

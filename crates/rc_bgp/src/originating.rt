@@ -10,7 +10,6 @@ ghost use Rattle.rc_bgp.specs.Originating as spec;
 use crate::known::route_at;
 use rc_as_path::AsPath;
 use rc_base::{Addr, Communities, Items, Origin, Prefix, RouterId};
-use rc_config::Network;
 use rc_route::{BgpPath, PathSource, Route, Source};
 use std::alloc::{AllocError, Global};
 use std::collections::BTreeSet;
@@ -26,7 +25,7 @@ fn is_bgp(source: Source) -> bool
 }
 
 /// A path as its router originates it.
-fn originated(
+pub(crate) fn originated(
     alloc: Global,
     router: RouterId,
     source: PathSource,
@@ -133,33 +132,19 @@ fn paths_for(
     Ok(paths)
 }
 
-/// The prefixes of the lines `network` of a router.
-fn networks_of(net: &Network, router: RouterId) -> &[Prefix]
-    ensures { result.now ≡ spec.networks_of net.now router }
-{
-    let found = net.router_at(router);
-    match found {
-        None => &[],
-        Some(file) => match &file.bgp {
-            None => &[],
-            Some(process) => process.networks.as_slice(),
-        },
-    }
-}
-
-/// The paths that a router originates from its previous table, in order of prefix.
-#[tactic(auto, using(crate::proofs::BestLaws::own_in_order))]
-pub(crate) fn own_paths(
+/// The paths that the lines `network` of a process originate, in order of prefix, two lines of one prefix counting once.
+#[tactic(auto, using(crate::proofs::BestLaws::networks_in_order))]
+pub(crate) fn by_networks(
     alloc: Global,
-    net: &Network,
-    table: &[Route],
     router: RouterId,
+    table: &[Route],
+    networks: &[Prefix],
 ) -> Result<Items<BgpPath>, AllocError>
     requires { IsTable table.now }
-    ensures value { IfOk result (λ paths. paths ≡ spec.by_networks router table.now (spec.networks_of net.now router)) }
+    ensures value { IfOk result (λ paths. paths ≡ spec.by_networks router table.now networks.now) }
     ensures in_order { IfOk result IsPathList }
 {
-    let set = prefix_set(alloc, networks_of(net, router))?;
+    let set = prefix_set(alloc, networks)?;
     let prefixes = listed(alloc, set)?;
     paths_for(alloc, router, table, prefixes.as_slice())
 }

@@ -8,6 +8,7 @@ mod KeptLaws
 mod AreaLaws
 mod ReachLaws
 mod RangeLaws
+mod ListLaws
 mod FitLaws
 mod MemberLaws
 mod TableLaws

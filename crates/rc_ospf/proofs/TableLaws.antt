@@ -1,7 +1,7 @@
 -- The routes and paths of all routers, from what the code keeps of them.
-use Rattle.std.proofs.Common.{refl, ◌≡◌, ap, sym, ◌∙◌, ℕ, suc, List, [], ◌∷◌, ◌++◌, map, Option, append_assoc}
+use Rattle.std.proofs.Common.{refl, ◌≡◌, ap, ◌∙◌, ℕ, suc, List, [], ◌∷◌, map, Option}
 use Rattle.std.specs.Prelude.{Result, Ok, Err, IfOk}
-use Rattle.std.specs.List.{filter_map, flat_map, cons_option}
+use Rattle.std.specs.List.{filter_map, cons_option}
 use Rattle.rc_config.specs.declared.network.Network.{Network}
 use Rattle.rc_ospf.specs.Areas.{OspfRouter, without_stubs}
 use Rattle.rc_ospf.specs.Boundaries.{boundary_routers, boundary_path, boundary_paths}
@@ -18,9 +18,6 @@ use Rattle.rc_ospf.proofs.MemberLaws.{left_out}
 pub filter_map-map : {X Y Z : Type 0} (f : Y → Option Z) (g : X → Y) (xs : List X) → filter_map f (map g xs) ≡ filter_map (λ x. f (g x)) xs
 filter_map-map f g [] = refl
 filter_map-map f g (x ∷ xs) = ap (cons_option (f (g x))) (filter_map-map f g xs)
-
-pub flat_more : {X Y : Type 0} (f : X → List Y) (old new : List Y) (x : X) (rest left : List X) (all : List Y) → left ≡ x ∷ rest → new ≡ old ++ f x → old ++ flat_map f left ≡ all → new ++ flat_map f rest ≡ all
-flat_more f old new x rest left all next is so_far = ap (λ l. l ++ flat_map f rest) is ∙ append_assoc old (f x) (flat_map f rest) ∙ ap (λ l. old ++ flat_map f l) (sym next) ∙ so_far
 
 pub routes_are : (routers : List OspfRouter) (adverts : List Advert) (ms : List Member) →
     map (λ m. filter_map (route_of (known Kept m)) (map (destination_of routers) (with_default (offered_rows adverts)))) ms ≡ map (internal_routes routers adverts) (map (known Kept) ms)

@@ -1,5 +1,5 @@
 -- What OSPF gives without a state: the routes of each router inside and between areas, and its paths to AS boundary routers.
-use Rattle.std.specs.Prelude.{◌≡◌, List, map, length}
+use Rattle.std.specs.Prelude.{◌≡◌, List, All, map, length}
 use Rattle.std.specs.List.{flat_map}
 use Rattle.rc_config.specs.Members.{router_ids}
 use Rattle.rc_config.specs.declared.network.Network.{Network}
@@ -8,8 +8,9 @@ use Rattle.rc_ospf.specs.Adjacency.{adjacencies}
 use Rattle.rc_ospf.specs.Adverts.{adverts_of}
 use Rattle.rc_ospf.specs.Areas.{OspfRouter, AreOspfRouters}
 use Rattle.rc_ospf.specs.Boundaries.{boundary_paths}
+use Rattle.rc_ospf.specs.BoundaryPaths.{IsNear}
 use Rattle.rc_ospf.specs.Interfaces.{ospf_interfaces}
-use Rattle.rc_ospf.specs.Routes.{internal_routes, own_prefixes}
+use Rattle.rc_ospf.specs.Routes.{IsShortRoute, internal_routes, own_prefixes}
 use Rattle.rc_ospf.specs.declared.adjacency.Step.{Step}
 use Rattle.rc_ospf.specs.declared.model.Internal.{Internal}
 use Rattle.rc_ospf.specs.declared.offer.Advert.{Advert}
@@ -30,6 +31,11 @@ pub record IsInternal (net : Network) (i : Internal) : Type 0 where
   pub routes : i.routes ≡ map (internal_routes routers (adverts_in net)) routers
   pub boundaries : i.boundaries ≡ map (boundary_paths net routers) routers
   pub own : i.own ≡ map (own_prefixes net) (router_ids net)
+
+-- no cost reaches 2^27, so that none wraps, nor does one with a metric from outside of the AS added
+pub record HasSmallSums (i : Internal) : Type 0 where
+  pub routes : All (All IsShortRoute) i.routes
+  pub boundaries : All (All IsNear) i.boundaries
 
 -- a network with its links has one answer
 abbrev pub HasOneInternal : Type 0

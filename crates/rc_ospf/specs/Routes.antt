@@ -1,5 +1,5 @@
 -- The routes of a router inside and between areas (RFC 2328 s.16.1 and 16.2).
-use Rattle.std.specs.Prelude.{ℕ, Bool, false, if◌then◌else◌, List, [], ◌∷◌, map, filter, Option, Some, None}
+use Rattle.std.specs.Prelude.{ℕ, ◌^◌, ◌<◌, Bool, false, if◌then◌else◌, List, [], ◌∷◌, map, filter, Option, Some, None}
 use Rattle.std.specs.List.{filter_map, flat_map, list_any}
 use Rattle.std.specs.Option.{option_map, option_or}
 use Rattle.rc_base.specs.Lists.{in_order}
@@ -53,6 +53,10 @@ with_default rows = if starts_with_default rows then rows else default_row ∷ r
 
 abbrev pub route_over : Source → Cidr → Way → Route
 route_over source p w = record { prefix = p; source = source; distance = 110; metric = w.cost; hops = in_order hop_cmp w.hops }
+
+-- its metric, with one from outside of the AS added (below 2^24), stays below 2^32
+abbrev pub IsShortRoute : Route → Type 0
+IsShortRoute route = route.metric < 2 ^ 27
 
 -- inside areas before between areas, whatever they cost, and none to a prefix that the router advertises itself
 abbrev pub route_to : OspfRouter → Cidr → List Offered → Summaries → Option Route

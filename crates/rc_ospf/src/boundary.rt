@@ -1,9 +1,10 @@
 //! Paths to AS boundary routers (RFC 2328, sections 3.3 and 16.4).
-ghost use Rattle.std.specs.Prelude.{◌≡◌, IfOk, map};
+ghost use Rattle.std.specs.Prelude.{◌≡◌, IfOk, IfSome, All, map};
 ghost use Rattle.std.specs.List.{filter_map};
 ghost use Rattle.std.specs.Option.{option_or};
 ghost use Rattle.rc_ospf.specs.Areas as area;
 ghost use Rattle.rc_ospf.specs.Boundaries as spec;
+ghost use Rattle.rc_ospf.specs.BoundaryPaths.{IsNear};
 ghost use Rattle.rc_ospf.specs.BoundaryForms.{target_of, path_of_target};
 ghost use Rattle.rc_ospf.specs.Members.{reach_of, known};
 ghost use Rattle.rc_ospf.specs.Ways.{best_way as best_way_of};
@@ -166,7 +167,8 @@ pub(crate) fn targets(
 
 /// The path over a way.
 fn path_over(alloc: Global, router: RouterId, way: &Way) -> Result<Boundary, AllocError>
-    ensures { IfOk result (λ path. path ≡ spec.path_over router way.now) }
+    ensures value { IfOk result (λ path. path ≡ spec.path_over router way.now) }
+    ensures near { IfOk result IsNear }
 {
     let hops = hops_in_order(alloc, way.hops().as_slice())?;
     Ok(Boundary::new(router, way.cost(), hops))
@@ -184,7 +186,8 @@ fn way_to(alloc: Global, member: &Member, target: &Target) -> Result<Option<Way>
 
 /// The path of a router to another one, where there is one.
 fn path_to(alloc: Global, member: &Member, target: &Target) -> Result<Option<Boundary>, AllocError>
-    ensures { IfOk result (λ path. path ≡ path_of_target (known LeftOut member.now) target.now) }
+    ensures value { IfOk result (λ path. path ≡ path_of_target (known LeftOut member.now) target.now) }
+    ensures near { IfOk result (λ path. IfSome path IsNear) }
 {
     if member.router == target.router {
         return Ok(None);
@@ -201,7 +204,8 @@ pub(crate) fn paths_to(
     member: &Member,
     targets: &[Target],
 ) -> Result<Items<Boundary>, AllocError>
-    ensures { IfOk result (λ paths. paths ≡ filter_map (path_of_target (known LeftOut member.now)) targets.now) }
+    ensures value { IfOk result (λ paths. paths ≡ filter_map (path_of_target (known LeftOut member.now)) targets.now) }
+    ensures near { IfOk result (All IsNear) }
 {
     let mut paths = Items::new(alloc);
     for target in targets {

@@ -1,11 +1,11 @@
 //! The routes of one router (RFC 2328, sections 16.1 and 16.2).
-ghost use Rattle.std.specs.Prelude.{◌≡◌, IfOk};
+ghost use Rattle.std.specs.Prelude.{◌≡◌, IfOk, IfSome, All};
 ghost use Rattle.std.specs.List.{filter_map, list_any};
 ghost use Rattle.std.specs.Option.{option_map};
 ghost use Rattle.rc_ospf.specs.Areas.{is_own, inter};
 ghost use Rattle.rc_ospf.specs.ByPrefix.{route_of};
 ghost use Rattle.rc_ospf.specs.Members.{reach_of, known};
-ghost use Rattle.rc_ospf.specs.Routes.{route_over};
+ghost use Rattle.rc_ospf.specs.Routes.{route_over, IsShortRoute};
 ghost use Rattle.rc_route.specs.declared.route.Source.TheVariants.{Ospf, OspfIa};
 ghost use Rattle.rc_ospf.specs.Ways as ways;
 ghost use Rattle.rc_ospf.specs.declared.member.StubAreas.TheVariants.{Kept};
@@ -46,7 +46,8 @@ fn offers_itself(router: RouterId, offers: &[Offer]) -> bool
 
 /// The route over a way.
 fn route_by(alloc: Global, source: Source, prefix: Prefix, way: &Way) -> Result<Route, AllocError>
-    ensures { IfOk result (λ route. route ≡ route_over source prefix way.now) }
+    ensures value { IfOk result (λ route. route ≡ route_over source prefix way.now) }
+    ensures short { IfOk result IsShortRoute }
 {
     let hops = hops_in_order(alloc, way.hops().as_slice())?;
     Ok(Route {
@@ -64,7 +65,8 @@ fn intra_route(
     member: &Member,
     destination: &Destination,
 ) -> Result<Option<Route>, AllocError>
-    ensures { IfOk result (λ route. route ≡ option_map (route_over Ospf destination.now.prefix) (ways.best_way (reach_of member.now) destination.now.inside)) }
+    ensures short { IfOk result (λ route. IfSome route IsShortRoute) }
+    ensures value { IfOk result (λ route. route ≡ option_map (route_over Ospf destination.now.prefix) (ways.best_way (reach_of member.now) destination.now.inside)) }
 {
     match best_way(alloc, member, destination.inside.as_slice())? {
         Some(way) => Ok(Some(route_by(alloc, Source::Ospf, destination.prefix, &way)?)),
@@ -78,7 +80,8 @@ fn inter_route(
     member: &Member,
     destination: &Destination,
 ) -> Result<Option<Route>, AllocError>
-    ensures { IfOk result (λ route. route ≡ option_map (route_over OspfIa destination.now.prefix) (inter (known Kept member.now) destination.now.summaries)) }
+    ensures short { IfOk result (λ route. IfSome route IsShortRoute) }
+    ensures value { IfOk result (λ route. route ≡ option_map (route_over OspfIa destination.now.prefix) (inter (known Kept member.now) destination.now.summaries)) }
 {
     match inter(alloc, member, StubAreas::Kept, &destination.summaries)? {
         Some(way) => Ok(Some(route_by(alloc, Source::OspfIa, destination.prefix, &way)?)),
@@ -92,7 +95,8 @@ fn route_of(
     member: &Member,
     destination: &Destination,
 ) -> Result<Option<Route>, AllocError>
-    ensures { IfOk result (λ route. route ≡ route_of (known Kept member.now) destination.now) }
+    ensures value { IfOk result (λ route. route ≡ route_of (known Kept member.now) destination.now) }
+    ensures short { IfOk result (λ route. IfSome route IsShortRoute) }
 {
     if offers_itself(member.router, destination.inside.as_slice()) {
         return Ok(None);
@@ -109,7 +113,8 @@ pub(crate) fn routes_of(
     member: &Member,
     destinations: &[Destination],
 ) -> Result<Table, AllocError>
-    ensures { IfOk result (λ routes. routes ≡ filter_map (route_of (known Kept member.now)) destinations.now) }
+    ensures value { IfOk result (λ routes. routes ≡ filter_map (route_of (known Kept member.now)) destinations.now) }
+    ensures short { IfOk result (All IsShortRoute) }
 {
     let mut routes = Items::new(alloc);
     for destination in destinations {

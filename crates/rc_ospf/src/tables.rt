@@ -7,7 +7,8 @@ ghost use Rattle.rc_route.specs.Tables.{IsTable};
 ghost use Rattle.rc_ospf.specs.BoundaryForms.{target_of, path_of_target};
 ghost use Rattle.rc_ospf.specs.Boundaries.{boundary_routers};
 ghost use Rattle.rc_ospf.specs.ByPrefix.{destination_of, route_of};
-ghost use Rattle.rc_ospf.specs.Internal.{adverts_in, steps_of, IsInternal, HasOneInternal};
+ghost use Rattle.rc_ospf.specs.BoundaryPaths.{IsNear};
+ghost use Rattle.rc_ospf.specs.Internal.{adverts_in, steps_of, IsInternal, HasOneInternal, HasSmallSums};
 ghost use Rattle.rc_ospf.specs.Members.{known, AreMembers};
 ghost use Rattle.rc_ospf.specs.Routes as spec;
 ghost use Rattle.rc_ospf.specs.declared.member.StubAreas.TheVariants.{Kept, LeftOut};
@@ -55,7 +56,8 @@ fn tables_over(
     members: &[Member],
     destinations: &[Destination],
 ) -> Result<Items<Table>, AllocError>
-    ensures { IfOk result (λ tables. tables ≡ map (λ m. filter_map (route_of (known Kept m)) destinations.now) members.now) }
+    ensures value { IfOk result (λ tables. tables ≡ map (λ m. filter_map (route_of (known Kept m)) destinations.now) members.now) }
+    ensures short { IfOk result (All (All spec.IsShortRoute)) }
 {
     let mut tables = Items::new(alloc);
     for member in members {
@@ -66,7 +68,8 @@ fn tables_over(
 
 /// The routes of each router.
 fn tables(alloc: Global, net: &Network, members: &[Member]) -> Result<Items<Table>, AllocError>
-    ensures { IfOk result (λ tables. tables ≡ map (spec.internal_routes (map (known Kept) members.now) (adverts_in net.now)) (map (known Kept) members.now)) }
+    ensures short { IfOk result (All (All spec.IsShortRoute)) }
+    ensures value { IfOk result (λ tables. tables ≡ map (spec.internal_routes (map (known Kept) members.now) (adverts_in net.now)) (map (known Kept) members.now)) }
 {
     let destinations = destinations_of(alloc, net, members)?;
     tables_over(alloc, members, destinations.as_slice())
@@ -78,7 +81,8 @@ fn paths_over(
     members: &[Member],
     targets: &[Target],
 ) -> Result<Items<Items<Boundary>>, AllocError>
-    ensures { IfOk result (λ paths. paths ≡ map (λ m. filter_map (path_of_target (known LeftOut m)) targets.now) members.now) }
+    ensures value { IfOk result (λ paths. paths ≡ map (λ m. filter_map (path_of_target (known LeftOut m)) targets.now) members.now) }
+    ensures near { IfOk result (All (All IsNear)) }
 {
     let mut paths = Items::new(alloc);
     for member in members {
@@ -93,7 +97,8 @@ fn boundaries(
     net: &Network,
     members: &[Member],
 ) -> Result<Items<Items<Boundary>>, AllocError>
-    ensures { IfOk result (λ paths. paths ≡ map (λ m. filter_map (path_of_target (known LeftOut m)) (map (target_of net.now (map (known LeftOut) members.now)) (boundary_routers net.now))) members.now) }
+    ensures near { IfOk result (All (All IsNear)) }
+    ensures value { IfOk result (λ paths. paths ≡ map (λ m. filter_map (path_of_target (known LeftOut m)) (map (target_of net.now (map (known LeftOut) members.now)) (boundary_routers net.now))) members.now) }
 {
     let targets = targets(alloc, net, members)?;
     paths_over(alloc, members, targets.as_slice())
@@ -118,6 +123,7 @@ pub fn internal(alloc: Global, net: &Network, links: Links) -> Result<Internal, 
     ensures links { IfOk result (λ i. i.links ≡ links) }
     ensures internal { IfOk result (IsInternal net.now) }
     ensures in_order { IfOk result (λ i. All IsTable i.routes) }
+    ensures small { IfOk result HasSmallSums }
 {
     let members = members_of(alloc, net, &links)?;
     let routes = tables(alloc, net, members.as_slice())?;

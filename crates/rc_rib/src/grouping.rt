@@ -1,18 +1,15 @@
 //! The static routes, from the active lines.
 ghost use Rattle.std.specs.Prelude.{◌≡◌, IfOk, OnOk, None};
-ghost use Rattle.std.specs.BTreeSet.{keys, insert_key};
 ghost use Rattle.rc_base.specs.Groups.{with_thing, grouped};
-ghost use Rattle.rc_base.specs.Lists.{in_order};
-ghost use Rattle.rc_route.specs.Hops.{hop_cmp};
 ghost use Rattle.rc_rib.specs.Offers.{line_prefix, with_line, route_of_hops};
 ghost use Rattle.rc_rib.specs.Static as spec;
 
 use crate::active::ActiveLine;
 use crate::rows::routes_of_rows;
-use rc_base::{IfId, Prefix, PrefixMap};
-use rc_route::{Hop, Hops, Route, Source, Table};
+use rc_base::{Prefix, PrefixMap};
+use rc_ospf::hops_in_order;
+use rc_route::{Hops, Route, Source, Table};
 use std::alloc::{AllocError, Global};
-use std::collections::BTreeSet;
 
 /// The hops of the least distance of some lines, in the order of the lines.
 #[derive(Drop)]
@@ -81,49 +78,6 @@ fn hops_by_prefix(alloc: Global, lines: &[ActiveLine]) -> Result<PrefixMap<Stati
         add_line(alloc, &mut rows, line)?;
     }
     Ok(rows)
-}
-
-/// Puts a hop into a set.
-fn insert_hop(set: &mut BTreeSet<Hop>, hop: Hop) -> Result<(), AllocError>
-    ensures { OnOk result (keys set.new ≡ insert_key hop_cmp (keys set.old) hop) }
-{
-    // For the proof: that of an insertion wants each enum within the element named in the function.
-    let _interface: Option<IfId> = None;
-    set.insert(hop)?;
-    Ok(())
-}
-
-/// Hops as a set.
-fn hop_set(alloc: Global, hops: &[Hop]) -> Result<BTreeSet<Hop>, AllocError>
-    ensures { IfOk result (λ set. keys set ≡ in_order hop_cmp hops.now) }
-{
-    let mut set = BTreeSet::new(alloc);
-    for hop in hops {
-        insert_hop(&mut set, *hop)?;
-    }
-    Ok(set)
-}
-
-/// Hops in their order, each once, by way of a set.
-fn sorted_hops(alloc: Global, hops: &[Hop]) -> Result<Hops, AllocError>
-    ensures { IfOk result (λ ordered. ordered ≡ in_order hop_cmp hops.now) }
-{
-    let set = hop_set(alloc, hops)?;
-    let mut ordered = Hops::none();
-    for hop in set {
-        ordered.push(alloc, hop)?;
-    }
-    Ok(ordered)
-}
-
-/// Hops in their order, each once. Most prefixes have one, which is in order already.
-fn hops_in_order(alloc: Global, hops: &[Hop]) -> Result<Hops, AllocError>
-    ensures { IfOk result (λ ordered. ordered ≡ in_order hop_cmp hops.now) }
-{
-    match hops {
-        [hop] => Ok(Hops::one(*hop)),
-        _ => sorted_hops(alloc, hops),
-    }
 }
 
 /// The static route of a prefix.

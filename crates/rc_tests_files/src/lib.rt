@@ -1,4 +1,4 @@
-//! Tests of whole files, and of the grammars of access lists, of policies and of OSPF.
+//! Tests of whole files, and of the grammars of access lists, of policies, of OSPF and of BGP.
 //!
 //! They stand above the crates that they try, since a crate with tests of its own is proved twice, and beside rc_tests_text, so
 //! that two processors share them. Expected values come from outside: the standards, router handbooks, and lines as they
@@ -7,6 +7,8 @@
 
 #[cfg(test)]
 mod access_list_lines;
+#[cfg(test)]
+mod bgp_files;
 #[cfg(test)]
 mod files;
 #[cfg(test)]

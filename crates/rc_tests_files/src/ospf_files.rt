@@ -2,7 +2,8 @@
 use crate::refused_files::{BAD, OUT_OF_PLACE, UNKNOWN, UNSUPPORTED, check_all_refused};
 use rc_base::{Addr, Name};
 use rc_config::{
-    Command, Interface, NetworkType, OspfArea, OspfLine, OspfProcess, OspfSettings, RouterText,
+    Command, Interface, NetworkType, OspfArea, OspfLine, OspfProcess, OspfSettings,
+    RedistributedSource, RouterText,
 };
 use rc_grammar::{FileCause, read_file};
 use std::process::Abort;
@@ -15,6 +16,12 @@ router ospf 7
  passive-interface default
  no passive-interface Serial0/0
  auto-cost reference-bandwidth 1000
+ area 0.0.0.3 stub no-summary
+ area 3 stub
+ redistribute static metric 5 subnets
+ redistribute connected
+ redistribute static route-map M
+ default-information originate always
  log-adjacency-changes
 interface Serial0/0
  ip ospf cost 10
@@ -35,6 +42,20 @@ fn check_process(rt: &impl Abort, process: &OspfProcess) {
     assert!(rt; process.networks.len() == 3);
     for (network, area) in process.networks.as_slice().iter().zip([0, 3, 9]) {
         assert!(rt; network.area == area);
+    }
+}
+
+fn check_sending(rt: &impl Abort, process: &OspfProcess) {
+    match process.stub_areas.get(3) {
+        Some(area) => assert!(rt; !area.no_summary),
+        None => assert!(rt; false, "no stub area"),
+    }
+    match process.redistributions.as_slice() {
+        [connected, statics] => {
+            assert!(rt; connected.source == RedistributedSource::Connected);
+            assert!(rt; statics.source == RedistributedSource::Static && !statics.subnets);
+        }
+        _ => assert!(rt; false, "other sources"),
     }
 }
 
@@ -61,6 +82,7 @@ fn check_file(rt: &impl Abort, file: &RouterText, first: &Name, second: &Name) {
     match &file.ospf {
         Some(process) => {
             check_process(rt, process);
+            check_sending(rt, process);
             check_passive(rt, process, first, second);
         }
         None => assert!(rt; false, "no process"),
@@ -83,7 +105,7 @@ fn a_file_with_a_process(rt: HostRuntime) {
 
 #[test]
 fn files_with_a_process_are_refused(rt: HostRuntime) {
-    let files: [(&[u8], u64, FileCause); 5] = [
+    let files: [(&[u8], u64, FileCause); 6] = [
         (
             b"hostname X\nrouter ospf 1\nrouter ospf 2\n",
             3,
@@ -94,7 +116,12 @@ fn files_with_a_process_are_refused(rt: HostRuntime) {
             3,
             BAD,
         ),
-        (b"hostname X\nrouter ospf 1\n area 1 stub\n", 3, UNSUPPORTED),
+        (
+            b"hostname X\nrouter ospf 1\n redistribute rip\n",
+            3,
+            UNSUPPORTED,
+        ),
+        (b"hostname X\nrouter ospf 1\n area 0 stub\n", 3, BAD),
         (b"hostname X\nrouter ospf 1\n nothing\n", 3, UNKNOWN),
         (
             b"hostname X\nrouter ospf 1\n!\n ip ospf cost 5\n",

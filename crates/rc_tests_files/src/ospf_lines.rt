@@ -1,6 +1,9 @@
 //! Lines that open an OSPF process, and those in its block.
 use rc_base::{Addr, Name};
-use rc_config::{Command, Context, OpenBlock, OspfLine, OspfNetwork, RouterText};
+use rc_config::{
+    Command, Context, DefaultInformation, MetricType, OpenBlock, OspfLine, OspfNetwork,
+    RedistributedSource, Redistribution, RouterText, StubArea,
+};
 use rc_gram_ospf::read_line;
 use rc_lines::Lines;
 use rc_openings::{Form, Grammar, LineError, LineRefusal, word_area, word_interface};
@@ -82,14 +85,14 @@ fn openings_in_a_process(rt: HostRuntime) {
 #[test]
 fn forms_of_a_process_that_are_not_modelled(rt: HostRuntime) {
     let lines = [
-        (b"area 1 stub".as_slice(), UNSUPPORTED),
-        (b"area 1 stub no-summary", UNSUPPORTED),
-        (b"area 1 range 10.0.0.0 255.0.0.0", UNSUPPORTED),
-        (b"redistribute connected", UNSUPPORTED),
-        (b"redistribute static subnets", UNSUPPORTED),
+        (b"area 1 range 10.0.0.0 255.0.0.0".as_slice(), UNSUPPORTED),
+        (b"area 1 nssa", UNSUPPORTED),
+        (b"redistribute bgp 65000 tag 5", UNSUPPORTED),
         (b"redistribute rip", UNSUPPORTED),
-        (b"default-information originate", UNSUPPORTED),
+        (b"redistribute static tag 5", UNSUPPORTED),
+        (b"redistribute connected nssa-only", UNSUPPORTED),
         (b"default-information", UNSUPPORTED),
+        (b"default-information originate route-map M", UNSUPPORTED),
     ];
     check_all(&rt, rt.alloc(), &lines);
 }
@@ -130,6 +133,73 @@ fn openings_of_a_process_are_refused(rt: HostRuntime) {
     ] {
         let found = refusal_in(&file, &OpenBlock::Global, text);
         assert!(rt; found == refusal, "{text:?}");
+    }
+}
+
+#[test]
+fn stub_areas(rt: HostRuntime) {
+    let file = RouterText::new(rt.alloc());
+    for (text, area, no_summary) in [
+        (b" area 1 stub".as_slice(), 1, false),
+        (b" area 0.0.1.0 stub no-summary", 256, true),
+    ] {
+        let wanted = OspfLine::Stub(StubArea { area, no_summary });
+        assert!(rt; line_in(&file, text) == Some(wanted), "{text:?}");
+    }
+}
+
+/// The `redistribute` line of static routes that the text is.
+fn redistribution_in(file: &RouterText, text: &[u8]) -> Option<Redistribution> {
+    match line_in(file, text) {
+        Some(OspfLine::Redistribute(line)) => Some(line),
+        _ => None,
+    }
+}
+
+#[test]
+fn redistributions(rt: HostRuntime) {
+    let file = RouterText::new(rt.alloc());
+    for (text, metric, metric_type) in [
+        (b" redistribute static subnets".as_slice(), None, None),
+        (
+            b" redistribute static metric 16777214 subnets metric-type 1",
+            Some(16_777_214),
+            Some(MetricType::Type1),
+        ),
+        (
+            b" redistribute static metric-type 1 metric 16777214 subnets",
+            Some(16_777_214),
+            Some(MetricType::Type1),
+        ),
+    ] {
+        let wanted = Redistribution {
+            source: RedistributedSource::Static,
+            metric,
+            metric_type,
+            subnets: true,
+            route_map: None,
+        };
+        assert!(rt; redistribution_in(&file, text) == Some(wanted), "{text:?}");
+    }
+}
+
+#[test]
+fn defaults_that_are_sent(rt: HostRuntime) {
+    let file = RouterText::new(rt.alloc());
+    for (text, always, metric) in [
+        (b" default-information originate".as_slice(), false, None),
+        (
+            b" default-information originate always metric 7",
+            true,
+            Some(7),
+        ),
+    ] {
+        let wanted = OspfLine::DefaultInformation(DefaultInformation {
+            always,
+            metric,
+            metric_type: None,
+        });
+        assert!(rt; line_in(&file, text) == Some(wanted), "{text:?}");
     }
 }
 
@@ -226,6 +296,10 @@ fn wrong_values_of_a_process(rt: HostRuntime) {
         (b"auto-cost reference-bandwidth 0", BAD),
         (b"auto-cost reference-bandwidth 4294968", BAD),
         (b"auto-cost reference-bandwidth", BAD),
+        (b"area 0 stub", BAD),
+        (b"redistribute static metric 16777215", BAD),
+        (b"redistribute static subnets subnets", BAD),
+        (b"default-information originate metric 5 always", BAD),
     ];
     check_all(&rt, rt.alloc(), &lines);
 }

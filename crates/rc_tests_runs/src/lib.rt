@@ -9,11 +9,15 @@ mod access_lists;
 #[cfg(test)]
 mod answers;
 #[cfg(test)]
+mod externals;
+#[cfg(test)]
 mod faults;
 #[cfg(test)]
 mod gates;
 #[cfg(test)]
 mod ospf;
+#[cfg(test)]
+mod ospf_areas;
 #[cfg(test)]
 mod ospf_networks;
 #[cfg(test)]

@@ -138,7 +138,8 @@ fn what_makes_neighbours_adjacent(rt: HostRuntime) -> Result<(), Fail> {
 }
 
 /// Where the second router's interfaces are: at the link in another area by `ip ospf`, which wins; by one of another process, which
-/// says nothing; by the first `network` line; by one whose wildcard has a gap; all in one area that is written as an address.
+/// says nothing; by the first `network` line; by one whose wildcard has a gap; all in one area that is written as an address; and
+/// its loopback alone in another area, into which it is a border router then.
 const AREAS_ROWS: [Row; 7] = [
     (
         "",
@@ -173,7 +174,7 @@ const AREAS_ROWS: [Row; 7] = [
     (
         "",
         " ip ospf 1 area 0\ninterface Loopback0\n ip address 10.2.2.2 255.255.255.0\n ip ospf 1 area 1\n",
-        "",
+        "10.2.2.2/32 ospf-ia 110/2 via 10.0.12.2 dev GigabitEthernet0/0\n",
     ),
 ];
 

@@ -32,6 +32,12 @@ fn undefined_lists(rt: HostRuntime) -> Result<(), Fail> {
             "route-map M permit 20\n match community 7\nroute-map M permit 10\n match community 8\n",
             "5: 9",
         ),
+        ("router bgp 1\n neighbor 10.0.0.2 route-map X in\n", "5: 9"),
+        ("router bgp 1\n redistribute ospf 1 route-map X\n", "5: 9"),
+        (
+            "router ospf 1\n redistribute static route-map M\n redistribute static route-map N\n",
+            "6: 9",
+        ),
     ];
     check_all_refused(&rt, &rows)
 }

@@ -4,4 +4,7 @@ use Rattle.rc_bgp.specs.Candidates.{heard, candidates_at}
 use Rattle.rc_bgp.proofs.hearing.candidates_at.Given as goal
 
 abbrev pub invariant-loop-session : goal.invariant-loop-session
-invariant-loop-session l = l.paths.items ++ filter_map (λ s. heard l.net l.state l.table s l.prefix) (drop l.session-index l.sessions) ≡ candidates_at l.net l.state l.table l.own l.sessions l.prefix
+invariant-loop-session l = record {
+  kept : l.paths.items ++ filter_map (λ s. heard l.net l.state l.fn.resolver s l.prefix) (drop l.session-index l.sessions) ≡ candidates_at l.net l.state l.fn.resolver l.own l.sessions l.prefix;
+  same : l.resolver ≡ l.fn.resolver;
+}

@@ -2,7 +2,7 @@ use Rattle.std.proofs.Common.{rules, ◌≡◌, ◌+◌, ◌++◌, ◌∷◌, dr
 use Rattle.std.proofs.lemmas.List.{drop_more}
 use Rattle.rc_ospf.specs.Areas.{outward_offers}
 use Rattle.rc_ospf.specs.Members.{known}
-use Rattle.rc_ospf.proofs.TableLaws.{flat_more}
+use Rattle.rc_ospf.proofs.ListLaws.{flat_more}
 use Rattle.rc_ospf.proofs.summaries.outward_summaries.Goals as goal
 
 pub loop-member-preserved : goal.loop-member-preserved

@@ -24,12 +24,12 @@ returns-clause-internal c =
       routers = map (known Kept) ms;
       as_many = length-map ms (known Kept) ∙ c.in_ok-members.ensures.as_many;
       are_routers = ospf_routers net steps 0 ms each;
-      routes = c.in_ok-routes.ensures ∙ ap (λ (s : List Member). map (internal_routes (map (known Kept) s) (adverts_in net)) (map (known Kept) s)) c.as_slice.ensures;
-      boundaries = c.in_ok-boundaries.ensures
+      routes = c.in_ok-routes.ensures.value ∙ ap (λ (s : List Member). map (internal_routes (map (known Kept) s) (adverts_in net)) (map (known Kept) s)) c.as_slice.ensures;
+      boundaries = c.in_ok-boundaries.ensures.value
           ∙ ap (λ (s : List Member). map (λ (m : Member). filter_map (path_of_target (known LeftOut m)) (map (target_of net (map (known LeftOut) s)) (boundary_routers net))) s) c.as_slice-2.ensures
           ∙ boundaries_are net steps (map (known Kept) ms) (map (known LeftOut) ms) 0 ms each (all_left_out net steps 0 ms each);
       own = c.in_ok-own.ensures;
     }
 
 pub returns-clause-in_order : goal.returns-clause-in_order
-returns-clause-in_order c = subst (All IsTable) (sym c.in_ok-routes.ensures) (all_tables _ _ _)
+returns-clause-in_order c = subst (All IsTable) (sym c.in_ok-routes.ensures.value) (all_tables _ _ _)

@@ -11,10 +11,10 @@ use Rattle.rc_ospf.specs.declared.member.StubAreas.TheVariants.{Kept}
 use Rattle.rc_ospf.proofs.TableLaws.{routes_are}
 use Rattle.rc_ospf.proofs.tables.tables.Goals as goal
 
-pub returns : goal.returns
-returns c =
+pub returns-clause-value : goal.returns-clause-value
+returns-clause-value c =
     let ms = c.args.members.now in
     let adverts = adverts_in c.args.net.now in
     IfOk-weaker _ _ (λ tables. tables ≡ map (internal_routes (map (known Kept) ms) adverts) (map (known Kept) ms))
     (λ tables made. made ∙ ap (λ (ds : List Destination). map (λ (m : Member). filter_map (route_of (known Kept m)) ds) ms) (c.as_slice.ensures ∙ c.in_ok-destinations.ensures)
-    ∙ routes_are (map (known Kept) ms) adverts ms) c.tables_over.ensures
+    ∙ routes_are (map (known Kept) ms) adverts ms) c.tables_over.ensures.value

@@ -1,0 +1,70 @@
+//! Four routers in a row: area 1 up to the second one, area 0 up to the third one, and area 2 behind.
+use crate::answers::{Host, check_line};
+use rc_analyse::Status;
+use std::test::Fail;
+
+/// The first three of them, but for the third one's last lines.
+const FRONT: [&str; 3] = [
+    "hostname R1\ninterface GigabitEthernet0/0\n ip address 10.0.12.1 255.255.255.0\ninterface Loopback0\n ip address 1.1.1.1 255.255.255.255\nrouter ospf 1\n network 0.0.0.0 255.255.255.255 area 1\n",
+    "hostname R2\ninterface GigabitEthernet0/0\n ip address 10.0.12.2 255.255.255.0\ninterface GigabitEthernet0/1\n ip address 10.0.23.2 255.255.255.0\nrouter ospf 1\n network 10.0.12.0 0.0.0.255 area 1\n network 10.0.23.0 0.0.0.255 area 0\n",
+    "hostname R3\ninterface GigabitEthernet0/0\n ip address 10.0.23.3 255.255.255.0\ninterface GigabitEthernet0/1\n ip address 10.0.34.3 255.255.255.0\nrouter ospf 1\n network 10.0.34.0 0.0.0.255 area 2\n network 10.0.23.0 0.0.0.255 area 0\n",
+];
+
+/// The last one, but for its last lines.
+const LAST: &str =
+    "hostname R4\ninterface GigabitEthernet0/0\n ip address 10.0.34.4 255.255.255.0\ninterface Loopback0\n ip address 4.4.4.4 255.255.255.255\nrouter ospf 1\n network 0.0.0.0 255.255.255.255 area 2\n";
+
+/// What the last one has from the others.
+const SUMMARIES: [&str; 2] = [
+    "1.1.1.1/32 ospf-ia 110/4 via 10.0.34.3 dev GigabitEthernet0/0\n",
+    "10.0.12.0/24 ospf-ia 110/3 via 10.0.34.3 dev GigabitEthernet0/0\n10.0.23.0/24 ospf-ia 110/2 via 10.0.34.3 dev GigabitEthernet0/0\n",
+];
+
+/// Asserts an answer where the last two routers have these lines more.
+fn check(rt: &impl Host, more: (&str, &str), line: &str, answer: &str) -> Result<(), Fail> {
+    let [first, second, third] = FRONT;
+    let third = format!(in rt.alloc(); "{third}{}", more.0)?;
+    let last = format!(in rt.alloc(); "{LAST}{}", more.1)?;
+    let files = [
+        ("r1.cfg", first),
+        ("r2.cfg", second),
+        ("r3.cfg", third.as_str()),
+        ("r4.cfg", last.as_str()),
+    ];
+    check_line(rt, &files, line, Status::Done, answer)
+}
+
+/// Asserts the routes of the last router: the default route, and those from the others.
+fn check_last(
+    rt: &impl Host,
+    more: (&str, &str),
+    default: &str,
+    others: [&str; 2],
+) -> Result<(), Fail> {
+    let [host, subnets] = others;
+    let answer = format!(in rt.alloc();
+        "outcome fixed 2\nrouter R4\n{default}{host}4.4.4.4/32 connected 0/0 dev Loopback0\n{subnets}10.0.34.0/24 connected 0/0 dev GigabitEthernet0/0\n"
+    )?;
+    check(rt, more, "routes d --router R4", answer.as_str())
+}
+
+/// By which the last router reaches all that it has no route to.
+const DEFAULT: &str = "0.0.0.0/0 ospf-ia 110/2 via 10.0.34.3 dev GigabitEthernet0/0\n";
+
+#[test]
+fn routes_over_two_border_routers(rt: HostRuntime) -> Result<(), Fail> {
+    check_last(&rt, ("", ""), "", SUMMARIES)?;
+    let walk =
+        "outcome fixed 2\nat R4 self\nat R3 GigabitEthernet0/1\nat R2 GigabitEthernet0/1\nat R1 GigabitEthernet0/0\nend accepted\n";
+    check(&rt, ("", ""), "trace d --from R4 --dst 1.1.1.1", walk)
+}
+
+#[test]
+fn a_stub_area(rt: HostRuntime) -> Result<(), Fail> {
+    let stub = " area 2 stub\n";
+    let silent = " area 2 stub no-summary\n";
+    check_last(&rt, (stub, stub), DEFAULT, SUMMARIES)?;
+    check_last(&rt, (silent, stub), DEFAULT, ["", ""])?;
+    check_last(&rt, (stub, silent), DEFAULT, SUMMARIES)?;
+    check_last(&rt, (stub, ""), "", ["", ""])
+}
