@@ -9,6 +9,8 @@ mod access_lists;
 #[cfg(test)]
 mod answers;
 #[cfg(test)]
+mod bgp;
+#[cfg(test)]
 mod faults;
 #[cfg(test)]
 mod gates;
