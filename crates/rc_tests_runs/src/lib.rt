@@ -10,6 +10,7 @@ mod access_lists;
 mod answers;
 #[cfg(test)]
 mod externals;
+mod bgp;
 #[cfg(test)]
 mod faults;
 #[cfg(test)]
