@@ -20,18 +20,26 @@ const SUMMARIES: [&str; 2] = [
     "10.0.12.0/24 ospf-ia 110/3 via 10.0.34.3 dev GigabitEthernet0/0\n10.0.23.0/24 ospf-ia 110/2 via 10.0.34.3 dev GigabitEthernet0/0\n",
 ];
 
-/// Asserts an answer where the last two routers have these lines more.
-fn check(rt: &impl Host, more: (&str, &str), line: &str, answer: &str) -> Result<(), Fail> {
-    let [first, second, third] = FRONT;
-    let third = format!(in rt.alloc(); "{third}{}", more.0)?;
-    let last = format!(in rt.alloc(); "{LAST}{}", more.1)?;
+/// Asserts an answer of four files.
+fn check_four(rt: &impl Host, texts: [&str; 4], line: &str, answer: &str) -> Result<(), Fail> {
+    let [first, second, third, last] = texts;
     let files = [
         ("r1.cfg", first),
         ("r2.cfg", second),
-        ("r3.cfg", third.as_str()),
-        ("r4.cfg", last.as_str()),
+        ("r3.cfg", third),
+        ("r4.cfg", last),
     ];
     check_line(rt, &files, line, Status::Done, answer)
+}
+
+/// Asserts an answer where the last two routers have these lines more.
+fn check(rt: &impl Host, more: (&str, &str), line: &str, answer: &str) -> Result<(), Fail> {
+    let [first, second, front] = FRONT;
+    let (third_more, last_more) = more;
+    let third = format!(in rt.alloc(); "{front}{third_more}")?;
+    let last = format!(in rt.alloc(); "{LAST}{last_more}")?;
+    let texts = [first, second, third.as_str(), last.as_str()];
+    check_four(rt, texts, line, answer)
 }
 
 /// Asserts the routes of the last router: the default route, and those from the others.
