@@ -9,8 +9,9 @@ mod access_lists;
 #[cfg(test)]
 mod answers;
 #[cfg(test)]
-mod externals;
 mod bgp;
+#[cfg(test)]
+mod externals;
 #[cfg(test)]
 mod faults;
 #[cfg(test)]
