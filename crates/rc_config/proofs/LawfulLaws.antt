@@ -1,32 +1,37 @@
 -- A command whose values are in range keeps a file's interfaces lawful.
-use Rattle.std.proofs.Common.{◌≡◌, ℕ, Bool, true, false, cond, List, [], ◌∷◌, ◌++◌, Option, Some, None, Result, Ok, Err, OnOk, IsSome, refl, sym, subst, arith}
+use Rattle.std.proofs.Common.{◌≡◌, ℕ, Bool, true, false, not, filter, cond, List, [], ◌∷◌, ◌++◌, Option, Some, None, Result, Ok, Err, OnOk, IsSome, refl, sym, subst, arith}
 use Rattle.std.specs.Prelude.{All, IfSome, unwrap_or}
 use Rattle.std.specs.declared.alloc.AllocError.{AllocError}
 use Rattle.std.specs.Option.{option_map, option_map_or}
-use Rattle.std.proofs.lemmas.List.Elements.{All-nil, All-cons, All-head, All-tail, All-push}
+use Rattle.std.proofs.lemmas.List.Elements.{All-nil, All-cons, All-filter, All-head, All-tail, All-push}
 use Rattle.std.specs.Cmp.Lexicographic.{bytes_decides}
 use Rattle.rc_base.specs.Name.{same_name}
 use Rattle.rc_config.specs.declared.command.Command.{Command}
-use Rattle.rc_config.specs.declared.command.Command.TheVariants.{Passed, Remark, Hostname, Interface, Address, Shutdown, Bandwidth, StaticRoute, AccessListOpened, AccessListLine, AccessGroup, PrefixLine, CommunityLine, MapOpened, MapLine, InterfaceOspf, OspfOpened, OspfLine}
+use Rattle.rc_config.specs.declared.command.Command.TheVariants.{Passed, Remark, Hostname, Interface, Address, Shutdown, Bandwidth, StaticRoute, AccessListOpened, AccessListLine, AccessGroup, PrefixLine, CommunityLine, MapOpened, MapLine, InterfaceOspf, OspfOpened, OspfLine, BgpOpened, BgpLine}
 use Rattle.rc_config.specs.declared.access_list.AccessListKind.{AccessListKind}
+use Rattle.rc_config.specs.declared.bgp.BgpLine.{BgpLine as BgpRow}
+use Rattle.rc_config.specs.declared.bgp.BgpLine.TheVariants as bgp_line
+use Rattle.rc_config.specs.declared.bgp.BgpProcess.{BgpProcess}
 use Rattle.rc_config.specs.declared.interface.Direction.{Direction}
 use Rattle.rc_config.specs.declared.interface.Direction.TheVariants.{In, Out}
 use Rattle.rc_config.specs.declared.interface.IfAddr.{IfAddr}
 use Rattle.rc_config.specs.declared.interface.Interface.{Interface as Block}
 use Rattle.rc_config.specs.declared.ospf.OspfLine.{OspfLine as OspfRow}
-use Rattle.rc_config.specs.declared.ospf.OspfLine.TheVariants.{RouterId, Network, PassiveDefault, Passive, ReferenceBandwidth}
+use Rattle.rc_config.specs.declared.ospf.OspfLine.TheVariants.{RouterId, Network, PassiveDefault, Passive, ReferenceBandwidth, Stub, Redistribute, DefaultInformation}
 use Rattle.rc_config.specs.declared.ospf.OspfProcess.{OspfProcess}
 use Rattle.rc_config.specs.declared.ospf.OspfSetting.{OspfSetting}
 use Rattle.rc_config.specs.declared.ospf.OspfSetting.TheVariants.{Cost, HelloInterval, DeadInterval, NetworkType, Area}
 use Rattle.rc_config.specs.declared.ospf.OspfSettings.{OspfSettings}
+use Rattle.rc_config.specs.declared.ospf.Redistribution.{Redistribution}
 use Rattle.rc_config.specs.declared.router_text.RouterText.{RouterText}
 use Rattle.rc_config.specs.declared.static_route.StaticRoute.{StaticRoute as Route}
 use Rattle.rc_config.specs.IfType.{type_of}
+use Rattle.rc_config.specs.Bgp.{address_of as neighbor_address, with_line as with_bgp_line, IsAsn, IsLawfulBgp}
 use Rattle.rc_config.specs.AccessList.{IsLawfulAccessList, IsLawfulLine}
 use Rattle.rc_config.specs.Interface.{fresh, with_address, with_group}
-use Rattle.rc_config.specs.Lawful.{IsLawfulInterface, HasLawfulInterfaces, HasLawfulRoutes, HasLawfulLists, HasLawfulOspf, IsDistance, IsInRange, FitsFile}
+use Rattle.rc_config.specs.Lawful.{IsLawfulInterface, HasLawfulInterfaces, HasLawfulRoutes, HasLawfulLists, HasLawfulOspf, HasLawfulBgp, IsDistance, IsInRange, FitsFile}
 use Rattle.rc_config.specs.Lists.{access_list_named, prefix_list_named, with_access_list_line, with_prefix_line}
-use Rattle.rc_config.specs.Ospf.{no_settings, with_setting, with_line as with_ospf_line, IsLawfulOspf, IsLawfulOspfLine, IsLawfulProcess, IsLawfulSetting, IsOspfNumber}
+use Rattle.rc_config.specs.Ospf.{area_of, is_same_source, no_settings, with_redistribution, with_setting, with_line as with_ospf_line, IsLawfulOspf, IsLawfulOspfLine, IsLawfulProcess, IsLawfulSetting, IsOspfNumber, IsRedistribution, IsStubArea}
 use Rattle.rc_config.specs.PrefixList.{IsLawfulLine as IsLawfulPrefixLine, IsLawfulList as IsLawfulPrefixList}
 use Rattle.rc_config.specs.RouteMap.{IsLawfulMap}
 use Rattle.rc_config.specs.declared.access_list.AccessListLine.{AccessListLine as AccessListRow}
@@ -34,8 +39,10 @@ use Rattle.rc_config.specs.declared.lists.Lists.{Lists}
 use Rattle.rc_config.specs.declared.prefix_list.PrefixLine.{PrefixLine as PrefixRow}
 use Rattle.rc_config.specs.MaskedAddr.{IsMaskLen}
 use Rattle.rc_config.specs.Named.{named, with_value}
-use Rattle.rc_config.specs.Update.{after, interface_named, ospf_opened, route_map_named}
+use Rattle.rc_config.specs.Update.{after, bgp_opened, interface_named, ospf_opened, route_map_named}
+use Rattle.rc_config.proofs.ByNumberLaws.{placed_in_order}
 use Rattle.rc_config.proofs.AccessListLaws.{no_lines_lawful, placed_lawful}
+use Rattle.rc_config.proofs.ByNumberLaws.{placed-All}
 use Rattle.rc_config.proofs.PolicyLaws.{line_lawful as prefix_line_lawful, map_line_lawful, no_entries_lawful, no_lines_lawful as no_prefix_lines_lawful, opened_lawful}
 
 module _ {V : Type 0} (P : List ℕ → V → Type 0) where
@@ -121,6 +128,8 @@ after-lawful r (MapOpened name n action) h k = h
 after-lawful r (MapLine name n line) h k = h
 after-lawful r (OspfOpened process) h k = h
 after-lawful r (OspfLine line) h k = h
+after-lawful r (BgpOpened asn) h k = h
+after-lawful r (BgpLine line) h k = h
 after-lawful r (InterfaceOspf name setting) h k =
     let was = block-lawful r name h in
     All-with_value IsLawfulInterface r.interfaces name _ h (record { has_type = was.has_type; masks = was.masks; bandwidth = was.bandwidth; ospf = set-lawful _ setting was.ospf k })
@@ -146,17 +155,37 @@ after-routes r (MapLine name n line) h k = h
 after-routes r (InterfaceOspf name setting) h k = h
 after-routes r (OspfOpened process) h k = h
 after-routes r (OspfLine line) h k = h
+after-routes r (BgpOpened asn) h k = h
+after-routes r (BgpLine line) h k = h
 
 -- and its OSPF process
+redistributed-lawful : (known : List Redistribution) (line : Redistribution) → All IsRedistribution known → IsRedistribution line → All IsRedistribution (with_redistribution known line)
+redistributed-lawful known line h k =
+    All-push IsRedistribution (filter (λ (other : Redistribution). not (is_same_source other.source line.source)) known) line
+    (All-filter (λ (other : Redistribution). not (is_same_source other.source line.source)) IsRedistribution known h) k
+
 process-lawful : (p : OspfProcess) (line : OspfRow) → IsLawfulProcess p → IsLawfulOspfLine line → IsLawfulProcess (with_ospf_line p line)
-process-lawful p (RouterId id) h k = record { process = h.process; reference_bandwidth = h.reference_bandwidth }
-process-lawful p (Network network) h k = record { process = h.process; reference_bandwidth = h.reference_bandwidth }
-process-lawful p PassiveDefault h k = record { process = h.process; reference_bandwidth = h.reference_bandwidth }
-process-lawful p (Passive interface passive) h k = record { process = h.process; reference_bandwidth = h.reference_bandwidth }
-process-lawful p (ReferenceBandwidth mbits) h k = record { process = h.process; reference_bandwidth = k }
+process-lawful p (RouterId id) h k = record { process = h.process; reference_bandwidth = h.reference_bandwidth; stub_areas = h.stub_areas; redistributions = h.redistributions }
+process-lawful p (Network network) h k = record { process = h.process; reference_bandwidth = h.reference_bandwidth; stub_areas = h.stub_areas; redistributions = h.redistributions }
+process-lawful p PassiveDefault h k = record { process = h.process; reference_bandwidth = h.reference_bandwidth; stub_areas = h.stub_areas; redistributions = h.redistributions }
+process-lawful p (Passive interface passive) h k = record { process = h.process; reference_bandwidth = h.reference_bandwidth; stub_areas = h.stub_areas; redistributions = h.redistributions }
+process-lawful p (ReferenceBandwidth mbits) h k = record { process = h.process; reference_bandwidth = k; stub_areas = h.stub_areas; redistributions = h.redistributions }
+process-lawful p (Stub area) h k = record {
+  process = h.process;
+  reference_bandwidth = h.reference_bandwidth;
+  stub_areas = placed-All area_of IsStubArea area p.stub_areas k h.stub_areas;
+  redistributions = h.redistributions;
+}
+process-lawful p (Redistribute line) h k = record {
+  process = h.process;
+  reference_bandwidth = h.reference_bandwidth;
+  stub_areas = h.stub_areas;
+  redistributions = redistributed-lawful p.redistributions line h.redistributions k;
+}
+process-lawful p (DefaultInformation line) h k = record { process = h.process; reference_bandwidth = h.reference_bandwidth; stub_areas = h.stub_areas; redistributions = h.redistributions }
 
 opened-lawful : (ospf : Option OspfProcess) (n : ℕ) → IfSome ospf IsLawfulProcess → IsOspfNumber n → IsLawfulProcess (ospf_opened ospf n)
-opened-lawful None n h k = record { process = k; reference_bandwidth = (omega arith, omega arith) }
+opened-lawful None n h k = record { process = k; reference_bandwidth = (omega arith, omega arith); stub_areas = All-nil IsStubArea; redistributions = All-nil IsRedistribution }
 opened-lawful (Some p) n h k = h
 
 lined-lawful : (ospf : Option OspfProcess) (line : OspfRow) → IfSome ospf IsLawfulProcess → IsLawfulOspfLine line → IfSome (option_map (λ p. with_ospf_line p line) ospf) IsLawfulProcess
@@ -182,6 +211,47 @@ after-ospf r (MapLine name n line) h k = h
 after-ospf r (InterfaceOspf name setting) h k = h
 after-ospf r (OspfOpened process) h k = opened-lawful r.ospf process h k
 after-ospf r (OspfLine line) h k = lined-lawful r.ospf line h k
+after-ospf r (BgpOpened asn) h k = h
+after-ospf r (BgpLine line) h k = h
+
+-- and its BGP process
+bgp_line-lawful : (p : BgpProcess) (line : BgpRow) → IsLawfulBgp p → IsLawfulBgp (with_bgp_line p line)
+bgp_line-lawful p (bgp_line.RouterId id) h = record { asn = h.asn; in_order = h.in_order }
+bgp_line-lawful p (bgp_line.Network prefix) h = record { asn = h.asn; in_order = h.in_order }
+bgp_line-lawful p (bgp_line.Neighbor address setting) h = record { asn = h.asn; in_order = placed_in_order neighbor_address _ p.neighbors h.in_order }
+bgp_line-lawful p (bgp_line.RedistributeConnected r) h = record { asn = h.asn; in_order = h.in_order }
+bgp_line-lawful p (bgp_line.RedistributeStatic r) h = record { asn = h.asn; in_order = h.in_order }
+bgp_line-lawful p (bgp_line.RedistributeOspf r) h = record { asn = h.asn; in_order = h.in_order }
+
+bgp_opened-lawful : (bgp : Option BgpProcess) (asn : ℕ) → IfSome bgp IsLawfulBgp → IsAsn asn → IsLawfulBgp (bgp_opened bgp asn)
+bgp_opened-lawful None asn h k = record { asn = k; in_order = λ i j d less within. absurd (omega arith) }
+bgp_opened-lawful (Some p) asn h k = h
+
+bgp_lined-lawful : (bgp : Option BgpProcess) (line : BgpRow) → IfSome bgp IsLawfulBgp → IfSome (option_map (λ p. with_bgp_line p line) bgp) IsLawfulBgp
+bgp_lined-lawful None line h = tt
+bgp_lined-lawful (Some p) line h = bgp_line-lawful p line h
+
+after-bgp : (r : RouterText) (c : Command) → HasLawfulBgp r → IsInRange c → HasLawfulBgp (after r c)
+after-bgp r Passed h k = h
+after-bgp r Remark h k = h
+after-bgp r (Hostname name line) h k = h
+after-bgp r (Interface name line) h k = h
+after-bgp r (Address name a secondary) h k = h
+after-bgp r (Shutdown name down) h k = h
+after-bgp r (Bandwidth name kbits) h k = h
+after-bgp r (StaticRoute route) h k = h
+after-bgp r (AccessListOpened name kind) h k = h
+after-bgp r (AccessListLine name kind line) h k = h
+after-bgp r (AccessGroup name list direction) h k = h
+after-bgp r (PrefixLine name line) h k = h
+after-bgp r (CommunityLine name line) h k = h
+after-bgp r (MapOpened name n action) h k = h
+after-bgp r (MapLine name n line) h k = h
+after-bgp r (InterfaceOspf name setting) h k = h
+after-bgp r (OspfOpened process) h k = h
+after-bgp r (OspfLine line) h k = h
+after-bgp r (BgpOpened asn) h k = bgp_opened-lawful r.bgp asn h k
+after-bgp r (BgpLine line) h k = bgp_lined-lawful r.bgp line h
 
 -- and its lists and route maps, where the command fits the file
 abbrev AreLawfulAccessLists : Lists → Type 0
@@ -217,6 +287,8 @@ after-lists r (AccessGroup name list direction) h k f = record { access_lists = 
 after-lists r (InterfaceOspf name setting) h k f = record { access_lists = h.access_lists; prefix_lists = h.prefix_lists; route_maps = h.route_maps }
 after-lists r (OspfOpened process) h k f = record { access_lists = h.access_lists; prefix_lists = h.prefix_lists; route_maps = h.route_maps }
 after-lists r (OspfLine line) h k f = record { access_lists = h.access_lists; prefix_lists = h.prefix_lists; route_maps = h.route_maps }
+after-lists r (BgpOpened asn) h k f = record { access_lists = h.access_lists; prefix_lists = h.prefix_lists; route_maps = h.route_maps }
+after-lists r (BgpLine line) h k f = record { access_lists = h.access_lists; prefix_lists = h.prefix_lists; route_maps = h.route_maps }
 after-lists r (AccessListOpened name kind) h k f = record {
   access_lists = All-with_value (λ n g. IsLawfulAccessList g) r.lists.access_lists name _ h.access_lists (access_list-lawful r.lists name kind h.access_lists);
   prefix_lists = h.prefix_lists;
@@ -264,3 +336,8 @@ pub put-ospf : {T : Type 0} (result : Result T AllocError) (r n : RouterText) (c
     → OnOk result (HasLawfulOspf r → IsInRange c → HasLawfulOspf n)
 put-ospf (Ok x) r n c e = λ h k. subst HasLawfulOspf (sym e) (after-ospf r c h k)
 put-ospf (Err x) r n c e = e
+
+pub put-bgp : {T : Type 0} (result : Result T AllocError) (r n : RouterText) (c : Command) → OnOk result (n ≡ after r c)
+    → OnOk result (HasLawfulBgp r → IsInRange c → HasLawfulBgp n)
+put-bgp (Ok x) r n c e = λ h k. subst HasLawfulBgp (sym e) (after-bgp r c h k)
+put-bgp (Err x) r n c e = e

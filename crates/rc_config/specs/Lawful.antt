@@ -11,12 +11,13 @@ use Rattle.rc_base.specs.declared.position.IfId.{IfId}
 use Rattle.rc_base.specs.declared.position.Pos.{Pos}
 use Rattle.rc_base.specs.declared.position.Pos.TheVariants.{Own, Entering}
 use Rattle.rc_config.specs.declared.command.Command.{Command}
-use Rattle.rc_config.specs.declared.command.Command.TheVariants.{Passed, Remark, Hostname, Interface, Address, Shutdown, Bandwidth, StaticRoute, AccessListOpened, AccessListLine, AccessGroup, PrefixLine, CommunityLine, MapOpened, MapLine, InterfaceOspf, OspfOpened, OspfLine}
+use Rattle.rc_config.specs.declared.command.Command.TheVariants.{Passed, Remark, Hostname, Interface, Address, Shutdown, Bandwidth, StaticRoute, AccessListOpened, AccessListLine, AccessGroup, PrefixLine, CommunityLine, MapOpened, MapLine, InterfaceOspf, OspfOpened, OspfLine, BgpOpened, BgpLine}
 use Rattle.rc_config.specs.declared.interface.IfAddr.{IfAddr}
 use Rattle.rc_config.specs.declared.interface.Interface.{Interface as Block}
 use Rattle.rc_config.specs.declared.network.Network.{Network}
 use Rattle.rc_config.specs.declared.router_text.RouterText.{RouterText}
 use Rattle.rc_config.specs.declared.static_route.StaticRoute.{StaticRoute as Route}
+use Rattle.rc_config.specs.Bgp.{IsAsn, IsLawfulBgp}
 use Rattle.rc_config.specs.AccessList.{has_sequence, IsLawfulAccessList, IsLawfulLine}
 use Rattle.rc_config.specs.IfType.{type_of}
 use Rattle.rc_config.specs.Interface.{declared_addresses}
@@ -60,8 +61,12 @@ pub record HasLawfulLists (r : RouterText) : Type 0 where
 abbrev pub HasLawfulOspf : RouterText → Type 0
 HasLawfulOspf r = IfSome r.ospf IsLawfulProcess
 
+-- the number of the AS of a BGP process is in range, and its neighbours stand by address
+abbrev pub HasLawfulBgp : RouterText → Type 0
+HasLawfulBgp r = IfSome r.bgp IsLawfulBgp
+
 -- a file's model with a host name, at most 256 interfaces, each lawful, static routes with distances from 1 to 255, lawful lists and
--- route maps, and a lawful OSPF process where there is one
+-- route maps, and a lawful OSPF process and a lawful BGP process where there is one
 pub record IsLawfulFile (r : RouterText) : Type 0 where
   pub has_host : IsSome r.host
   pub few : length r.interfaces ≤ 256
@@ -69,6 +74,7 @@ pub record IsLawfulFile (r : RouterText) : Type 0 where
   pub static_routes : HasLawfulRoutes r
   pub lists : HasLawfulLists r
   pub ospf : HasLawfulOspf r
+  pub bgp : HasLawfulBgp r
 
 -- a command that keeps a file lawful: an address goes to an interface of a named type, a line of an access list is one of a list
 -- of its kind, and values are in range
@@ -91,6 +97,8 @@ IsInRange (MapLine name n line) = IsLawfulMapLine line
 IsInRange (InterfaceOspf name setting) = IsLawfulSetting setting
 IsInRange (OspfOpened process) = IsOspfNumber process
 IsInRange (OspfLine line) = IsLawfulOspfLine line
+IsInRange (BgpOpened asn) = IsAsn asn
+IsInRange (BgpLine line) = Unit {0}
 
 -- A command that the access lists of a file have room for: the list that it opens or adds a line to is of the kind that it says,
 -- where it is there, and none of its lines has the number of the new one.
@@ -113,6 +121,8 @@ FitsFile r (MapLine name n line) = Unit {0}
 FitsFile r (InterfaceOspf name setting) = Unit {0}
 FitsFile r (OspfOpened process) = Unit {0}
 FitsFile r (OspfLine line) = Unit {0}
+FitsFile r (BgpOpened asn) = Unit {0}
+FitsFile r (BgpLine line) = Unit {0}
 
 -- the model of a router stands under its own host name
 abbrev pub IsNamed : List ℕ → RouterText → Type 0

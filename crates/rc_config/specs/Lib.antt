@@ -9,6 +9,7 @@ pub mod Lawful
 pub mod Rows
 pub mod OpenBlock
 pub mod ActionWord
+pub mod DirectionWord
 pub mod Down
 pub mod DownRows
 pub mod PortLists
@@ -20,6 +21,9 @@ pub mod PrefixList
 pub mod Sets
 pub mod Ospf
 pub mod OspfRows
+pub mod Classes
+pub mod Bgp
+pub mod BgpRows
 pub mod RouteMap
 pub mod CommunityList
 pub mod Lists

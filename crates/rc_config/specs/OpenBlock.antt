@@ -12,4 +12,5 @@ block_at (at.Interface name) = block.Interface
 block_at (at.AccessList list kind) = block.AccessList
 block_at (at.Map map number) = block.RouteMap
 block_at at.Ospf = block.Ospf
+block_at at.Bgp = block.Bgp
 block_at at.Ignored = block.Ignored

@@ -5,10 +5,15 @@ use Rattle.rc_config.specs.declared.command.Command.TheVariants.{Hostname, Inter
 use Rattle.rc_config.specs.declared.command.Command.TheVariants as command
 use Rattle.rc_config.specs.declared.ospf.NetworkType.TheVariants.{Broadcast, PointToPoint}
 use Rattle.rc_config.specs.declared.ospf.OspfLine.{OspfLine}
-use Rattle.rc_config.specs.declared.ospf.OspfLine.TheVariants.{RouterId, Network, PassiveDefault, Passive, ReferenceBandwidth}
+use Rattle.rc_config.specs.declared.ospf.OspfLine.TheVariants.{RouterId, Network, PassiveDefault, Passive, ReferenceBandwidth, Stub, Redistribute, DefaultInformation}
 use Rattle.rc_config.specs.declared.ospf.OspfNetwork.{OspfNetwork}
 use Rattle.rc_config.specs.declared.ospf.OspfProcess.{OspfProcess}
 use Rattle.rc_config.specs.declared.ospf.OspfSetting.TheVariants.{Cost, HelloInterval, DeadInterval, NetworkType, Area}
+use Rattle.rc_config.specs.declared.ospf.RedistributedSource.{RedistributedSource}
+use Rattle.rc_config.specs.declared.ospf.RedistributedSource.TheVariants.{Connected, Static, Bgp}
+use Rattle.rc_config.specs.declared.ospf.Redistribution.{Redistribution}
+use Rattle.rc_config.specs.declared.ospf.StubArea.{StubArea}
+use Rattle.rc_config.specs.declared.sets.MetricType.TheVariants.{Type1, Type2}
 use Rattle.rc_config.specs.declared.router_text.RouterText.{RouterText}
 use Rattle.rc_config.specs.Interface.{fresh}
 use Rattle.rc_config.specs.Ospf.{is_passive, no_lines, no_settings}
@@ -71,6 +76,45 @@ default_stays = refl
 -- a process that is opened again keeps its lines
 pub opened_again : (file (OspfOpened 1 ∷ command.OspfLine (RouterId 7) ∷ Hostname port 3 ∷ OspfOpened 1 ∷ command.OspfLine PassiveDefault ∷ [])).ospf ≡ Some (record (no_lines 1) { router_id = Some 7; passive_default = true })
 opened_again = refl
+
+-- stub areas stand by number, and of two lines about one area the later counts with its own options alone
+abbrev stub : ℕ → StubArea
+stub area = record { area = area; no_summary = false }
+
+abbrev totally_stub : ℕ → StubArea
+totally_stub area = record { area = area; no_summary = true }
+
+pub stubs_by_number : option_map (λ p. p.stub_areas) (process (Stub (stub 7) ∷ Stub (totally_stub 3) ∷ [])) ≡ Some (totally_stub 3 ∷ stub 7 ∷ [])
+stubs_by_number = refl
+
+pub flag_dropped : option_map (λ p. p.stub_areas) (process (Stub (totally_stub 3) ∷ Stub (stub 7) ∷ Stub (stub 3) ∷ [])) ≡ Some (stub 3 ∷ stub 7 ∷ [])
+flag_dropped = refl
+
+pub flag_added : option_map (λ p. p.stub_areas) (process (Stub (stub 3) ∷ Stub (totally_stub 3) ∷ [])) ≡ Some (totally_stub 3 ∷ [])
+flag_added = refl
+
+-- of two `redistribute` lines about one source the later counts with its own options alone, and others stay
+abbrev plain : RedistributedSource → Redistribution
+plain source = record { source = source; metric = None; metric_type = None; subnets = false; route_map = None }
+
+abbrev costly : RedistributedSource → Redistribution
+costly source = record (plain source) { metric = Some 5; metric_type = Some Type1; subnets = true }
+
+pub each_source : option_map (λ p. p.redistributions) (process (Redistribute (costly Static) ∷ Redistribute (plain Connected) ∷ [])) ≡ Some (costly Static ∷ plain Connected ∷ [])
+each_source = refl
+
+pub options_dropped : option_map (λ p. p.redistributions) (process (Redistribute (costly Static) ∷ Redistribute (costly Connected) ∷ Redistribute (plain Static) ∷ [])) ≡ Some (costly Connected ∷ plain Static ∷ [])
+options_dropped = refl
+
+-- an AS of another number is no other source
+pub one_bgp : option_map (λ p. p.redistributions) (process (Redistribute (costly (Bgp 1)) ∷ Redistribute (plain (Bgp 2)) ∷ [])) ≡ Some (plain (Bgp 2) ∷ [])
+one_bgp = refl
+
+-- of the default that is sent the last line counts
+pub last_default : option_map (λ p. p.default_information)
+    (process (DefaultInformation (record { always = true; metric = Some 5; metric_type = Some Type2 }) ∷ DefaultInformation (record { always = false; metric = None; metric_type = Some Type1 }) ∷ []))
+    ≡ Some (Some (record { always = false; metric = None; metric_type = Some Type1 }))
+last_default = refl
 
 -- other lines leave the process as it is, and a `passive-interface` line declares no interface
 pub process_left : file (OspfOpened 1 ∷ command.OspfLine (Passive port true) ∷ []) ≡ record empty { ospf = Some (record (no_lines 1) { passive = (port, true) ∷ [] }) }

@@ -1,14 +1,16 @@
 -- What a command changes in the model of a file.
 use Rattle.std.specs.Prelude.{ℕ, List, [], ◌∷◌, ◌++◌, Option, Some, None, unwrap_or}
 use Rattle.std.specs.Option.{option_map}
+use Rattle.rc_config.specs.declared.bgp.BgpProcess.{BgpProcess}
 use Rattle.rc_config.specs.declared.command.Command.{Command}
-use Rattle.rc_config.specs.declared.command.Command.TheVariants.{Passed, Remark, Hostname, Interface, Address, Shutdown, Bandwidth, StaticRoute, AccessListOpened, AccessListLine, AccessGroup, PrefixLine, CommunityLine, MapOpened, MapLine, InterfaceOspf, OspfOpened, OspfLine}
+use Rattle.rc_config.specs.declared.command.Command.TheVariants.{Passed, Remark, Hostname, Interface, Address, Shutdown, Bandwidth, StaticRoute, AccessListOpened, AccessListLine, AccessGroup, PrefixLine, CommunityLine, MapOpened, MapLine, InterfaceOspf, OspfOpened, OspfLine, BgpOpened, BgpLine}
 use Rattle.rc_config.specs.declared.interface.Interface.{Interface as Block}
 use Rattle.rc_config.specs.declared.lists.Lists.{Lists}
 use Rattle.rc_config.specs.declared.ospf.OspfProcess.{OspfProcess}
 use Rattle.rc_config.specs.declared.route_map.RouteMap.{RouteMap}
 use Rattle.rc_config.specs.declared.router_text.RouterText.{RouterText}
 use Rattle.rc_config.specs.declared.static_route.StaticRoute.{StaticRoute as Route}
+use Rattle.rc_config.specs.Bgp.{no_lines as no_bgp_lines, with_line as with_bgp_line}
 use Rattle.rc_config.specs.Interface.{fresh, with_address, with_group, with_ospf}
 use Rattle.rc_config.specs.Lists.{no_lists, with_access_list_opened, with_access_list_line, with_prefix_line, with_community_line}
 use Rattle.rc_config.specs.Named.{named, with_value}
@@ -17,7 +19,7 @@ use Rattle.rc_config.specs.RouteMap.{no_entries, opened, with_line}
 
 -- the model of a file with no line
 abbrev pub empty : RouterText
-empty = record { host = None; interfaces = []; static_routes = []; lists = no_lists; route_maps = []; ospf = None }
+empty = record { host = None; interfaces = []; static_routes = []; lists = no_lists; route_maps = []; ospf = None; bgp = None }
 
 -- the interface of a name, a fresh one where there is none
 abbrev pub block_of : List (List ℕ × Block) → List ℕ → Block
@@ -69,7 +71,10 @@ with_lists_after r command = record r { lists = lists_after r.lists command }
 abbrev pub ospf_opened : Option OspfProcess → ℕ → OspfProcess
 ospf_opened ospf process = unwrap_or ospf (no_ospf_lines process)
 
--- the model after one more command. An OSPF process or an entry of a route map that is opened again keeps its lines.
+abbrev pub bgp_opened : Option BgpProcess → ℕ → BgpProcess
+bgp_opened bgp asn = unwrap_or bgp (no_bgp_lines asn)
+
+-- the model after one more command. A process or an entry of a route map that is opened again keeps its lines.
 abbrev pub after : RouterText → Command → RouterText
 after r Passed = r
 after r Remark = r
@@ -89,3 +94,5 @@ after r (MapLine name n line) = with_route_map r name (with_line (route_map_name
 after r (InterfaceOspf name setting) = with_interfaces_after r (InterfaceOspf name setting)
 after r (OspfOpened process) = record r { ospf = Some (ospf_opened r.ospf process) }
 after r (OspfLine line) = record r { ospf = option_map (λ p. with_ospf_line p line) r.ospf }
+after r (BgpOpened asn) = record r { bgp = Some (bgp_opened r.bgp asn) }
+after r (BgpLine line) = record r { bgp = option_map (λ p. with_bgp_line p line) r.bgp }

@@ -1,7 +1,7 @@
 //! What one line of a configuration says.
 use crate::{
-    AccessListKind, AccessListLine, Action, CommunityLine, Direction, IfAddr, MapLine, OspfLine,
-    OspfSetting, PrefixLine, StaticRoute,
+    AccessListKind, AccessListLine, Action, BgpLine, CommunityLine, Direction, IfAddr, MapLine,
+    OspfLine, OspfSetting, PrefixLine, StaticRoute,
 };
 use rc_base::Name;
 
@@ -10,8 +10,8 @@ use rc_base::Name;
 pub enum Command {
     /// A line that says nothing here.
     Passed,
-    /// `remark ..`, or `access-list N remark ..`: a line of a form that has no effect. Other than a line that is passed
-    /// over, it opens no block.
+    /// A line of a form that has no effect, as `remark ..` or `neighbor A activate`. Other than a line that is passed over,
+    /// it opens no block.
     Remark,
     /// `hostname NAME`, with the number of its line.
     Hostname {
@@ -96,5 +96,13 @@ pub enum Command {
     /// A line in the block of the router's OSPF process.
     OspfLine {
         line: OspfLine,
+    },
+    /// `router bgp N`, N from 1 on: the block of the router's process in this AS, of a new one or of the known one again.
+    BgpOpened {
+        asn: u32,
+    },
+    /// A line in the block of the router's BGP process.
+    BgpLine {
+        line: BgpLine,
     },
 }

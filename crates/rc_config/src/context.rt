@@ -20,6 +20,8 @@ pub enum OpenBlock {
     Map(Name, u32),
     /// The block of the router's OSPF process.
     Ospf,
+    /// The block of the router's BGP process.
+    Bgp,
     /// A block whose lines are all passed over.
     Ignored,
 }
@@ -38,6 +40,7 @@ impl OpenBlock {
             OpenBlock::AccessList(_, _) => Block::AccessList,
             OpenBlock::Map(_, _) => Block::RouteMap,
             OpenBlock::Ospf => Block::Ospf,
+            OpenBlock::Bgp => Block::Bgp,
             OpenBlock::Ignored => Block::Ignored,
         }
     }

@@ -64,12 +64,12 @@ impl IfAddr {
     }
 }
 
-/// The direction in which an access list filters at an interface.
+/// The direction in which a list filters at an interface, or at a neighbour.
 #[derive(Clone, Copy, PartialEq, Eq)]
 pub enum Direction {
-    /// What enters there.
+    /// What enters there, or comes from the neighbour.
     In,
-    /// What goes out there.
+    /// What goes out there, or to the neighbour.
     Out,
 }
 

@@ -1,5 +1,5 @@
 //! The model that the lines of a configuration make: a file's host name, interfaces, static routes, access lists, routing
-//! policy and OSPF process, and the network of all files.
+//! policy, OSPF process and BGP process, and the network of all files.
 //!
 //! It stands on the names and addresses of rc_base, and on the map of indexmap. The layer above knows a file's model as
 //! what `after` makes of its commands one by one, a map as its list of names and values in the order of first mention,
@@ -8,10 +8,13 @@
 
 mod access_list;
 mod action_word;
+mod bgp;
 mod by_number;
+mod class;
 mod command;
 mod community_list;
 mod context;
+mod direction_word;
 mod down;
 mod if_type;
 mod interface;
@@ -31,10 +34,16 @@ pub use access_list::{
     AccessList, AccessListKind, AccessListLine, Action, AddressTest, PortTest, ProtocolTest,
 };
 pub use action_word::action_of;
+pub use bgp::{
+    BgpLine, BgpProcess, BgpRedistribution, BgpRedistributions, Neighbor, NeighborSetting,
+    OspfKinds, OspfRedistribution,
+};
 pub use by_number::{ByNumber, Numbered};
+pub use class::natural_len;
 pub use command::Command;
 pub use community_list::{CommunityLine, CommunityList};
 pub use context::{Context, OpenBlock};
+pub use direction_word::direction_of;
 pub use if_type::{IfType, type_of_name};
 pub use interface::{Direction, IfAddr, Interface};
 pub use lists::Lists;

@@ -1,5 +1,5 @@
 //! What a configuration says of OSPF (RFC 2328): the process of a router, and the settings of its interfaces.
-ghost use Rattle.std.specs.Prelude.{◌≡◌, OnOk};
+ghost use Rattle.std.specs.Prelude.{◌≡◌, IfOk, OnOk};
 ghost use Rattle.rc_config.specs.Ospf as spec;
 
 use crate::{ByNumber, Mention, MetricType, Named, Numbered};
@@ -115,10 +115,23 @@ pub enum RedistributedSource {
     Bgp(u32),
 }
 
+/// Whether two are one source, whatever the number of an AS: of a file's lines about one source the last counts.
+fn is_same_source(a: RedistributedSource, b: RedistributedSource) -> bool
+    ensures { result ≡ spec.is_same_source a b }
+{
+    match (a, b) {
+        (RedistributedSource::Connected, RedistributedSource::Connected) => true,
+        (RedistributedSource::Static, RedistributedSource::Static) => true,
+        (RedistributedSource::Bgp(_), RedistributedSource::Bgp(_)) => true,
+        _ => false,
+    }
+}
+
 /// Routes of one source as AS-external routes (RFC 2328 s.12.4.4).
 #[derive(Clone, Copy, PartialEq, Eq)]
 pub struct Redistribution {
     pub source: RedistributedSource,
+    /// From 0 to 16777214, which is below LSInfinity (RFC 2328 appendix B).
     pub metric: Option<u32>,
     pub metric_type: Option<MetricType>,
     /// Whether also routes pass whose length isn't the natural one of their address's class.
@@ -127,11 +140,32 @@ pub struct Redistribution {
     pub route_map: Option<Mention>,
 }
 
+/// What is redistributed with one more line, which counts in place of an earlier one from the same source.
+fn with_redistribution(
+    alloc: Global,
+    known: &[Redistribution],
+    line: Redistribution,
+) -> Result<Items<Redistribution>, AllocError>
+    ensures { IfOk result (λ made. made ≡ spec.with_redistribution known.now line) }
+{
+    // For the proof: that of a push wants each enum within the element named in the function.
+    let _named: Option<Mention> = None;
+    let mut made = Items::new(alloc);
+    for other in known {
+        if !is_same_source(other.source, line.source) {
+            made.push(*other)?;
+        }
+    }
+    made.push(line)?;
+    Ok(made)
+}
+
 /// The default route as an AS-external route.
 #[derive(Clone, Copy, PartialEq, Eq)]
 pub struct DefaultInformation {
     /// Whether it is sent also where the router has none.
     pub always: bool,
+    /// Any number: as a metric it is at most 16777214.
     pub metric: Option<u32>,
     pub metric_type: Option<MetricType>,
 }
@@ -149,6 +183,12 @@ pub enum OspfLine {
     Passive { interface: Name, passive: bool },
     /// `auto-cost reference-bandwidth N`, from 1 to 4294967 Mbit/s.
     ReferenceBandwidth(u32),
+    /// `area N stub`, or `area N stub no-summary`.
+    Stub(StubArea),
+    /// `redistribute connected`, or `redistribute static`, with its options.
+    Redistribute(Redistribution),
+    /// `default-information originate`, with its options.
+    DefaultInformation(DefaultInformation),
 }
 
 /// The OSPF process of a router: what the lines of its block say.
@@ -208,8 +248,19 @@ impl OspfProcess {
         }
     }
 
+    /// Puts a `redistribute` line.
+    fn put_redistribution(&mut self, line: Redistribution) -> Result<(), AllocError>
+        ensures { OnOk result (self.new ≡ record self.old { redistributions = spec.with_redistribution self.old.redistributions line }) }
+    {
+        let alloc = self.passive.allocator();
+        let made = with_redistribution(alloc, self.redistributions.as_slice(), line)?;
+        self.redistributions = made;
+        Ok(())
+    }
+
     /// Puts one more line: a `network` line goes behind the others, and any other counts in place of an earlier one of the same
-    /// kind, of `passive-interface` lines in place of one about the same interface.
+    /// kind, with its own options alone: of `passive-interface` lines in place of one about the same interface, of `area` lines of
+    /// one about the same area, and of `redistribute` lines of one about the same source.
     pub(crate) fn put_line(&mut self, line: OspfLine) -> Result<(), AllocError>
         ensures { OnOk result (self.new ≡ spec.with_line self.old line) }
     {
@@ -221,6 +272,11 @@ impl OspfProcess {
                 self.passive.insert(interface, passive)?;
             }
             OspfLine::ReferenceBandwidth(mbits) => self.reference_bandwidth = mbits,
+            OspfLine::Stub(area) => {
+                self.stub_areas.insert(area)?;
+            }
+            OspfLine::Redistribute(line) => self.put_redistribution(line)?,
+            OspfLine::DefaultInformation(line) => self.default_information = Some(line),
         }
         Ok(())
     }

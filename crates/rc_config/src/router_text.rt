@@ -1,7 +1,8 @@
 //! The model of a file.
 ghost use Rattle.std.specs.Prelude.{◌≡◌, IfOk, OnOk, Some, unwrap_or, ◌++◌, ◌∷◌, []};
 ghost use Rattle.std.specs.Option.{option_map};
-ghost use Rattle.rc_config.specs.Lawful.{FitsFile, HasLawfulInterfaces, HasLawfulLists, HasLawfulOspf, HasLawfulRoutes, IsInRange};
+ghost use Rattle.rc_config.specs.Bgp.{with_line as with_bgp_line};
+ghost use Rattle.rc_config.specs.Lawful.{FitsFile, HasLawfulBgp, HasLawfulInterfaces, HasLawfulLists, HasLawfulOspf, HasLawfulRoutes, IsInRange};
 ghost use Rattle.rc_config.specs.CommunityList.{no_lines as no_community_lines, with_line as community_list_with};
 ghost use Rattle.rc_config.specs.AccessList.{no_lines as no_access_list_lines, with_line as access_list_with};
 ghost use Rattle.rc_config.specs.Named.{index_of, named, with_value};
@@ -9,12 +10,12 @@ ghost use Rattle.rc_config.specs.Ospf.{with_line as with_ospf_line};
 ghost use Rattle.rc_config.specs.PrefixList.{no_lines as no_prefix_lines, with_line as prefix_list_with};
 ghost use Rattle.rc_config.specs.RouteMap.{no_entries, opened, with_line};
 ghost use Rattle.rc_config.specs.Interface.{fresh, with_address as address_put, with_group as group_put, with_ospf as ospf_put};
-ghost use Rattle.rc_config.specs.Update.{after, empty, interfaces_after, lists_after, ospf_opened};
+ghost use Rattle.rc_config.specs.Update.{after, bgp_opened, empty, interfaces_after, lists_after, ospf_opened};
 
 use crate::{
-    AccessList, AccessListKind, AccessListLine, Action, Command, CommunityLine, CommunityList,
-    Direction, IfAddr, Interface, Lists, MapLine, Named, OspfLine, OspfProcess, OspfSetting,
-    PrefixLine, PrefixList, RouteMap, StaticRoute, Target,
+    AccessList, AccessListKind, AccessListLine, Action, BgpLine, BgpProcess, Command,
+    CommunityLine, CommunityList, Direction, IfAddr, Interface, Lists, MapLine, Named, OspfLine,
+    OspfProcess, OspfSetting, PrefixLine, PrefixList, RouteMap, StaticRoute, Target,
 };
 use rc_base::{Items, Name};
 use std::alloc::{AllocError, Global};
@@ -41,6 +42,8 @@ pub struct RouterText {
     pub route_maps: Named<RouteMap>,
     /// The OSPF process, where a line opens its block.
     pub ospf: Option<OspfProcess>,
+    /// The BGP process, likewise.
+    pub bgp: Option<BgpProcess>,
 }
 
 /// By a function of its own, so that what holds a model drops it by one call.
@@ -53,6 +56,7 @@ impl Drop for RouterText {
             lists: _,
             route_maps: _,
             ospf: _,
+            bgp: _,
         } = self;
     }
 }
@@ -65,6 +69,7 @@ impl RouterText {
         ensures routes { HasLawfulRoutes result }
         ensures lists { HasLawfulLists result }
         ensures ospf { HasLawfulOspf result }
+        ensures bgp { HasLawfulBgp result }
     {
         RouterText {
             host: None,
@@ -73,6 +78,7 @@ impl RouterText {
             lists: Lists::new(alloc),
             route_maps: Named::new(alloc),
             ospf: None,
+            bgp: None,
         }
     }
 
@@ -82,14 +88,15 @@ impl RouterText {
     /// runs out what is left is no model of the file.
     ///
     /// Where all interfaces are lawful and the command's values are in range, all interfaces are lawful again, and so it is
-    /// with static routes and the OSPF process; and with lists and route maps, where a line of an access list is one of a list of its kind and its
-    /// number is new there.
+    /// with static routes and the OSPF and BGP processes; and with lists and route maps, where a line of an access list is
+    /// one of a list of its kind and its number is new there.
     pub fn apply(&mut self, command: Command) -> Result<(), AllocError>
         ensures value { OnOk result (self.new ≡ after self.old command) }
         ensures lawful { OnOk result (HasLawfulInterfaces self.old → IsInRange command → HasLawfulInterfaces self.new) }
         ensures routes { OnOk result (HasLawfulRoutes self.old → IsInRange command → HasLawfulRoutes self.new) }
         ensures lists { OnOk result (HasLawfulLists self.old → IsInRange command → FitsFile self.old command → HasLawfulLists self.new) }
         ensures ospf { OnOk result (HasLawfulOspf self.old → IsInRange command → HasLawfulOspf self.new) }
+        ensures bgp { OnOk result (HasLawfulBgp self.old → IsInRange command → HasLawfulBgp self.new) }
     {
         self.put_into(command)
     }
@@ -101,6 +108,7 @@ impl RouterText {
         ensures routes { IfOk result (λ r. HasLawfulRoutes self → IsInRange command → HasLawfulRoutes r) }
         ensures lists { IfOk result (λ r. HasLawfulLists self → IsInRange command → FitsFile self command → HasLawfulLists r) }
         ensures ospf { IfOk result (λ r. HasLawfulOspf self → IsInRange command → HasLawfulOspf r) }
+        ensures bgp { IfOk result (λ r. HasLawfulBgp self → IsInRange command → HasLawfulBgp r) }
     {
         self.apply(command)?;
         Ok(self)
@@ -142,6 +150,12 @@ impl RouterText {
                 Ok(())
             }
             Command::OspfLine { line } => put_ospf_line(&mut self.ospf, line),
+            Command::BgpOpened { asn } => {
+                let alloc = self.interfaces.allocator();
+                put_bgp_opened(alloc, &mut self.bgp, asn);
+                Ok(())
+            }
+            Command::BgpLine { line } => put_bgp_line(&mut self.bgp, line),
         }
     }
 }
@@ -404,6 +418,25 @@ fn put_ospf_line(ospf: &mut Option<OspfProcess>, line: OspfLine) -> Result<(), A
     ensures { OnOk result (ospf.new ≡ option_map (λ p. with_ospf_line p line) ospf.old) }
 {
     match ospf {
+        Some(process) => process.put_line(line),
+        None => Ok(()),
+    }
+}
+
+/// `router bgp`
+fn put_bgp_opened(alloc: Global, bgp: &mut Option<BgpProcess>, asn: u32)
+    ensures { bgp.new ≡ Some (bgp_opened bgp.old asn) }
+{
+    if bgp.is_none() {
+        *bgp = Some(BgpProcess::new(alloc, asn));
+    }
+}
+
+/// A line in the block of the BGP process, where there is one.
+fn put_bgp_line(bgp: &mut Option<BgpProcess>, line: BgpLine) -> Result<(), AllocError>
+    ensures { OnOk result (bgp.new ≡ option_map (λ p. with_bgp_line p line) bgp.old) }
+{
+    match bgp {
         Some(process) => process.put_line(line),
         None => Ok(()),
     }

@@ -1,2 +1,3 @@
 pub mod Cubes
+pub mod Count
 pub mod Rows

@@ -1,9 +1,10 @@
 //! The cubes of a set, one after another.
-ghost use Rattle.std.specs.Prelude.{◌≡◌, ℕ, ◌+◌, ◌<◌, ◌≤◌, None, slice_get};
+ghost use Rattle.std.specs.Prelude.{◌≡◌, ℕ, ◌+◌, ◌<◌, ◌≤◌, None, OnSome, slice_get};
 ghost use Rattle.std.specs.Option.{option_map};
 ghost use Rattle.rc_trees.specs.Trees.{Tree};
 ghost use Rattle.rc_nodes.specs.Seats.{IsKnown, IsSeatOf, Keeps, SeatKnows};
 ghost use Rattle.rc_bdd.specs.Work.{IsFrom};
+ghost use Rattle.rc_cubes.specs.Count.{cubes_left};
 ghost use Rattle.rc_cubes.specs.Cubes.{with_test, cubes, later, left, Goes, IsOpened};
 
 use crate::Cube;
@@ -141,6 +142,7 @@ impl Cubes {
         ensures keeps { Keeps seat.old seat.new }
         ensures set { self.new.set ≡ self.old.set }
         ensures next { (t : Tree) → SeatKnows seat.old self.old.set.index t → Goes (left self.old.last t) result (left self.new.last t) }
+        ensures fewer { OnSome result (cubes_left seat.new self.new < cubes_left seat.old self.old) }
     {
         match behind(nodes, seat, self.set, &self.last) {
             Some(cube) => {

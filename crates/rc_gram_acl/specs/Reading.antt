@@ -45,6 +45,7 @@ written_at place.Global line = None
 written_at (place.Interface name) line = None
 written_at (place.Map map n) line = None
 written_at place.Ospf line = None
+written_at place.Bgp line = None
 written_at place.Ignored line = None
 
 -- the rows for a line at a place

@@ -63,6 +63,7 @@ fn written_at(block: &OpenBlock, line: Words) -> Option<u32>
         OpenBlock::Interface(_) => None,
         OpenBlock::Map(_, _) => None,
         OpenBlock::Ospf => None,
+        OpenBlock::Bgp => None,
         OpenBlock::Ignored => None,
     }
 }

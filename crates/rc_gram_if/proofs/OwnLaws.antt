@@ -2,7 +2,7 @@
 use Rattle.std.specs.Prelude.{Result, Ok, Err, IfOk}
 use Rattle.rc_openings.specs.declared.reading.LineError.{LineError}
 use Rattle.rc_config.specs.declared.command.Command.{Command}
-use Rattle.rc_config.specs.declared.command.Command.TheVariants.{Passed, Remark, Hostname, Interface, Address, Shutdown, Bandwidth, StaticRoute, AccessListOpened, AccessListLine, AccessGroup, PrefixLine, CommunityLine, MapOpened, MapLine, InterfaceOspf, OspfOpened, OspfLine}
+use Rattle.rc_config.specs.declared.command.Command.TheVariants.{Passed, Remark, Hostname, Interface, Address, Shutdown, Bandwidth, StaticRoute, AccessListOpened, AccessListLine, AccessGroup, PrefixLine, CommunityLine, MapOpened, MapLine, InterfaceOspf, OspfOpened, OspfLine, BgpOpened, BgpLine}
 use Rattle.rc_config.specs.declared.router_text.RouterText.{RouterText}
 use Rattle.rc_config.specs.Lawful.{FitsFile, IsInRange}
 use Rattle.rc_gram_if.specs.Own.{IsOwn}
@@ -26,6 +26,8 @@ range-of (MapOpened map n action) h = absurd h
 range-of (MapLine map n line) h = absurd h
 range-of (OspfOpened process) h = absurd h
 range-of (OspfLine line) h = absurd h
+range-of (BgpOpened asn) h = absurd h
+range-of (BgpLine line) h = absurd h
 
 fits-of : (file : RouterText) (c : Command) → IsOwn c → FitsFile file c
 fits-of file Passed h = tt
@@ -46,6 +48,8 @@ fits-of file (MapOpened map n action) h = absurd h
 fits-of file (MapLine map n line) h = absurd h
 fits-of file (OspfOpened process) h = absurd h
 fits-of file (OspfLine line) h = absurd h
+fits-of file (BgpOpened asn) h = absurd h
+fits-of file (BgpLine line) h = absurd h
 
 pub own-range : (r : Result Command LineError) → IfOk r IsOwn → IfOk r IsInRange
 own-range (Ok c) h = range-of c h

@@ -1,6 +1,6 @@
 -- The commands of this grammar.
 use Rattle.rc_config.specs.declared.command.Command.{Command}
-use Rattle.rc_config.specs.declared.command.Command.TheVariants.{Passed, Remark, Hostname, Interface, Address, Shutdown, Bandwidth, StaticRoute, AccessListOpened, AccessListLine, AccessGroup, PrefixLine, CommunityLine, MapOpened, MapLine, InterfaceOspf, OspfOpened, OspfLine}
+use Rattle.rc_config.specs.declared.command.Command.TheVariants.{Passed, Remark, Hostname, Interface, Address, Shutdown, Bandwidth, StaticRoute, AccessListOpened, AccessListLine, AccessGroup, PrefixLine, CommunityLine, MapOpened, MapLine, InterfaceOspf, OspfOpened, OspfLine, BgpOpened, BgpLine}
 use Rattle.rc_config.specs.Lawful.{IsInRange}
 
 -- values are in range, and no list, route map or OSPF process is opened or gets a line
@@ -23,3 +23,5 @@ IsOwn (MapLine map n line) = ⊥
 IsOwn (InterfaceOspf name setting) = IsInRange (InterfaceOspf name setting)
 IsOwn (OspfOpened process) = ⊥
 IsOwn (OspfLine line) = ⊥
+IsOwn (BgpOpened asn) = ⊥
+IsOwn (BgpLine line) = ⊥

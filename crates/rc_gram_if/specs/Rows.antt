@@ -5,11 +5,11 @@ use Rattle.std.specs.Str.{bytes_eq}
 use Rattle.std.specs.Char.{is_ascii_alphanumeric}
 use Rattle.rc_base.specs.Name.{is_name, name_of}
 use Rattle.rc_base.specs.Prefix.{Cidr}
+use Rattle.rc_config.specs.DirectionWord.{direction_of}
 use Rattle.rc_config.specs.IfType.{type_of}
 use Rattle.rc_config.specs.declared.command.Command.{Command}
 use Rattle.rc_config.specs.declared.command.Command.TheVariants as command
 use Rattle.rc_config.specs.declared.interface.Direction.{Direction}
-use Rattle.rc_config.specs.declared.interface.Direction.TheVariants.{In, Out}
 use Rattle.rc_config.specs.declared.router_text.RouterText.{RouterText}
 use Rattle.rc_config.specs.declared.static_route.Target.{Target}
 use Rattle.rc_config.specs.declared.static_route.Target.TheVariants as target
@@ -63,10 +63,6 @@ kbits_in owner None = Err BadValue
 abbrev pub bandwidth : List ℕ → List (List ℕ) → Answer
 bandwidth owner (n ∷ []) = kbits_in owner (number_within 1 10000000 n)
 bandwidth owner _ = Err BadValue
-
--- the direction that a word is
-abbrev pub direction_of : List ℕ → Option Direction
-direction_of word = if bytes_eq word (codes "in") then Some In else (if bytes_eq word (codes "out") then Some Out else None)
 
 abbrev pub group_in : List ℕ → Option (List ℕ) → Option Direction → Answer
 group_in owner (Some list) (Some direction) = Ok (command.AccessGroup owner list direction)

@@ -2,15 +2,18 @@
 ghost use Rattle.std.specs.Prelude.{◌≡◌, ◌≤◌, [], IfOk, IfSome};
 ghost use Rattle.std.specs.List.{list_all, list_any};
 ghost use Rattle.std.specs.Str.{bytes_eq};
-ghost use Rattle.rc_openings.specs.Values.{address_of, mask_length_of, prefix_from};
 ghost use Rattle.rc_openings.specs.Words.{words_left};
 ghost use Rattle.rc_gram_if.specs.Own.{IsOwn};
 ghost use Rattle.rc_gram_if.specs.Rows as rows;
 
 use crate::route_options::read_distance;
 use rc_base::{Addr, Name, Prefix};
-use rc_config::{Command, Direction, IfAddr, RouterText, StaticRoute, Target, type_of_name};
-use rc_openings::{LineRefusal, Words, number_in, word_addr, word_interface, word_mask};
+use rc_config::{
+    Command, Direction, IfAddr, RouterText, StaticRoute, Target, direction_of, type_of_name,
+};
+use rc_openings::{
+    LineRefusal, Words, number_in, prefix_under, word_addr, word_interface, word_mask,
+};
 
 fn is_host_byte(byte: u8) -> bool
     ensures { result ≡ rows.is_host_byte byte }
@@ -130,19 +133,6 @@ pub(crate) fn bandwidth(owner: Name, mut words: Words) -> Result<Command, LineRe
     }
 }
 
-/// The direction that a word is.
-fn direction_of(word: &[u8]) -> Option<Direction>
-    ensures { result ≡ rows.direction_of word.now }
-{
-    if word == b"in".as_slice() {
-        return Some(Direction::In);
-    }
-    if word == b"out".as_slice() {
-        return Some(Direction::Out);
-    }
-    None
-}
-
 fn group_in(
     owner: Name,
     list: Option<Name>,
@@ -209,16 +199,6 @@ fn device_of(word: &[u8]) -> Option<Name>
 {
     match word_interface(word) {
         Some(name) if !is_reserved(word) => Some(name),
-        _ => None,
-    }
-}
-
-/// The prefix that an address and a mask are.
-fn prefix_under(addr: &[u8], mask: &[u8]) -> Option<Prefix>
-    ensures { result ≡ prefix_from (address_of addr.now) (mask_length_of mask.now) }
-{
-    match (word_addr(addr), word_mask(mask)) {
-        (Some(addr), Some(len)) => Prefix::new(addr, len),
         _ => None,
     }
 }

@@ -1,3 +1,4 @@
+pub mod RedistributeOptions
 pub mod Lines
 pub mod Rows
 pub mod Reading

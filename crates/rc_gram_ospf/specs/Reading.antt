@@ -6,16 +6,16 @@ use Rattle.rc_config.specs.declared.command.Command.{Command}
 use Rattle.rc_config.specs.declared.command.Command.TheVariants.{Passed}
 use Rattle.rc_config.specs.declared.context.OpenBlock.{OpenBlock}
 use Rattle.rc_config.specs.declared.router_text.RouterText.{RouterText}
-use Rattle.rc_gram_ospf.specs.Rows.{Answer, row}
+use Rattle.rc_gram_ospf.specs.Rows.{Answer, row_answer}
 
--- the rows for a line of this file
-abbrev pub rows_in : RouterText → FormRows Command
-rows_in file = record { answer = row file; passed = Passed }
+-- the rows for the line of this number and these words, in this file
+abbrev pub rows_in : RouterText → ℕ → List (List ℕ) → FormRows Command
+rows_in file number line = record { answer = row_answer file number line; passed = Passed }
 
 -- the line says this where it stands: the opening with most words decides
-abbrev pub Says : OpenBlock → RouterText → List (List ℕ) → Answer → Type 0
-Says block file line answer = SaysBy (rows_in file) (block_at block) line answer
+abbrev pub Says : OpenBlock → RouterText → ℕ → List (List ℕ) → Answer → Type 0
+Says block file number line answer = SaysBy (rows_in file number line) (block_at block) line answer
 
 -- the same, computed
-abbrev pub says : OpenBlock → RouterText → List (List ℕ) → Answer
-says block file line = said_by (rows_in file) (block_at block) line
+abbrev pub says : OpenBlock → RouterText → ℕ → List (List ℕ) → Answer
+says block file number line = said_by (rows_in file number line) (block_at block) line

@@ -1,11 +1,13 @@
 -- The rows of OSPF: the command that a line of each form is, by its words behind the opening. A line that fits no row is BadValue.
-use Rattle.std.specs.Prelude.{ℕ, ◌==◌, List, [], ◌∷◌, Option, Some, None, Result, Ok, Err, if◌then◌else◌}
+use Rattle.std.specs.Prelude.{ℕ, ◌==◌, List, [], ◌∷◌, Option, Some, None, Result, Ok, Err, if◌then◌else◌, codes}
 use Rattle.rc_config.specs.declared.command.Command.{Command}
 use Rattle.rc_config.specs.declared.command.Command.TheVariants as command
 use Rattle.rc_config.specs.declared.ospf.OspfLine.{OspfLine}
 use Rattle.rc_config.specs.declared.ospf.OspfProcess.{OspfProcess}
 use Rattle.rc_config.specs.declared.router_text.RouterText.{RouterText}
+use Rattle.rc_openings.specs.Reading.{judged}
 use Rattle.rc_openings.specs.Values.{number_within}
+use Rattle.rc_openings.specs.Words.{words_of}
 use Rattle.rc_openings.specs.declared.form.Form.{Form}
 use Rattle.rc_openings.specs.declared.form.Form.TheVariants as form
 use Rattle.rc_openings.specs.declared.reading.LineRefusal.{LineRefusal}
@@ -33,7 +35,18 @@ abbrev pub in_block : Option OspfLine → Answer
 in_block (Some line) = Ok (command.OspfLine line)
 in_block None = Err BadValue
 
--- what a line of a form says; forms of other grammars have no row here
-abbrev pub row : RouterText → Form → List (List ℕ) → Answer
-row file form.RouterOspf behind = router_ospf file behind
-row file f behind = in_block (line_of f behind)
+-- the row of a form, to the line of this number and these words; forms of other grammars have none here
+abbrev pub row : RouterText → ℕ → List (List ℕ) → Form → List (List ℕ) → Answer
+row file number line form.RouterOspf behind = router_ospf file behind
+row file number line f behind = in_block (line_of f number line behind)
+
+-- the words that make a line of a form one that isn't modelled, where it fits no row
+unfoldable pub refused_words : Form → List (List ℕ)
+refused_words form.OspfRedistributeConnected = words_of (codes "tag nssa-only")
+refused_words form.OspfRedistributeStatic = words_of (codes "tag nssa-only")
+refused_words form.DefaultInformationOriginate = words_of (codes "route-map")
+refused_words _ = []
+
+-- what a line of a form says by its words behind the opening
+abbrev pub row_answer : RouterText → ℕ → List (List ℕ) → Form → List (List ℕ) → Answer
+row_answer file number line f behind = judged (refused_words f) behind (row file number line f behind)

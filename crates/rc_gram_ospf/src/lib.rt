@@ -6,6 +6,7 @@
 
 mod lines;
 mod reading;
+mod redistribute_options;
 mod rows;
 
 pub use reading::{read_form, read_line};

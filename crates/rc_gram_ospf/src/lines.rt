@@ -1,12 +1,17 @@
 //! The lines in the block of an OSPF process, by the words behind their openings. A line that fits no row is none.
-ghost use Rattle.std.specs.Prelude.{◌≡◌, IfSome};
-ghost use Rattle.rc_openings.specs.Words.{words_left};
+ghost use Rattle.std.specs.Prelude.{◌≡◌, ◌≤◌, IfSome, option_map};
+ghost use Rattle.rc_openings.specs.Words.{words_left, words_of};
 ghost use Rattle.rc_config.specs.Ospf.{IsLawfulOspfLine};
 ghost use Rattle.rc_gram_ospf.specs.Lines as lines;
 
-use rc_base::Addr;
-use rc_config::{OspfLine, OspfNetwork};
-use rc_openings::{Form, Words, number_in, word_addr, word_area, word_interface};
+use crate::redistribute_options::{RedistributeOptions, metric_type_of, read_options};
+use rc_base::{Addr, Name};
+use rc_config::{
+    DefaultInformation, Mention, MetricType, OspfLine, OspfNetwork, RedistributedSource,
+    Redistribution, StubArea,
+};
+use rc_lines::Line;
+use rc_openings::{Form, Words, number_in, word_addr, word_area, word_interface, word_u32};
 
 /// `router-id A`
 fn router_id(mut words: Words) -> Option<OspfLine>
@@ -93,9 +98,136 @@ fn reference_bandwidth(mut words: Words) -> Option<OspfLine>
     }
 }
 
-/// The line of a form, where it fits its row.
-pub(crate) fn line_of(form: Form, behind: Words) -> Option<OspfLine>
-    ensures row { result ≡ lines.line_of form (words_left behind.entry) }
+/// `[no-summary]`, and nothing behind.
+fn no_summary_of(mut words: Words) -> Option<bool>
+    ensures { result ≡ lines.no_summary_of (words_left words.entry) }
+{
+    match (words.next_word(), words.next_word()) {
+        (None, _) => Some(false),
+        (Some(word), None) if word == b"no-summary".as_slice() => Some(true),
+        _ => None,
+    }
+}
+
+/// An area that may be a stub: any but the backbone.
+fn stub_in(area: Option<u32>, no_summary: Option<bool>) -> Option<OspfLine>
+    ensures row { result ≡ lines.stub_in area no_summary }
+    ensures lawful { IfSome result IsLawfulOspfLine }
+{
+    let (Some(area), Some(no_summary)) = (area, no_summary) else {
+        return None;
+    };
+    if area == 0 {
+        return None;
+    }
+    Some(OspfLine::Stub(StubArea { area, no_summary }))
+}
+
+/// `area N stub [no-summary]`, by all words of the line: the opening fits any word in the place of N.
+fn stub_area(mut line: Words) -> Option<OspfLine>
+    ensures row { result ≡ lines.stub_area (words_left line.entry) }
+    ensures lawful { IfSome result IsLawfulOspfLine }
+{
+    match (line.next_word(), line.next_word(), line.next_word()) {
+        (Some(_), Some(area), Some(_)) => stub_in(word_area(area), no_summary_of(line)),
+        _ => None,
+    }
+}
+
+/// A route map that the line of this number names.
+fn mention_of(name: Option<Name>, line: u64) -> Option<Mention>
+    ensures { result ≡ option_map (λ name. record { name = name; line = line }) name }
+{
+    match name {
+        Some(name) => Some(Mention { name, line }),
+        None => None,
+    }
+}
+
+/// A `redistribute` line with these options.
+fn redistributed(source: RedistributedSource, number: u64, options: RedistributeOptions) -> OspfLine
+    requires { IfSome options.metric (λ n. n ≤ 16777214) }
+    ensures row { result ≡ lines.redistributed source number options }
+    ensures lawful { IsLawfulOspfLine result }
+{
+    OspfLine::Redistribute(Redistribution {
+        source,
+        metric: options.metric,
+        metric_type: options.metric_type,
+        subnets: options.subnets,
+        route_map: mention_of(options.route_map, number),
+    })
+}
+
+/// `redistribute connected ..` and `redistribute static ..`, with options in any order, each at most once.
+fn redistribute(source: RedistributedSource, number: u64, behind: Words) -> Option<OspfLine>
+    ensures row { result ≡ lines.redistribute source number (words_left behind.entry) }
+    ensures lawful { IfSome result IsLawfulOspfLine }
+{
+    match read_options(behind) {
+        Some(options) => Some(redistributed(source, number, options)),
+        None => None,
+    }
+}
+
+fn default_with(always: bool, metric: Option<u32>, metric_type: Option<MetricType>) -> OspfLine
+    ensures row { result ≡ lines.default_with always metric metric_type }
+    ensures lawful { IsLawfulOspfLine result }
+{
+    OspfLine::DefaultInformation(DefaultInformation {
+        always,
+        metric,
+        metric_type,
+    })
+}
+
+/// `[metric-type 1|2]`, and nothing behind.
+fn default_typed(always: bool, metric: Option<u32>, mut words: Words) -> Option<OspfLine>
+    ensures row { result ≡ lines.default_typed always metric (words_left words.entry) }
+    ensures lawful { IfSome result IsLawfulOspfLine }
+{
+    match (words.next_word(), words.next_word(), words.next_word()) {
+        (None, _, _) => Some(default_with(always, metric, None)),
+        (Some(key), Some(word), None) if key == b"metric-type".as_slice() => {
+            match metric_type_of(word) {
+                Some(metric_type) => Some(default_with(always, metric, Some(metric_type))),
+                None => None,
+            }
+        }
+        _ => None,
+    }
+}
+
+/// `[metric N] [metric-type 1|2]`
+fn default_measured(always: bool, words: Words) -> Option<OspfLine>
+    ensures row { result ≡ lines.default_measured always (words_left words.entry) }
+    ensures lawful { IfSome result IsLawfulOspfLine }
+{
+    let mut rest = words;
+    match (rest.next_word(), rest.next_word()) {
+        (Some(key), Some(word)) if key == b"metric".as_slice() => match word_u32(word) {
+            Some(metric) => default_typed(always, Some(metric), rest),
+            None => None,
+        },
+        _ => default_typed(always, None, words),
+    }
+}
+
+/// `default-information originate [always] [metric N] [metric-type 1|2]`, in this order.
+fn default_information(words: Words) -> Option<OspfLine>
+    ensures row { result ≡ lines.default_information (words_left words.entry) }
+    ensures lawful { IfSome result IsLawfulOspfLine }
+{
+    let mut rest = words;
+    match rest.next_word() {
+        Some(word) if word == b"always".as_slice() => default_measured(true, rest),
+        _ => default_measured(false, words),
+    }
+}
+
+/// What a line of a form says, where it fits its row.
+pub(crate) fn line_of(form: Form, line: &Line, behind: Words) -> Option<OspfLine>
+    ensures row { result ≡ lines.line_of form line.now.number (words_of line.now.text) (words_left behind.entry) }
     ensures lawful { IfSome result IsLawfulOspfLine }
 {
     match form {
@@ -105,6 +237,18 @@ pub(crate) fn line_of(form: Form, behind: Words) -> Option<OspfLine>
         Form::NoPassiveInterface => passive_interface(false, behind),
         Form::PassiveInterfaceDefault => passive_default(behind),
         Form::ReferenceBandwidth => reference_bandwidth(behind),
+        Form::StubArea => stub_area(line.words()),
+        Form::OspfRedistributeConnected => redistribute(
+            RedistributedSource::Connected,
+            line.number(),
+            behind,
+        ),
+        Form::OspfRedistributeStatic => redistribute(
+            RedistributedSource::Static,
+            line.number(),
+            behind,
+        ),
+        Form::DefaultInformationOriginate => default_information(behind),
         _ => None,
     }
 }

@@ -6,18 +6,18 @@ ghost use Rattle.rc_config.specs.Lawful.{FitsFile, IsInRange};
 ghost use Rattle.rc_gram_ospf.specs.Reading as reading;
 ghost use Rattle.rc_gram_ospf.specs.Rows as rows;
 
-use crate::rows::row;
+use crate::rows::row_answer;
 use rc_config::{Command, Context, OpenBlock, RouterText};
 use rc_lines::Line;
 use rc_openings::{Decision, Form, LineError, Words};
 
-fn answer(form: Form, behind: Words, file: &RouterText) -> Result<Command, LineError>
-    ensures row { Gives result (rows.row file.now form (words_left behind.entry)) }
+fn answer(form: Form, behind: Words, line: &Line, file: &RouterText) -> Result<Command, LineError>
+    ensures row { Gives result (rows.row_answer file.now line.now.number (words_of line.now.text) form (words_left behind.entry)) }
     ensures takes_no_memory { result ≢ Err LineError.Memory }
     ensures in_range { IfOk result IsInRange }
     ensures fits { IfOk result (FitsFile file.now) }
 {
-    match row(form, file, behind) {
+    match row_answer(form, file, line, behind) {
         Ok(command) => Ok(command),
         Err(refusal) => Err(LineError::Refused(refusal)),
     }
@@ -25,18 +25,23 @@ fn answer(form: Form, behind: Words, file: &RouterText) -> Result<Command, LineE
 
 /// What a line of this form says where it stands, by its words behind the opening that decides it. Forms of other grammars
 /// are a bad value.
-pub fn read_form(form: Form, behind: Words, context: Context) -> Result<Command, LineError>
-    ensures row { Gives result (rows.row context.entry.file.now form (words_left behind.entry)) }
+pub fn read_form(
+    form: Form,
+    behind: Words,
+    line: &Line,
+    context: Context,
+) -> Result<Command, LineError>
+    ensures row { Gives result (rows.row_answer context.entry.file.now line.now.number (words_of line.now.text) form (words_left behind.entry)) }
     ensures takes_no_memory { result ≢ Err LineError.Memory }
     ensures in_range { IfOk result IsInRange }
     ensures fits { IfOk result (FitsFile context.entry.file.now) }
 {
-    answer(form, behind, context.file)
+    answer(form, behind, line, context.file)
 }
 
 /// What a line says in this block, where its form is one of OSPF.
 fn read_in(line: &Line, block: &OpenBlock, file: &RouterText) -> Result<Command, LineError>
-    ensures exact { Gives result (reading.says block.now file.now (words_of line.now.text)) }
+    ensures exact { Gives result (reading.says block.now file.now line.now.number (words_of line.now.text)) }
     ensures takes_no_memory { result ≢ Err LineError.Memory }
     ensures in_range { IfOk result IsInRange }
     ensures fits { IfOk result (FitsFile file.now) }
@@ -44,7 +49,7 @@ fn read_in(line: &Line, block: &OpenBlock, file: &RouterText) -> Result<Command,
     match block.kind().decided(line.words()) {
         Decision::Passed => Ok(Command::Passed),
         Decision::Refused(refusal) => Err(LineError::Refused(refusal)),
-        Decision::Form(form, behind) => answer(form, behind, file),
+        Decision::Form(form, behind) => answer(form, behind, line, file),
     }
 }
 
@@ -53,9 +58,9 @@ fn read_in(line: &Line, block: &OpenBlock, file: &RouterText) -> Result<Command,
 /// It errs exactly where the definition of its openings and rows does, and takes no memory.
 pub fn read_line(line: &Line, context: Context) -> Result<Command, LineError>
     // One opening decides, that with most words, and the row of its form is the meaning.
-    ensures decided { IfAnswered result (reading.Says context.entry.block context.entry.file.now (words_of line.now.text)) }
+    ensures decided { IfAnswered result (reading.Says context.entry.block context.entry.file.now line.now.number (words_of line.now.text)) }
     // So each line says one thing.
-    ensures exact { Gives result (reading.says context.entry.block context.entry.file.now (words_of line.now.text)) }
+    ensures exact { Gives result (reading.says context.entry.block context.entry.file.now line.now.number (words_of line.now.text)) }
     ensures takes_no_memory { result ≢ Err LineError.Memory }
     // Values are in their ranges.
     ensures in_range { IfOk result IsInRange }

@@ -140,6 +140,7 @@ pub(crate) fn row_answer(
         OpenBlock::Interface(_) => list_answer(alloc, form, file, behind),
         OpenBlock::AccessList(_, _) => list_answer(alloc, form, file, behind),
         OpenBlock::Ospf => list_answer(alloc, form, file, behind),
+        OpenBlock::Bgp => list_answer(alloc, form, file, behind),
         OpenBlock::Ignored => list_answer(alloc, form, file, behind),
     }
 }

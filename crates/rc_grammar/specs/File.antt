@@ -9,7 +9,7 @@ use Rattle.rc_lines.specs.Banners.{indent_of}
 use Rattle.rc_lines.specs.Lines.{TextLine, lines_of, is_too_long}
 use Rattle.rc_lines.specs.declared.banner.Part.{Part}
 use Rattle.rc_lines.specs.declared.banner.Part.TheVariants as part
-use Rattle.rc_config.specs.Lawful.{HasLawfulInterfaces, HasLawfulLists, HasLawfulOspf, HasLawfulRoutes}
+use Rattle.rc_config.specs.Lawful.{HasLawfulBgp, HasLawfulInterfaces, HasLawfulLists, HasLawfulOspf, HasLawfulRoutes}
 use Rattle.rc_config.specs.Named.{named}
 use Rattle.rc_config.specs.Update.{after, empty}
 use Rattle.rc_config.specs.declared.command.Command.{Command}
@@ -35,13 +35,14 @@ is_passed ((b ∷ bs) ∷ ws) = b == 33
 abbrev pub at_line : Reading → List ℕ → Reading
 at_line r text = record r { block = if indent_of text == 0 then block.Global else r.block }
 
--- The block that is open after a command: a line without indent closes the open block, `interface`, `ip access-list`, `route-map` and
--- `router ospf` open one, and a line without indent that is passed over opens one whose lines are all passed over.
+-- The block that is open after a command: a line without indent closes the open block, `interface`, `ip access-list`, `route-map`,
+-- `router ospf` and `router bgp` open one, and a line without indent that is passed over opens one whose lines are all passed over.
 abbrev pub open_after : OpenBlock → Command → OpenBlock
 open_after block.Global (command.Interface name line) = block.Interface name
 open_after block.Global (command.AccessListOpened list kind) = block.AccessList list kind
 open_after block.Global (command.MapOpened map n action) = block.Map map n
 open_after block.Global (command.OspfOpened process) = block.Ospf
+open_after block.Global (command.BgpOpened asn) = block.Bgp
 open_after block.Global command.Passed = block.Ignored
 open_after block.Global _ = block.Closed
 open_after at _ = at
@@ -66,6 +67,8 @@ interface_of (command.MapLine map n line) = None
 interface_of (command.InterfaceOspf name setting) = Some name
 interface_of (command.OspfOpened process) = None
 interface_of (command.OspfLine line) = None
+interface_of (command.BgpOpened asn) = None
+interface_of (command.BgpLine line) = None
 
 -- a file has at most 256 interfaces
 abbrev pub is_one_too_many : RouterText → Option (List ℕ) → Bool
@@ -135,13 +138,14 @@ pub data IsRefusal (bytes : List ℕ) (refusal : FileRefusal) : Type 0 where
 abbrev pub RefusesTheFirst : Type 0
 RefusesTheFirst = (bytes : List ℕ) (refusal : FileRefusal) → (file_of bytes ≡ Err refusal) ↔ IsRefusal bytes refusal
 
--- what every line leaves of a model: at most 256 interfaces, each lawful, and lawful routes, lists and OSPF process
+-- what every line leaves of a model: at most 256 interfaces, each lawful, and lawful routes, lists and processes
 pub record IsFit (file : RouterText) : Type 0 where
   pub few : length file.interfaces ≤ 256
   pub interfaces : HasLawfulInterfaces file
   pub routes : HasLawfulRoutes file
   pub lists : HasLawfulLists file
   pub ospf : HasLawfulOspf file
+  pub bgp : HasLawfulBgp file
 
 -- why a file has no model, where its line of this number gave nothing
 abbrev pub failed_at : ℕ → LineError → ReadError

@@ -4,7 +4,7 @@ use Rattle.rc_openings.specs.Forms.{grammar_of}
 use Rattle.rc_openings.specs.Reading.{FormRows, SaysBy, said_by}
 use Rattle.rc_openings.specs.declared.form.Form.{Form}
 use Rattle.rc_openings.specs.declared.form.Grammar.{Grammar}
-use Rattle.rc_openings.specs.declared.form.Grammar.TheVariants.{General, AccessLists, Policies, Ospf}
+use Rattle.rc_openings.specs.declared.form.Grammar.TheVariants.{General, AccessLists, Policies, Ospf, Bgp}
 use Rattle.rc_openings.specs.declared.reading.LineRefusal.{LineRefusal}
 use Rattle.rc_config.specs.OpenBlock.{block_at}
 use Rattle.rc_config.specs.declared.command.Command.{Command}
@@ -12,8 +12,9 @@ use Rattle.rc_config.specs.declared.command.Command.TheVariants.{Passed}
 use Rattle.rc_config.specs.declared.context.OpenBlock.{OpenBlock}
 use Rattle.rc_config.specs.declared.router_text.RouterText.{RouterText}
 use Rattle.rc_gram_acl.specs.Reading.{written_at, row_answer as access_list_answer}
+use Rattle.rc_gram_bgp.specs.Reading.{row_answer as bgp_answer}
 use Rattle.rc_gram_if.specs.Reading.{row_answer as general_answer}
-use Rattle.rc_gram_ospf.specs.Rows.{row as ospf_answer}
+use Rattle.rc_gram_ospf.specs.Rows.{row_answer as ospf_answer}
 use Rattle.rc_gram_policy.specs.Rows.{row_answer as policy_answer}
 
 abbrev pub Answer : Type 0
@@ -24,7 +25,8 @@ abbrev pub answer_in : Grammar → OpenBlock → RouterText → ℕ → List (Li
 answer_in General block file number line f behind = general_answer block file number line f behind
 answer_in AccessLists block file number line f behind = access_list_answer block file (written_at block line) f behind
 answer_in Policies block file number line f behind = policy_answer block file number f behind
-answer_in Ospf block file number line f behind = ospf_answer file f behind
+answer_in Ospf block file number line f behind = ospf_answer file number line f behind
+answer_in Bgp block file number line f behind = bgp_answer file line f behind
 
 -- the rows of all forms, for the line of this number at a place: each form has those of its grammar
 abbrev pub rows_at : OpenBlock → RouterText → ℕ → List (List ℕ) → FormRows Command

@@ -5,3 +5,4 @@ pub mod Grammars
 pub mod PolicyRows
 pub mod ListRows
 pub mod OspfRows
+pub mod BgpRows

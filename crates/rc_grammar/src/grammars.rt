@@ -31,7 +31,8 @@ fn read_form(
         Grammar::General => rc_gram_if::read_form(form, behind, line, context),
         Grammar::AccessLists => rc_gram_acl::read_form(form, behind, line, context),
         Grammar::Policies => rc_gram_policy::read_form(form, behind, line, context),
-        Grammar::Ospf => rc_gram_ospf::read_form(form, behind, context),
+        Grammar::Ospf => rc_gram_ospf::read_form(form, behind, line, context),
+        Grammar::Bgp => rc_gram_bgp::read_form(form, behind, line, context),
     }
 }
 

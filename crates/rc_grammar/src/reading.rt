@@ -46,6 +46,7 @@ fn block_after(block: &OpenBlock, command: &Command) -> OpenBlock
             Command::AccessListOpened { list, kind } => OpenBlock::AccessList(*list, *kind),
             Command::MapOpened { map, number, .. } => OpenBlock::Map(*map, *number),
             Command::OspfOpened { .. } => OpenBlock::Ospf,
+            Command::BgpOpened { .. } => OpenBlock::Bgp,
             Command::Passed => OpenBlock::Ignored,
             _ => OpenBlock::Closed,
         },
@@ -75,6 +76,8 @@ fn interface_named(command: &Command) -> Option<&Name>
         Command::InterfaceOspf { interface, .. } => Some(interface),
         Command::OspfOpened { .. } => None,
         Command::OspfLine { .. } => None,
+        Command::BgpOpened { .. } => None,
+        Command::BgpLine { .. } => None,
     }
 }
 

@@ -112,7 +112,7 @@ added-by {T} (Err e) g known routers file model host is new noted put err =
 pub refused-twice : (models : List Model) (refusal : NetRefusal) → twice models ≡ Some refusal → first_refusal models ≡ Some refusal
 refused-twice models refusal is = ap (λ t. option_or t (first_undefined models)) is
 
--- where none is, it is that of the first undefined list
+-- where none is, it is that of the first undefined name
 first-gathered : {T : Type 0} (x : T) (models : List Model) (g : Gathered) → GathersAll models g (Ok x) → first_refusal models ≡ g.undefined
 first-gathered x models g h = ap (λ t. option_or t (first_undefined models)) h.0 ∙ sym (ap (λ (g : Gathered). g.undefined) h.1)
 
@@ -121,7 +121,7 @@ pub failed : (T : Type 0) (models : List Model) (g : Gathered) (e : BuildError) 
 failed T models g error.Memory h = tt
 failed T models g (error.Refused refusal) h = refused-twice models refusal h
 
--- what is gathered makes the network, or the refusal of the first undefined list
+-- what is gathered makes the network, or the refusal of the first undefined name
 pub finished : {T : Type 0} (x : T) (models : List Model) (g : Gathered) (r : Result Network BuildError) → GathersAll models g (Ok x) → IsFinished g r → IsBuilt models r
 finished x models g (Err error.Memory) h made = tt
 finished x models g (Err (error.Refused refusal)) h made = first-gathered x models g h ∙ made

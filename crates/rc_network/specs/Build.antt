@@ -42,7 +42,7 @@ twice_from earlier models = option_map twice_refusal (first_twice earlier models
 abbrev pub twice : List Model → Option NetRefusal
 twice models = twice_from [] models
 
--- a file that names an undefined list is refused at the least line that does
+-- a file that names what it doesn't define is refused at the least line that does
 abbrev pub undefined_in : Model → Option NetRefusal
 undefined_in m = option_map (λ line. InFile m.0 line Undefined) (undefined_line m.1)
 
@@ -50,7 +50,7 @@ undefined_in m = option_map (λ line. InFile m.0 line Undefined) (undefined_line
 abbrev pub first_undefined : List Model → Option NetRefusal
 first_undefined models = slice_get (filter_map undefined_in models) 0
 
--- the first refusal: of a host name that is there already, in whichever file, before that of an undefined list
+-- the first refusal: of a host name that is there already, in whichever file, before that of an undefined name
 abbrev pub first_refusal : List Model → Option NetRefusal
 first_refusal models = option_or (twice models) (first_undefined models)
 

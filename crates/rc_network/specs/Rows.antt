@@ -1,5 +1,5 @@
--- Worked cases of undefined lists, each by computation.
-use Rattle.std.specs.Prelude.{◌≡◌, ℕ, List, [], ◌∷◌, ◌++◌, fold, Some, None, codes, refl}
+-- Worked cases of what is named and not defined, each by computation.
+use Rattle.std.specs.Prelude.{◌≡◌, ℕ, false, List, [], ◌∷◌, ◌++◌, fold, Some, None, codes, refl}
 use Rattle.rc_config.specs.AccessList.{host_address, standard_line}
 use Rattle.rc_config.specs.Update.{after, empty}
 use Rattle.rc_config.specs.declared.command.Command.{Command}
@@ -10,6 +10,9 @@ use Rattle.rc_config.specs.declared.map_line.MapLine.TheVariants.{Match, Set}
 use Rattle.rc_config.specs.declared.map_line.MatchKind.{MatchKind}
 use Rattle.rc_config.specs.declared.map_line.MatchKind.TheVariants.{AccessList, PrefixList, CommunityList}
 use Rattle.rc_config.specs.declared.map_line.SetLine.TheVariants.{Weight}
+use Rattle.rc_config.specs.declared.ospf.OspfLine.TheVariants.{Redistribute}
+use Rattle.rc_config.specs.declared.ospf.RedistributedSource.{RedistributedSource}
+use Rattle.rc_config.specs.declared.ospf.RedistributedSource.TheVariants as source
 use Rattle.rc_config.specs.declared.router_text.RouterText.{RouterText}
 use Rattle.rc_base.specs.Prefix.{prefix_at}
 use Rattle.rc_network.specs.Build.{Model, first_refusal}
@@ -91,13 +94,54 @@ least_of_kinds = refl
 pub least_of_maps : undefined_line (file (command.MapOpened (codes "N") 10 Permit ∷ matching 10 PrefixList (one ∷ []) 6 ++ command.MapLine (codes "N") 10 (Match PrefixList (one ∷ []) 8) ∷ [])) ≡ Some 6
 least_of_maps = refl
 
--- the first undefined list and not the first list
+-- the first undefined name and not the first list
 pub first_is_defined : undefined_line (file (prefix_line one ∷ matching 10 PrefixList (one ∷ []) 5 ++ matching 20 PrefixList (two ∷ []) 7)) ≡ Some 7
 first_is_defined = refl
 
 -- a route map without `match` lines names nothing
 pub no_match_line : undefined_line (file (command.MapOpened (codes "M") 10 Permit ∷ command.MapLine (codes "M") 10 (Set (Weight 7)) ∷ [])) ≡ None
 no_match_line = refl
+
+-- a `redistribute` line of this number, in the block of a process, and one that names no route map
+abbrev redistributing : RedistributedSource → List ℕ → ℕ → Command
+redistributing source name line = command.OspfLine (Redistribute (record { source = source; metric = None; metric_type = None; subnets = false; route_map = Some (record { name = name; line = line }) }))
+
+abbrev redistributing_all : RedistributedSource → Command
+redistributing_all source = command.OspfLine (Redistribute (record { source = source; metric = None; metric_type = None; subnets = false; route_map = None }))
+
+-- a `redistribute` line names a route map, which one of its lines opens, in front of it or behind it
+pub no_route_map : undefined_line (file (command.OspfOpened 1 ∷ redistributing source.Static one 5 ∷ [])) ≡ Some 5
+no_route_map = refl
+
+pub route_map_defined : undefined_line (file (command.MapOpened one 10 Permit ∷ command.OspfOpened 1 ∷ redistributing source.Static one 5 ∷ [])) ≡ None
+route_map_defined = refl
+
+pub route_map_behind : undefined_line (file (command.OspfOpened 1 ∷ redistributing source.Connected one 5 ∷ command.MapOpened one 10 Permit ∷ [])) ≡ None
+route_map_behind = refl
+
+-- lists of the name define no route map
+pub lists_alone : undefined_line (file (access_line one ∷ prefix_line one ∷ community_line one ∷ command.OspfOpened 1 ∷ redistributing source.Static one 5 ∷ [])) ≡ Some 5
+lists_alone = refl
+
+-- a line that a later one about its source replaces names nothing, and one about another source does
+pub replaced : undefined_line (file (command.OspfOpened 1 ∷ redistributing source.Static one 5 ∷ redistributing_all source.Static ∷ [])) ≡ None
+replaced = refl
+
+pub replaced_by_another : undefined_line (file (command.OspfOpened 1 ∷ redistributing source.Static one 5 ∷ redistributing source.Static two 7 ∷ [])) ≡ Some 7
+replaced_by_another = refl
+
+pub other_source : undefined_line (file (command.OspfOpened 1 ∷ redistributing source.Static one 5 ∷ redistributing_all source.Connected ∷ [])) ≡ Some 5
+other_source = refl
+
+-- the least line counts, whether a `match` or a `redistribute` line
+pub match_first : undefined_line (file (matching 10 PrefixList (one ∷ []) 4 ++ command.OspfOpened 1 ∷ redistributing source.Static two 6 ∷ [])) ≡ Some 4
+match_first = refl
+
+pub redistribute_first : undefined_line (file (command.OspfOpened 1 ∷ redistributing source.Static two 3 ∷ matching 10 PrefixList (one ∷ []) 6)) ≡ Some 3
+redistribute_first = refl
+
+pub least_of_sources : undefined_line (file (command.OspfOpened 1 ∷ redistributing source.Static one 6 ∷ redistributing source.Connected two 4 ∷ [])) ≡ Some 4
+least_of_sources = refl
 
 -- the file of a router, whose first line gives the host name
 abbrev router : List ℕ → List ℕ → List Command → Model
@@ -120,7 +164,7 @@ first_file = refl
 pub defined_elsewhere : first_refusal (router first (codes "r1") (prefix_line one ∷ []) ∷ router second (codes "r2") (naming 5) ∷ []) ≡ Some (InFile second 5 Undefined)
 defined_elsewhere = refl
 
--- a host name that is there already comes first, also behind a file that names an undefined list
+-- a host name that is there already comes first, also behind a file that names what it does not define
 pub host_name_first : first_refusal (router first (codes "r1") (naming 5) ∷ router second (codes "r1") [] ∷ []) ≡ Some (InFile second 1 TwiceNamed)
 host_name_first = refl
 

@@ -22,14 +22,14 @@ Adds g m more (Ok x) = (named g.routers (host_of m.1) ≡ None) × (more ≡ gat
 Adds g m more (Err error.Memory) = Unit {0}
 Adds g m more (Err (error.Refused refusal)) = IsSome (named g.routers (host_of m.1)) × (refusal ≡ twice_refusal m)
 
--- all models are under their host names as they come, with the first undefined list; or the first host name is refused that is there
+-- all models are under their host names as they come, with the first undefined name; or the first host name is refused that is there
 -- already
 abbrev pub GathersAll : {T : Type 0} → List Model → Gathered → Result T BuildError → Type 0
 GathersAll models g (Ok x) = (twice models ≡ None) × (g ≡ record { routers = map under_host models; undefined = first_undefined models })
 GathersAll models g (Err error.Memory) = Unit {0}
 GathersAll models g (Err (error.Refused refusal)) = twice models ≡ Some refusal
 
--- what is gathered is a network, where no undefined list is known
+-- what is gathered is a network, where no undefined name is known
 abbrev pub IsFinished : Gathered → Result Network BuildError → Type 0
 IsFinished g (Ok net) = (g.undefined ≡ None) × IsPermutation g.routers net.routers × AreNamesInOrder net.routers
 IsFinished g (Err error.Memory) = Unit {0}

@@ -25,7 +25,7 @@ fn host_of(model: &RouterText) -> HostLine
     }
 }
 
-/// The refusal of a model's first undefined list.
+/// The refusal of a model's first undefined name.
 fn undefined_of(file: FileName, model: &RouterText) -> Option<NetRefusal>
     ensures { result ≡ undefined_in (file, model.now) }
 {
@@ -35,7 +35,7 @@ fn undefined_of(file: FileName, model: &RouterText) -> Option<NetRefusal>
     }
 }
 
-/// Models under their host names, as far as they have come, and the refusal of the first undefined list among them.
+/// Models under their host names, as far as they have come, and the refusal of the first undefined name among them.
 struct Gathered {
     routers: Named<RouterText>,
     undefined: Option<NetRefusal>,
@@ -84,7 +84,7 @@ impl Gathered {
         self.routers.get(name).is_some()
     }
 
-    /// Notes the first undefined list of a model, where none is known.
+    /// Notes the first undefined name of a model, where none is known.
     fn note_undefined(&mut self, file: FileName, model: &RouterText)
         ensures { self.new ≡ record self.old { undefined = option_or self.old.undefined (undefined_in (file, model.now)) } }
     {
@@ -123,7 +123,7 @@ impl Gathered {
         Ok(())
     }
 
-    /// The network of these models, or the refusal of their first undefined list.
+    /// The network of these models, or the refusal of their first undefined name.
     fn finished(self) -> Result<Network, BuildError>
         ensures { IsFinished self result }
     {
@@ -144,7 +144,7 @@ impl Gathered {
 /// The network of the models of files, which stand in the byte order of their files' names.
 ///
 /// It errs exactly where a model's host name is that of an earlier one, with the first such file and the line that gives
-/// the name; else where a file names an undefined list, with the first such file and the least line that does; and where
+/// the name; else where a file names what it doesn't define, with the first such file and the least line that does; and where
 /// memory runs out.
 pub fn build(alloc: Global, models: Vec<(FileName, RouterText)>) -> Result<Network, BuildError>
     requires few { length models.items ≤ 512 }

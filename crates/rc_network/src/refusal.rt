@@ -11,8 +11,8 @@ pub enum NetCause {
     File(FileCause),
     /// Its host name is that of an earlier file.
     TwiceNamed,
-    /// One of its route maps names a list in a `match` line that no line of the file defines: a standard access list, a prefix
-    /// list or a community list.
+    /// A line of it names what no line of it defines: a `match` line a standard access list, a prefix list or a community list, or
+    /// a `redistribute` line a route map.
     Undefined,
     /// It has more than 1,048,576 bytes.
     FileTooLong,

@@ -1,12 +1,22 @@
-//! Lists that the route maps of a file name and that none of its lines defines.
-ghost use Rattle.std.specs.Prelude.{◌≡◌, fold, slice_get};
+//! What the lines of a file name and none of its lines defines.
+ghost use Rattle.std.specs.Prelude.{◌≡◌, [], None, slice_get};
 ghost use Rattle.std.specs.List.{flat_map};
 ghost use Rattle.std.specs.Option.{option_map_or};
 ghost use Rattle.rc_network.specs.Least.{lower, least_from};
-ghost use Rattle.rc_network.specs.Undefined.{defines, is_standard, named_by_entry, named_by_map, of_kind, undefined_line};
+ghost use Rattle.rc_network.specs.Undefined.{defines, is_standard, named_by_entry, named_by_map, named_by_maps, named_by_process, named_by_redistribution, of_kind, undefined_line};
 
 use rc_base::Name;
-use rc_config::{AccessListKind, Lists, MapEntry, MatchKind, Mention, RouteMap, RouterText};
+use rc_config::{AccessListKind, MapEntry, Mention, Redistribution, RouteMap, RouterText};
+
+/// What a line may name that has to be in its file.
+#[derive(Clone, Copy, PartialEq, Eq)]
+pub(crate) enum NamedKind {
+    /// A standard access list.
+    AccessList,
+    PrefixList,
+    CommunityList,
+    RouteMap,
+}
 
 fn is_standard(kind: AccessListKind) -> bool
     ensures { result ≡ is_standard kind }
@@ -17,17 +27,18 @@ fn is_standard(kind: AccessListKind) -> bool
     }
 }
 
-/// Whether the file defines the list of this kind and name.
-fn defines(lists: &Lists, kind: MatchKind, name: &Name) -> bool
-    ensures { result ≡ defines lists.now kind name.now }
+/// Whether the file defines what is of this kind and name.
+fn defines(file: &RouterText, kind: NamedKind, name: &Name) -> bool
+    ensures { result ≡ defines file.now kind name.now }
 {
     match kind {
-        MatchKind::AccessList => match lists.access_lists.get(name) {
+        NamedKind::AccessList => match file.lists.access_lists.get(name) {
             Some(access_list) => is_standard(access_list.kind),
             None => false,
         },
-        MatchKind::PrefixList => lists.prefix_lists.get(name).is_some(),
-        MatchKind::CommunityList => lists.community_lists.get(name).is_some(),
+        NamedKind::PrefixList => file.lists.prefix_lists.get(name).is_some(),
+        NamedKind::CommunityList => file.lists.community_lists.get(name).is_some(),
+        NamedKind::RouteMap => file.route_maps.get(name).is_some(),
     }
 }
 
@@ -41,13 +52,18 @@ fn lower(known: Option<u64>, line: u64) -> Option<u64>
     }
 }
 
-/// The least of a known line and those that name undefined lists of a kind.
-fn least_of(lists: &Lists, kind: MatchKind, mentions: &[Mention], known: Option<u64>) -> Option<u64>
-    ensures { result ≡ least_from known lists.now (of_kind kind mentions.now) }
+/// The least of a known line and those that name what is of a kind and undefined.
+fn least_of(
+    file: &RouterText,
+    kind: NamedKind,
+    mentions: &[Mention],
+    known: Option<u64>,
+) -> Option<u64>
+    ensures { result ≡ least_from known file.now (of_kind kind mentions.now) }
 {
     let mut least = known;
     for mention in mentions {
-        if !defines(lists, kind, &mention.name) {
+        if !defines(file, kind, &mention.name) {
             least = lower(least, mention.line);
         }
     }
@@ -55,58 +71,111 @@ fn least_of(lists: &Lists, kind: MatchKind, mentions: &[Mention], known: Option<
 }
 
 /// The same of the lines of an entry.
-fn least_of_entry(lists: &Lists, entry: &MapEntry, known: Option<u64>) -> Option<u64>
-    ensures { result ≡ least_from known lists.now (named_by_entry entry.now) }
+fn least_of_entry(file: &RouterText, entry: &MapEntry, known: Option<u64>) -> Option<u64>
+    ensures { result ≡ least_from known file.now (named_by_entry entry.now) }
 {
     let known = least_of(
-        lists,
-        MatchKind::AccessList,
+        file,
+        NamedKind::AccessList,
         entry.access_lists.as_slice(),
         known,
     );
     let known = least_of(
-        lists,
-        MatchKind::PrefixList,
+        file,
+        NamedKind::PrefixList,
         entry.prefix_lists.as_slice(),
         known,
     );
     least_of(
-        lists,
-        MatchKind::CommunityList,
+        file,
+        NamedKind::CommunityList,
         entry.community_lists.as_slice(),
         known,
     )
 }
 
 /// The same of the lines of a route map.
-fn least_of_map(lists: &Lists, map: &RouteMap, known: Option<u64>) -> Option<u64>
-    ensures { result ≡ least_from known lists.now (named_by_map map.now) }
+fn least_of_map(file: &RouterText, map: &RouteMap, known: Option<u64>) -> Option<u64>
+    ensures { result ≡ least_from known file.now (named_by_map map.now) }
 {
     let mut least = known;
     for entry in map.entries.iter() {
-        least = least_of_entry(lists, entry, least);
+        least = least_of_entry(file, entry, least);
     }
     least
 }
 
 /// The same of the lines of the route map at an index.
 fn least_at(file: &RouterText, index: usize, known: Option<u64>) -> Option<u64>
-    ensures { result ≡ option_map_or (λ e. least_from known file.now.lists (named_by_map e.1)) (slice_get file.now.route_maps index) known }
+    ensures { result ≡ option_map_or (λ e. least_from known file.now (named_by_map e.1)) (slice_get file.now.route_maps index) known }
 {
     match file.route_maps.at(index) {
-        Some((_, map)) => least_of_map(&file.lists, map, known),
+        Some((_, map)) => least_of_map(file, map, known),
         None => known,
     }
 }
 
-/// The least line of a file that names an undefined list, or `None` exactly where none does. It takes no memory, and one look-up
-/// for each name of a `match` line.
-pub(crate) fn undefined_line(file: &RouterText) -> Option<u64>
-    ensures { result ≡ undefined_line file.now }
+/// The least line of a route map that names what the file doesn't define.
+fn least_of_maps(file: &RouterText) -> Option<u64>
+    ensures { result ≡ least_from None file.now (named_by_maps file.now.route_maps) }
 {
     let mut least = None;
     for index in 0..file.route_maps.len() {
         least = least_at(file, index, least);
     }
     least
+}
+
+/// The least of a known line and a `redistribute` line, where it names what is undefined.
+fn least_of_redistribution(
+    file: &RouterText,
+    line: &Redistribution,
+    known: Option<u64>,
+) -> Option<u64>
+    ensures { result ≡ least_from known file.now (named_by_redistribution line.now) }
+{
+    match &line.route_map {
+        Some(mention) => {
+            if defines(file, NamedKind::RouteMap, &mention.name) {
+                known
+            } else {
+                lower(known, mention.line)
+            }
+        }
+        None => known,
+    }
+}
+
+/// The same of some `redistribute` lines.
+fn least_of_redistributions(
+    file: &RouterText,
+    lines: &[Redistribution],
+    known: Option<u64>,
+) -> Option<u64>
+    ensures { result ≡ least_from known file.now (flat_map named_by_redistribution lines.now) }
+{
+    let mut least = known;
+    for line in lines {
+        least = least_of_redistribution(file, line, least);
+    }
+    least
+}
+
+/// The same of the lines of the OSPF process of the file, where there is one.
+fn least_of_process(file: &RouterText, known: Option<u64>) -> Option<u64>
+    ensures { result ≡ least_from known file.now (option_map_or named_by_process file.now.ospf []) }
+{
+    match &file.ospf {
+        Some(process) => least_of_redistributions(file, process.redistributions.as_slice(), known),
+        None => known,
+    }
+}
+
+/// The least line of a file that names what no line of it defines, or `None` exactly where none does. It takes no memory, and one
+/// look-up for each name.
+pub(crate) fn undefined_line(file: &RouterText) -> Option<u64>
+    ensures { result ≡ undefined_line file.now }
+{
+    let known = least_of_maps(file);
+    least_of_process(file, known)
 }

@@ -1,20 +1,20 @@
 -- The openings of a line under `router bgp`.
 use Rattle.std.specs.Prelude.{List, [], ◌∷◌, ◌++◌, codes}
 use Rattle.rc_openings.specs.declared.form.Form.TheVariants.{BgpRouterId, BgpNetwork, NeighborRemoteAs, NeighborUpdateSource, NeighborEbgpMultihop, NeighborNextHopSelf, NeighborShutdown, NeighborDefaultOriginate, NeighborActivate, NeighborSendCommunity, NeighborRouteMap, NeighborPrefixList, NeighborWeight, BgpRedistributeConnected, BgpRedistributeStatic, BgpRedistributeOspf}
-use Rattle.rc_openings.specs.Opening.{Row, later, refused, ignored}
+use Rattle.rc_openings.specs.Opening.{Row, form, later, refused, ignored}
 
 -- with these begin the forms
 unfoldable pub bgp_forms : List Row
 bgp_forms =
-    later (codes "bgp router-id") BgpRouterId
-    ∷ later (codes "network") BgpNetwork
-    ∷ later (codes "neighbor * remote-as") NeighborRemoteAs
-    ∷ later (codes "neighbor * update-source") NeighborUpdateSource
-    ∷ later (codes "neighbor * ebgp-multihop") NeighborEbgpMultihop
+    form (codes "bgp router-id") BgpRouterId
+    ∷ form (codes "network") BgpNetwork
+    ∷ form (codes "neighbor * remote-as") NeighborRemoteAs
+    ∷ form (codes "neighbor * update-source") NeighborUpdateSource
+    ∷ form (codes "neighbor * ebgp-multihop") NeighborEbgpMultihop
     ∷ later (codes "neighbor * next-hop-self") NeighborNextHopSelf
-    ∷ later (codes "neighbor * shutdown") NeighborShutdown
+    ∷ form (codes "neighbor * shutdown") NeighborShutdown
     ∷ later (codes "neighbor * default-originate") NeighborDefaultOriginate
-    ∷ later (codes "neighbor * activate") NeighborActivate
+    ∷ form (codes "neighbor * activate") NeighborActivate
     ∷ later (codes "neighbor * send-community") NeighborSendCommunity
     ∷ later (codes "neighbor * route-map") NeighborRouteMap
     ∷ later (codes "neighbor * prefix-list") NeighborPrefixList
@@ -33,6 +33,7 @@ bgp_refused =
     ∷ refused (codes "no bgp default ipv4-unicast")
     ∷ refused (codes "aggregate-address")
     ∷ refused (codes "address-family")
+    ∷ refused (codes "exit-address-family")
     ∷ refused (codes "maximum-paths")
     ∷ refused (codes "distance")
     ∷ refused (codes "default-information")

@@ -32,7 +32,7 @@ pub global_lines :
     × IsDecided block.Global (codes "no ip http server") (Some Ignored)
     × IsDecided block.Global (codes "router rip") (Some Refused)
     × IsDecided block.Global (codes "router ospf 1") (Some (Form form.RouterOspf))
-    × IsDecided block.Global (codes "router bgp 65001") (Some (Later form.RouterBgp))
+    × IsDecided block.Global (codes "router bgp 65001") (Some (Form form.RouterBgp))
     × IsDecided block.Global (codes "ip prefix-list X permit 10.0.0.0/8") (Some (Form form.PrefixList))
     × IsDecided block.Global (codes "ip prefix-list X description y") (Some Ignored)
     × IsDecided block.Global (codes "ip community-list expanded X permit .*") (Some Refused)
@@ -67,20 +67,28 @@ pub other_lines :
     × IsDecided block.RouteMap (codes " set tag 3") (Some Ignored)
     × IsDecided block.Ospf (codes " passive-interface default") (Some (Form form.PassiveInterfaceDefault))
     × IsDecided block.Ospf (codes " redistribute rip") (Some Refused)
-    × IsDecided block.Ospf (codes " redistribute static subnets") (Some (Later form.OspfRedistributeStatic))
+    × IsDecided block.Ospf (codes " redistribute static subnets") (Some (Form form.OspfRedistributeStatic))
+    × IsDecided block.Ospf (codes " redistribute bgp 65001") (Some (Later form.OspfRedistributeBgp))
+    × IsDecided block.Ospf (codes " area 0.0.0.1 stub no-summary") (Some (Form form.StubArea))
+    × IsDecided block.Ospf (codes " area stub") (Some Refused)
+    × IsDecided block.Ospf (codes " default-information originate always") (Some (Form form.DefaultInformationOriginate))
+    × IsDecided block.Ospf (codes " default-information") (Some Refused)
     × IsDecided block.Ospf (codes " area 1 range 10.0.0.0 255.0.0.0") (Some Refused)
     × IsDecided block.Ospf (codes " no passive-interface default") (Some (Form form.NoPassiveInterface))
     × IsDecided block.Ospf (codes " no auto-cost") (Some Ignored)
     × IsDecided block.Ospf (codes " auto-cost") None
-    × IsDecided block.Bgp (codes " neighbor 10.0.0.1 activate") (Some (Later form.NeighborActivate))
+    × IsDecided block.Bgp (codes " neighbor 10.0.0.1 activate") (Some (Form form.NeighborActivate))
+    × IsDecided block.Bgp (codes " neighbor 10.0.0.1 weight 5") (Some (Later form.NeighborWeight))
     × IsDecided block.Bgp (codes " neighbor 10.0.0.1 version 4") (Some Ignored)
     × IsDecided block.Bgp (codes " neighbor 10.0.0.1") (Some Refused)
     × IsDecided block.Bgp (codes " no bgp default ipv4-unicast") (Some Refused)
     × IsDecided block.Bgp (codes " no synchronization") (Some Ignored)
+    × IsDecided block.Bgp (codes " exit-address-family") (Some Refused)
+    × IsDecided block.Bgp (codes " exit") (Some Ignored)
     × IsDecided block.Ignored (codes " anything at all") (Some Ignored)
     × IsDecided block.Closed (codes " ip address 10.0.0.1 255.0.0.0") None
 unfolding decisive_row access_list access_list_forms access_list_refused access_list_ignored route_map route_map_forms route_map_refused route_map_ignored ospf ospf_forms ospf_refused ospf_ignored bgp bgp_forms bgp_refused bgp_ignored words_of
-other_lines = (refl, refl, refl, refl, refl, refl, refl, refl, refl, refl, refl, refl, refl, refl, refl, refl, refl, refl, refl)
+other_lines = (refl, refl, refl, refl, refl, refl, refl, refl, refl, refl, refl, refl, refl, refl, refl, refl, refl, refl, refl, refl, refl, refl, refl, refl, refl, refl, refl)
 
 -- forms of every block count, also those that are not read yet; openings that only ever refuse do not
 pub unopened_lines :
@@ -91,9 +99,11 @@ pub unopened_lines :
     × (unopened (words_of (codes "neighbor 10.0.0.1 weight")) ≡ OutOfPlace)
     × (unopened (words_of (codes "maximum-paths 2")) ≡ Unknown)
     × (unopened (words_of (codes "address-family ipv4")) ≡ Unknown)
+    × (unopened (words_of (codes "exit-address-family")) ≡ Unknown)
+    × (unopened (words_of (codes "neighbor 10.0.0.1")) ≡ Unknown)
     × (unopened (words_of (codes "version 15.7")) ≡ Unknown)
 unfolding global global_forms global_refused global_ignored interface interface_forms interface_refused interface_ignored access_list access_list_forms access_list_refused access_list_ignored route_map route_map_forms route_map_refused route_map_ignored ospf ospf_forms ospf_refused ospf_ignored bgp bgp_forms bgp_refused bgp_ignored words_of
-unopened_lines = (refl, refl, refl, refl, refl, refl, refl, refl)
+unopened_lines = (refl, refl, refl, refl, refl, refl, refl, refl, refl, refl)
 
 pub numbers :
     (number_of (codes "007") ≡ Some 7)
@@ -154,6 +164,24 @@ pub decisions :
     × (decided block.Interface (words_of (codes " permit any")) ≡ Decided.Refused OutOfPlace)
     × (decided block.Global (words_of (codes "ip prefix-list X permit 10.0.0.0/8")) ≡ OfForm form.PrefixList (codes "X" ∷ codes "permit" ∷ codes "10.0.0.0/8" ∷ []))
     × (decided block.Global (words_of (codes "ip community-list standard X")) ≡ OfForm form.StandardCommunityList (codes "X" ∷ []))
-    × (decided block.Global (words_of (codes "router bgp 1")) ≡ Decided.Refused Unsupported)
+    × (decided block.Global (words_of (codes "router bgp 1")) ≡ OfForm form.RouterBgp (codes "1" ∷ []))
+    × (decided block.Bgp (words_of (codes " redistribute static")) ≡ Decided.Refused Unsupported)
 unfolding decided decisive_row global global_forms global_refused global_ignored interface interface_forms interface_refused interface_ignored access_list access_list_forms access_list_refused access_list_ignored route_map route_map_forms route_map_refused route_map_ignored ospf ospf_forms ospf_refused ospf_ignored bgp bgp_forms bgp_refused bgp_ignored words_of
-decisions = (refl, refl, refl, refl, refl, refl, refl, refl, refl)
+decisions = (refl, refl, refl, refl, refl, refl, refl, refl, refl, refl)
+
+-- Under `router bgp` a line whose second word holds a colon is passed over where the first is `neighbor`, whatever stands behind; in
+-- other blocks it is a line like any other.
+pub other_families :
+    (decided block.Bgp (words_of (codes " neighbor 2001:db8::1 remote-as 65001")) ≡ Passed)
+    × (decided block.Bgp (words_of (codes " neighbor 2001:db8::1 weight 5")) ≡ Passed)
+    × (decided block.Bgp (words_of (codes " neighbor 2001:db8::1 anything at all")) ≡ Passed)
+    × (decided block.Bgp (words_of (codes " neighbor :")) ≡ Passed)
+    × (decided block.Bgp (words_of (codes " neighbor 10.0.0.1 remote-as 65001")) ≡ OfForm form.NeighborRemoteAs (codes "65001" ∷ []))
+    × (decided block.Bgp (words_of (codes " neighbor 10.0.0.1 remote-as 1:1")) ≡ OfForm form.NeighborRemoteAs (codes "1:1" ∷ []))
+    × (decided block.Bgp (words_of (codes " neighbor 10.0.0.1")) ≡ Decided.Refused Unsupported)
+    × (decided block.Bgp (words_of (codes " neighbor")) ≡ Decided.Refused Unsupported)
+    × (decided block.Bgp (words_of (codes " no neighbor 2001:db8::1 activate")) ≡ Decided.Refused Unsupported)
+    × (decided block.Bgp (words_of (codes " network 2001:db8::")) ≡ OfForm form.BgpNetwork (codes "2001:db8::" ∷ []))
+    × (decided block.Ospf (words_of (codes " neighbor 2001:db8::1")) ≡ Decided.Refused Unsupported)
+unfolding decided decisive_row global global_forms global_refused global_ignored interface interface_forms interface_refused interface_ignored access_list access_list_forms access_list_refused access_list_ignored route_map route_map_forms route_map_refused route_map_ignored ospf ospf_forms ospf_refused ospf_ignored bgp bgp_forms bgp_refused bgp_ignored words_of
+other_families = (refl, refl, refl, refl, refl, refl, refl, refl, refl, refl, refl)

@@ -2,9 +2,9 @@
 use Rattle.rc_openings.specs.declared.form.Form.{Form}
 use Rattle.rc_openings.specs.declared.form.Form.TheVariants as form
 use Rattle.rc_openings.specs.declared.form.Grammar.{Grammar}
-use Rattle.rc_openings.specs.declared.form.Grammar.TheVariants.{General, AccessLists, Policies, Ospf}
+use Rattle.rc_openings.specs.declared.form.Grammar.TheVariants.{General, AccessLists, Policies, Ospf, Bgp}
 
--- access lists; prefix lists, community lists and route maps; OSPF processes; and all else
+-- access lists; prefix lists, community lists and route maps; OSPF processes; BGP processes; and all else
 abbrev pub grammar_of : Form → Grammar
 grammar_of form.AccessList = AccessLists
 grammar_of form.StandardAccessList = AccessLists
@@ -41,4 +41,21 @@ grammar_of form.OspfRedistributeConnected = Ospf
 grammar_of form.OspfRedistributeStatic = Ospf
 grammar_of form.OspfRedistributeBgp = Ospf
 grammar_of form.DefaultInformationOriginate = Ospf
+grammar_of form.RouterBgp = Bgp
+grammar_of form.BgpRouterId = Bgp
+grammar_of form.BgpNetwork = Bgp
+grammar_of form.NeighborRemoteAs = Bgp
+grammar_of form.NeighborUpdateSource = Bgp
+grammar_of form.NeighborEbgpMultihop = Bgp
+grammar_of form.NeighborNextHopSelf = Bgp
+grammar_of form.NeighborShutdown = Bgp
+grammar_of form.NeighborDefaultOriginate = Bgp
+grammar_of form.NeighborActivate = Bgp
+grammar_of form.NeighborSendCommunity = Bgp
+grammar_of form.NeighborRouteMap = Bgp
+grammar_of form.NeighborPrefixList = Bgp
+grammar_of form.NeighborWeight = Bgp
+grammar_of form.BgpRedistributeConnected = Bgp
+grammar_of form.BgpRedistributeStatic = Bgp
+grammar_of form.BgpRedistributeOspf = Bgp
 grammar_of _ = General

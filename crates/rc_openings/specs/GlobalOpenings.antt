@@ -1,7 +1,7 @@
 -- The openings of a line with no indent.
 use Rattle.std.specs.Prelude.{List, [], ◌∷◌, ◌++◌, codes}
 use Rattle.rc_openings.specs.declared.form.Form.TheVariants.{Hostname, Interface, AccessList, StandardAccessList, ExtendedAccessList, PrefixList, CommunityList, StandardCommunityList, RouteMap, StaticRoute, RouterOspf, RouterBgp}
-use Rattle.rc_openings.specs.Opening.{Row, form, later, refused, ignored}
+use Rattle.rc_openings.specs.Opening.{Row, form, refused, ignored}
 
 -- with these begin the forms
 unfoldable pub global_forms : List Row
@@ -17,7 +17,7 @@ global_forms =
     ∷ form (codes "route-map") RouteMap
     ∷ form (codes "ip route") StaticRoute
     ∷ form (codes "router ospf") RouterOspf
-    ∷ later (codes "router bgp") RouterBgp
+    ∷ form (codes "router bgp") RouterBgp
     ∷ []
 
 -- with these begin lines whose meaning is not modelled

@@ -8,15 +8,15 @@ unfoldable pub ospf_forms : List Row
 ospf_forms =
     form (codes "router-id") OspfRouterId
     ∷ form (codes "network") OspfNetwork
-    ∷ later (codes "area * stub") StubArea
+    ∷ form (codes "area * stub") StubArea
     ∷ form (codes "passive-interface") PassiveInterface
     ∷ form (codes "no passive-interface") NoPassiveInterface
     ∷ form (codes "passive-interface default") PassiveInterfaceDefault
     ∷ form (codes "auto-cost reference-bandwidth") ReferenceBandwidth
-    ∷ later (codes "redistribute connected") OspfRedistributeConnected
-    ∷ later (codes "redistribute static") OspfRedistributeStatic
+    ∷ form (codes "redistribute connected") OspfRedistributeConnected
+    ∷ form (codes "redistribute static") OspfRedistributeStatic
     ∷ later (codes "redistribute bgp") OspfRedistributeBgp
-    ∷ later (codes "default-information originate") DefaultInformationOriginate
+    ∷ form (codes "default-information originate") DefaultInformationOriginate
     ∷ []
 
 -- with these begin lines whose meaning is not modelled

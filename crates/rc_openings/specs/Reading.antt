@@ -1,5 +1,5 @@
 -- What a line says in a block: its opening decides, and the grammar of its form reads the words behind the opening.
-use Rattle.std.specs.Prelude.{◌≡◌, ℕ, Bool, List, [], ◌∷◌, Option, Some, None, Result, Ok, Err, if◌then◌else◌, is_some, drop, length}
+use Rattle.std.specs.Prelude.{◌≡◌, ◌==◌, ℕ, Bool, false, ◌&&◌, List, [], ◌∷◌, Option, Some, None, Result, Ok, Err, if◌then◌else◌, is_some, drop, length, codes}
 use Rattle.std.specs.List.{list_any}
 use Rattle.std.specs.Str.{bytes_eq}
 use Rattle.rc_openings.specs.declared.block.Block.{Block}
@@ -58,6 +58,21 @@ own_words block.Ospf line = line
 own_words block.Bgp line = line
 own_words block.Ignored line = line
 
+-- an address of IPv6 is written with colons (RFC 4291 s.2.2), and one of IPv4 without any
+abbrev pub has_colon : List ℕ → Bool
+has_colon word = list_any (λ b. b == 58) word
+
+-- a line about a neighbour of another address family than IPv4 (RFC 4760): its second word is that neighbour's address
+abbrev pub is_of_another_family : List (List ℕ) → Bool
+is_of_another_family (w ∷ a ∷ ws) = bytes_eq w (codes "neighbor") && has_colon a
+is_of_another_family _ = false
+
+-- The block by whose openings a line is read: its own one, but for a line about a neighbour of another address family under
+-- `router bgp`, which is passed over whatever it says.
+abbrev pub read_in : Block → List (List ℕ) → Block
+read_in block.Bgp line = if is_of_another_family line then block.Ignored else block.Bgp
+read_in at line = at
+
 -- what the openings of its block say of a line: it is passed over, it is refused, or it is of a form and has these words behind its
 -- opening
 pub data Decision : Type 0 where
@@ -77,17 +92,17 @@ abbrev pub decision_by : List (List ℕ) → Option Row → Decision
 decision_by line None = Refused (unopened line)
 decision_by line (Some row) = verdict_on (drop (length row.words) line) row.verdict
 
--- of the openings of the block with which the line's own words begin, the one with most words decides so
+-- of the openings of the block in which the line is read, with which its own words begin, the one with most words decides so
 abbrev pub IsDecided : Block → List (List ℕ) → Decision → Type 0
 IsDecided block line decision =
-    (row : Option Row) × IsAnswer (rows_of block) (own_words block line) row × (decision ≡ decision_by (own_words block line) row)
+    (row : Option Row) × IsAnswer (rows_of (read_in block line)) (own_words block line) row × (decision ≡ decision_by (own_words block line) row)
 
 -- the same, computed: by a line's own words, and by the line
 abbrev pub decision_of : Block → List (List ℕ) → Decision
 decision_of block own = decision_by own (decisive_row (rows_of block) own)
 
 unfoldable pub decided : Block → List (List ℕ) → Decision
-decided block line = decision_of block (own_words block line)
+decided block line = decision_of (read_in block line) (own_words block line)
 
 -- what was found, with a cursor over the words behind the opening, is this decision
 abbrev pub IsDecision : Decision → Found → Type 0

@@ -5,7 +5,7 @@ ghost use Rattle.rc_openings.specs.BgpOpenings.{bgp};
 use crate::table::{Index, Table};
 use crate::{Form, Opening, Verdict};
 
-static ONE_WORD: [Opening; 15] = [
+static ONE_WORD: [Opening; 16] = [
     Opening {
         text: b"aggregate-address",
         verdict: Verdict::Refused,
@@ -31,6 +31,10 @@ static ONE_WORD: [Opening; 15] = [
         verdict: Verdict::Refused,
     },
     Opening {
+        text: b"exit-address-family",
+        verdict: Verdict::Refused,
+    },
+    Opening {
         text: b"exit",
         verdict: Verdict::Ignored,
     },
@@ -40,7 +44,7 @@ static ONE_WORD: [Opening; 15] = [
     },
     Opening {
         text: b"network",
-        verdict: Verdict::Later(Form::BgpNetwork),
+        verdict: Verdict::Form(Form::BgpNetwork),
     },
     Opening {
         text: b"neighbor",
@@ -70,7 +74,7 @@ static ONE_WORD: [Opening; 15] = [
 
 static ONE_WORD_STARTS: [u8; 59] = [
     0, 0, 0, 0, 0, 0, 0, 0, 0, 0, 0, 0, 0, 0, 0, 0, 0, 0, 0, 0, 0, 0, 0, 0, 0, 0, 0, 0, 0, 0, 0, 0,
-    0, 2, 3, 3, 6, 7, 7, 7, 7, 7, 7, 7, 7, 8, 11, 11, 11, 11, 12, 12, 15, 15, 15, 15, 15, 15, 15,
+    0, 2, 3, 3, 6, 8, 8, 8, 8, 8, 8, 8, 8, 9, 12, 12, 12, 12, 13, 13, 16, 16, 16, 16, 16, 16, 16,
 ];
 
 static MORE_WORDS: [Opening; 10] = [
@@ -108,7 +112,7 @@ static MORE_WORDS: [Opening; 10] = [
     },
     Opening {
         text: b"bgp router-id",
-        verdict: Verdict::Later(Form::BgpRouterId),
+        verdict: Verdict::Form(Form::BgpRouterId),
     },
     Opening {
         text: b"redistribute static",
@@ -124,15 +128,15 @@ static MORE_WORDS_STARTS: [u8; 59] = [
 static STARRED: [Opening; 18] = [
     Opening {
         text: b"neighbor * remote-as",
-        verdict: Verdict::Later(Form::NeighborRemoteAs),
+        verdict: Verdict::Form(Form::NeighborRemoteAs),
     },
     Opening {
         text: b"neighbor * update-source",
-        verdict: Verdict::Later(Form::NeighborUpdateSource),
+        verdict: Verdict::Form(Form::NeighborUpdateSource),
     },
     Opening {
         text: b"neighbor * ebgp-multihop",
-        verdict: Verdict::Later(Form::NeighborEbgpMultihop),
+        verdict: Verdict::Form(Form::NeighborEbgpMultihop),
     },
     Opening {
         text: b"neighbor * next-hop-self",
@@ -140,7 +144,7 @@ static STARRED: [Opening; 18] = [
     },
     Opening {
         text: b"neighbor * shutdown",
-        verdict: Verdict::Later(Form::NeighborShutdown),
+        verdict: Verdict::Form(Form::NeighborShutdown),
     },
     Opening {
         text: b"neighbor * default-originate",
@@ -148,7 +152,7 @@ static STARRED: [Opening; 18] = [
     },
     Opening {
         text: b"neighbor * activate",
-        verdict: Verdict::Later(Form::NeighborActivate),
+        verdict: Verdict::Form(Form::NeighborActivate),
     },
     Opening {
         text: b"neighbor * send-community",

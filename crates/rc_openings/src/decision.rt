@@ -44,7 +44,39 @@ fn behind_number(line: Words) -> Words
     }
 }
 
+fn has_colon(word: &[u8]) -> bool
+    ensures { result ≡ reading.has_colon word.now }
+{
+    word.iter().any(|b| *b == b':')
+}
+
+/// Whether the line is about a neighbour of another address family than IPv4.
+fn is_of_another_family(mut line: Words) -> bool
+    ensures { result ≡ reading.is_of_another_family (words_left line.entry) }
+{
+    match (line.next_word(), line.next_word()) {
+        (Some(word), Some(address)) => word == b"neighbor".as_slice() && has_colon(address),
+        _ => false,
+    }
+}
+
 impl Block {
+    /// The block by whose openings the line is read.
+    fn read_in(self, line: Words) -> Block
+        ensures { result ≡ reading.read_in self (words_left line.entry) }
+    {
+        match self {
+            Block::Bgp => {
+                if is_of_another_family(line) {
+                    Block::Ignored
+                } else {
+                    Block::Bgp
+                }
+            }
+            _ => self,
+        }
+    }
+
     /// The words of a line in which its opening is looked for.
     fn own_words(self, line: Words) -> Words
         ensures { words_left result ≡ reading.own_words self (words_left line.entry) }
@@ -56,12 +88,12 @@ impl Block {
     }
 
     /// What the opening with most words says of the line in this block. In the block of an access list a sequence number
-    /// in front of the line is set aside first.
+    /// in front of the line is set aside first, and in that of a BGP process a line about an IPv6 neighbour is passed over.
     #[tactic(auto, unfolding(crate::specs::Reading::decided))]
     pub fn decided(self, line: Words) -> Decision
         ensures { reading.IsDecision (reading.decided self (words_left line.entry)) result }
     {
-        self.decided_by(self.own_words(line))
+        self.read_in(line).decided_by(self.own_words(line))
     }
 
     /// The same by the words in which the opening is looked for.

@@ -146,7 +146,7 @@ pub enum Form {
 /// The grammars of lines: each reads the lines of its own forms.
 #[derive(Clone, Copy, PartialEq, Eq)]
 pub enum Grammar {
-    /// Host names, interfaces, static routes, and the forms of grammars to come.
+    /// Host names, interfaces and static routes.
     General,
     /// Access lists.
     AccessLists,
@@ -154,6 +154,8 @@ pub enum Grammar {
     Policies,
     /// The OSPF process of a router.
     Ospf,
+    /// The BGP process of a router.
+    Bgp,
 }
 
 impl Form {
@@ -197,6 +199,23 @@ impl Form {
             | Form::OspfRedistributeStatic
             | Form::OspfRedistributeBgp
             | Form::DefaultInformationOriginate => Grammar::Ospf,
+            Form::RouterBgp
+            | Form::BgpRouterId
+            | Form::BgpNetwork
+            | Form::NeighborRemoteAs
+            | Form::NeighborUpdateSource
+            | Form::NeighborEbgpMultihop
+            | Form::NeighborNextHopSelf
+            | Form::NeighborShutdown
+            | Form::NeighborDefaultOriginate
+            | Form::NeighborActivate
+            | Form::NeighborSendCommunity
+            | Form::NeighborRouteMap
+            | Form::NeighborPrefixList
+            | Form::NeighborWeight
+            | Form::BgpRedistributeConnected
+            | Form::BgpRedistributeStatic
+            | Form::BgpRedistributeOspf => Grammar::Bgp,
             _ => Grammar::General,
         }
     }

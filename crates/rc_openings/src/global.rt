@@ -405,7 +405,7 @@ static MORE_WORDS: [Opening; 54] = [
     },
     Opening {
         text: b"router bgp",
-        verdict: Verdict::Later(Form::RouterBgp),
+        verdict: Verdict::Form(Form::RouterBgp),
     },
     Opening {
         text: b"ip bgp-community",

@@ -104,7 +104,7 @@ static MORE_WORDS: [Opening; 7] = [
     },
     Opening {
         text: b"redistribute connected",
-        verdict: Verdict::Later(Form::OspfRedistributeConnected),
+        verdict: Verdict::Form(Form::OspfRedistributeConnected),
     },
     Opening {
         text: b"passive-interface default",
@@ -112,7 +112,7 @@ static MORE_WORDS: [Opening; 7] = [
     },
     Opening {
         text: b"default-information originate",
-        verdict: Verdict::Later(Form::DefaultInformationOriginate),
+        verdict: Verdict::Form(Form::DefaultInformationOriginate),
     },
     Opening {
         text: b"no passive-interface",
@@ -124,7 +124,7 @@ static MORE_WORDS: [Opening; 7] = [
     },
     Opening {
         text: b"redistribute static",
-        verdict: Verdict::Later(Form::OspfRedistributeStatic),
+        verdict: Verdict::Form(Form::OspfRedistributeStatic),
     },
 ];
 
@@ -135,7 +135,7 @@ static MORE_WORDS_STARTS: [u8; 59] = [
 
 static STARRED: [Opening; 1] = [Opening {
     text: b"area * stub",
-    verdict: Verdict::Later(Form::StubArea),
+    verdict: Verdict::Form(Form::StubArea),
 }];
 
 pub(crate) fn ospf_table() -> Table

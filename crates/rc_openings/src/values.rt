@@ -2,7 +2,7 @@
 ghost use Rattle.std.specs.Prelude.{◌≡◌, ◌==◌, ◌≤◌, [], ◌∷◌, Some, None, IfSome, MatchOption};
 ghost use Rattle.std.specs.List.{slice_split, position};
 ghost use Rattle.rc_base.specs.Addr.{mask};
-ghost use Rattle.rc_openings.specs.Values.{digits_from, at_most, digits_up_to, number_of, number_within, octet, address_of, mask_length, mask_length_of, prefix_of, area_of, begins_with_letter, interface_of};
+ghost use Rattle.rc_openings.specs.Values.{digits_from, at_most, digits_up_to, number_of, number_within, octet, address_of, mask_length, mask_length_of, prefix_from, prefix_of, area_of, begins_with_letter, interface_of};
 
 use rc_base::{Addr, Name, Prefix, mask_of};
 
@@ -173,6 +173,16 @@ pub fn word_prefix(word: &[u8]) -> Option<Prefix>
     };
     match (word_addr(addr), number_in(0, 32, len)) {
         (Some(addr), Some(len)) => Prefix::new(addr, len as u8),
+        _ => None,
+    }
+}
+
+/// The prefix that an address and a mask are, two words: its host bits are cleared.
+pub fn prefix_under(addr: &[u8], mask: &[u8]) -> Option<Prefix>
+    ensures { result ≡ prefix_from (address_of addr.now) (mask_length_of mask.now) }
+{
+    match (word_addr(addr), word_mask(mask)) {
+        (Some(addr), Some(len)) => Prefix::new(addr, len),
         _ => None,
     }
 }

@@ -99,7 +99,7 @@ from_one n p i fit (j ∷ js) all = by (p j) (from_one n p i fit js all.1)
     by true rest = (record { from = fit.router; to = all.0.router; least = fit.least; most = fit.most }, rest)
     by false rest = rest
 
-all_of : {X : Type 0} (P : X → Type 0) (xs : List X) → AllByRecursion P xs → All P xs
+pub all_of : {X : Type 0} (P : X → Type 0) (xs : List X) → AllByRecursion P xs → All P xs
 all_of P [] all k d lt = absurd (omega arith)
 all_of P (x ∷ xs) all zero d lt = all.0
 all_of P (x ∷ xs) all (suc k) d lt = all_of P xs all.1 k d (omega arith)

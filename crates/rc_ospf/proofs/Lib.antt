@@ -1,7 +1,7 @@
 mod IndexLaws
 mod RowLaws
 mod WayLaws
-mod RouteLaws
+mod CostLaws
 mod Members
 mod Bridge
 mod KeptLaws
@@ -9,5 +9,7 @@ mod AreaLaws
 mod ReachLaws
 mod RangeLaws
 mod FitLaws
+mod MemberLaws
 mod TableLaws
+mod SortedLaws
 pub mod OneAnswer

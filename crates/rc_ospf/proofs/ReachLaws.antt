@@ -16,9 +16,9 @@ use Rattle.rc_spf.specs.declared.graph.Edge.{Edge}
 use Rattle.rc_ospf.specs.declared.adjacency.Step.{Step}
 use Rattle.rc_ospf.specs.declared.area.AreaGraph.{AreaGraph}
 use Rattle.rc_ospf.specs.declared.path.AreaPaths.{AreaPaths}
-use Rattle.rc_ospf.specs.Edges.{edge_of, edges_in, step_area, graph_area, IsFitStep, IsAreaGraph, AreAreaGraphs, AreAreaPaths, NoneLeaves}
+use Rattle.rc_ospf.specs.Edges.{edge_of, edges_in, step_area, graph_area, IsFitStep, IsAreaGraph, AreAreaGraphs, AreAreaPaths, IsReachOfOthers, NoneLeaves}
 use Rattle.rc_ospf.specs.Paths.{path_of, paths_inside, path_in}
-use Rattle.rc_ospf.specs.Walks.{LeastWalks, IsWalk, AreLeastWalks, IsReach}
+use Rattle.rc_ospf.specs.Walks.{LeastWalks, IsWalk, AreLeastWalks}
 use Rattle.rc_ospf.proofs.Bridge.{step_at, at_edge}
 use Rattle.rc_ospf.proofs.Members.{In, contains_in, in_contains, in_map, in_order_in}
 
@@ -117,7 +117,7 @@ not_found (q ∷ qs) area is there = by (q.area == area) refl is there (not_foun
     by false at here (inr later) rest = rest here later
 
 -- at the end they are those to each other router
-pub reach_end : (n : ℕ) (steps : List Step) (r : ℕ) (graphs : List AreaGraph) (found : List AreaPaths) → All (IsFitStep n) steps → graphs ≡ [] → IsReached n steps r found graphs → IsReach steps r (path_in found)
+pub reach_end : (n : ℕ) (steps : List Step) (r : ℕ) (graphs : List AreaGraph) (found : List AreaPaths) → All (IsFitStep n) steps → graphs ≡ [] → IsReached n steps r found graphs → IsReachOfOthers steps r (path_in found)
 reach_end n steps r graphs found fit none reached area s other = by (paths_inside found area) refl
   where
     Walks : Option LeastWalks → Type 0

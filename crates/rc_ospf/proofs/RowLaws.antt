@@ -8,8 +8,8 @@ use Rattle.rc_base.specs.Groups.{grouped, value_of, value_at}
 use Rattle.rc_base.proofs.GroupLaws.{grouped_rows}
 use Rattle.rc_ospf.specs.Offered.{Offered}
 use Rattle.rc_ospf.specs.declared.offer.Advert.{Advert}
-use Rattle.rc_ospf.specs.Routes.{offers_at}
-use Rattle.rc_ospf.specs.ByPrefix.{advert_prefix, with_offer, row_of, offered_row, offered_rows}
+use Rattle.rc_ospf.specs.Routes.{advert_prefix, offers_at, offered_row, offered_rows}
+use Rattle.rc_ospf.specs.ByPrefix.{with_offer, row_of}
 
 abbrev offers_of : List Advert → List Offered
 offers_of adverts = map (λ (a : Advert). a.offer) adverts

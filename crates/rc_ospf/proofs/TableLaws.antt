@@ -1,42 +1,50 @@
--- The tables of all routers, one after another.
-use Rattle.std.proofs.Common.{◌≡◌, ℕ, suc, ◌+◌, List, [], ◌∷◌, ◌++◌, length, ◌∙◌, subst, arith}
+-- The routes and paths of all routers, from what the code keeps of them.
+use Rattle.std.proofs.Common.{refl, ◌≡◌, ap, sym, ◌∙◌, ℕ, suc, List, [], ◌∷◌, ◌++◌, map, Option, append_assoc}
 use Rattle.std.specs.Prelude.{Result, Ok, Err, IfOk}
-use Rattle.std.specs.List.{filter_map}
+use Rattle.std.specs.List.{filter_map, flat_map, cons_option}
 use Rattle.rc_config.specs.declared.network.Network.{Network}
-use Rattle.rc_route.specs.declared.route.Route.{Route}
-use Rattle.rc_topology.specs.Topology.{Topology}
-use Rattle.rc_ospf.specs.Internal.{AreTables, AreInternalRoutes, steps_of, adverts_in}
-use Rattle.rc_ospf.specs.Paths.{path_in}
-use Rattle.rc_ospf.specs.ByPrefix.{AreRowRoutes, AreRowTables, offered_rows, route_of_row}
-use Rattle.rc_ospf.specs.Walks.{IsReach}
+use Rattle.rc_ospf.specs.Areas.{OspfRouter, without_stubs}
+use Rattle.rc_ospf.specs.Boundaries.{boundary_routers, boundary_path, boundary_paths}
+use Rattle.rc_ospf.specs.BoundaryForms.{target_of, path_of_target}
+use Rattle.rc_ospf.specs.ByPrefix.{destination_of, route_of}
+use Rattle.rc_ospf.specs.Members.{known, AreMembers}
+use Rattle.rc_ospf.specs.Routes.{with_default, offered_rows, internal_route, internal_routes}
 use Rattle.rc_ospf.specs.declared.adjacency.Step.{Step}
-use Rattle.rc_ospf.specs.declared.grouping.Row.{Row}
+use Rattle.rc_ospf.specs.declared.member.Member.{Member}
+use Rattle.rc_ospf.specs.declared.member.StubAreas.TheVariants.{Kept, LeftOut}
 use Rattle.rc_ospf.specs.declared.offer.Advert.{Advert}
-use Rattle.rc_ospf.specs.declared.path.AreaPaths.{AreaPaths}
-use Rattle.rc_ospf.proofs.RouteLaws.{routes_are}
+use Rattle.rc_ospf.proofs.MemberLaws.{left_out}
 
-pub row_routes : (steps : List Step) (rows : List Row) (r : ℕ) (found : List AreaPaths) (routes : List Route) → IsReach steps r (path_in found) →
-    routes ≡ filter_map (route_of_row r (path_in found)) rows → AreRowRoutes steps rows r routes
-row_routes steps rows r found routes reach are = record { reach = path_in found; is_reach = reach; routes_are = are }
+pub filter_map-map : {X Y Z : Type 0} (f : Y → Option Z) (g : X → Y) (xs : List X) → filter_map f (map g xs) ≡ filter_map (λ x. f (g x)) xs
+filter_map-map f g [] = refl
+filter_map-map f g (x ∷ xs) = ap (cons_option (f (g x))) (filter_map-map f g xs)
 
-pub table_more : (steps : List Step) (rows : List Row) (r : ℕ) (done : List (List Route)) (t : List Route) → AreRowTables steps rows r done → AreRowRoutes steps rows (r + length done) t →
-    AreRowTables steps rows r (done ++ t ∷ [])
-table_more steps rows r [] t all last = (subst (λ k. AreRowRoutes steps rows k t) (omega arith) last, tt)
-table_more steps rows r (x ∷ xs) t all last = (all.0, table_more steps rows (suc r) xs t all.1 (subst (λ k. AreRowRoutes steps rows k t) (omega arith) last))
+pub flat_more : {X Y : Type 0} (f : X → List Y) (old new : List Y) (x : X) (rest left : List X) (all : List Y) → left ≡ x ∷ rest → new ≡ old ++ f x → old ++ flat_map f left ≡ all → new ++ flat_map f rest ≡ all
+flat_more f old new x rest left all next is so_far = ap (λ l. l ++ flat_map f rest) is ∙ append_assoc old (f x) (flat_map f rest) ∙ ap (λ l. old ++ flat_map f l) (sym next) ∙ so_far
 
-tables_are : (steps : List Step) (rows : List Row) (adverts : List Advert) (r : ℕ) (tables : List (List Route)) → rows ≡ offered_rows adverts → AreRowTables steps rows r tables → AreTables steps adverts r tables
-tables_are steps rows adverts r [] same all = tt
-tables_are steps rows adverts r (t ∷ ts) same all = (
-  record { reach = all.0.reach; is_reach = all.0.is_reach; routes_are = all.0.routes_are ∙ routes_are r all.0.reach rows adverts same },
-  tables_are steps rows adverts (suc r) ts same all.1,
-)
+pub routes_are : (routers : List OspfRouter) (adverts : List Advert) (ms : List Member) →
+    map (λ m. filter_map (route_of (known Kept m)) (map (destination_of routers) (with_default (offered_rows adverts)))) ms ≡ map (internal_routes routers adverts) (map (known Kept) ms)
+unfolding internal_routes
+routes_are routers adverts [] = refl
+routes_are routers adverts (m ∷ ms) =
+    ap (λ t. t ∷ map (λ x. filter_map (route_of (known Kept x)) (map (destination_of routers) (with_default (offered_rows adverts)))) ms)
+    (filter_map-map (route_of (known Kept m)) (destination_of routers) (with_default (offered_rows adverts)))
+    ∙ ap (λ ts. filter_map (internal_route routers (known Kept m)) (with_default (offered_rows adverts)) ∷ ts) (routes_are routers adverts ms)
 
-pub internal_tables : (net : Network) (links : Topology) (steps : List Step) (rows : List Row) (adverts : List Advert) (n : ℕ) (tables : List (List Route)) → n ≡ length net.routers →
-    steps ≡ steps_of net links → adverts ≡ adverts_in net → rows ≡ offered_rows adverts → length tables ≡ n → AreRowTables steps rows 0 tables → AreInternalRoutes net links tables
-internal_tables net links steps rows adverts n tables same are offered grouped long each = record {
-  routers = long ∙ same;
-  each = subst (λ s. AreTables s (adverts_in net) 0 tables) are (subst (λ a. AreTables steps a 0 tables) offered (tables_are steps rows adverts 0 tables grouped each));
-}
+-- the paths of one router
+one_boundary : (net : Network) (routers : List OspfRouter) (m : OspfRouter) (ss : List ℕ) →
+    filter_map (path_of_target (without_stubs m)) (map (target_of net (map without_stubs routers)) ss) ≡ filter_map (boundary_path net routers m) ss
+one_boundary net routers m ss = filter_map-map (path_of_target (without_stubs m)) (target_of net (map without_stubs routers)) ss
+
+pub boundaries_are : (net : Network) (steps : List Step) (routers : List OspfRouter) (lefts : List OspfRouter) (r : ℕ) (ms : List Member) → AreMembers net steps r ms → lefts ≡ map without_stubs routers →
+    map (λ m. filter_map (path_of_target (known LeftOut m)) (map (target_of net lefts) (boundary_routers net))) ms ≡ map (boundary_paths net routers) (map (known Kept) ms)
+boundaries_are net steps routers lefts r [] all same = refl
+boundaries_are net steps routers lefts r (m ∷ ms) all same =
+    ap (λ t. t ∷ map (λ x. filter_map (path_of_target (known LeftOut x)) (map (target_of net lefts) (boundary_routers net))) ms)
+    (ap (λ x. filter_map (path_of_target x) (map (target_of net lefts) (boundary_routers net))) (left_out net steps r m all.0)
+    ∙ ap (λ ls. filter_map (path_of_target (without_stubs (known Kept m))) (map (target_of net ls) (boundary_routers net))) same
+    ∙ one_boundary net routers (known Kept m) (boundary_routers net))
+    ∙ ap (λ ts. boundary_paths net routers (known Kept m) ∷ ts) (boundaries_are net steps routers lefts (suc r) ms all.1 same)
 
 pub ok_both : {T E : Type 0} (r : Result T E) (P Q : T → Type 0) → IfOk r P → IfOk r Q → IfOk r (λ x. P x × Q x)
 ok_both (Ok x) P Q p q = (p, q)

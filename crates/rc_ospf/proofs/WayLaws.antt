@@ -8,9 +8,8 @@ use Rattle.std.proofs.lemmas.List.Elements.{filter-append}
 use Rattle.std.proofs.lemmas.List.Sums.{fold-append}
 use Rattle.rc_ospf.specs.Offered.{Offered}
 use Rattle.rc_ospf.specs.Walks.{LeastWalks, Reach}
-use Rattle.rc_ospf.specs.declared.routes.Way.{Way}
-use Rattle.rc_ospf.specs.Routes.{way_to, least_cost, hops_at, best_of}
-use Rattle.rc_ospf.specs.ByPrefix.{with_way, way_over, then_way}
+use Rattle.rc_ospf.specs.Ways.{Way, way_over, way_to, least_cost, hops_at, best_of, best_way}
+use Rattle.rc_ospf.specs.ByPrefix.{with_way, then_way}
 
 abbrev made : Way → List Way → Way
 made w ws = record { cost = least_cost w ws; hops = hops_at (least_cost w ws) (w ∷ ws) }
@@ -110,5 +109,5 @@ over_offers reach b (o ∷ os) = by (reach o.area o.router) (λ c. over_offers r
     by None rest = rest b
     by (Some s) rest = rest (Some (with_way b (way_over (s.cost + o.cost) s)))
 
-pub best_way_is : (reach : Reach) (offers : List Offered) → fold (then_way reach) None offers ≡ best_of (filter_map (way_to reach) offers)
+pub best_way_is : (reach : Reach) (offers : List Offered) → fold (then_way reach) None offers ≡ best_way reach offers
 best_way_is reach offers = over_offers reach None offers ∙ best_is (filter_map (way_to reach) offers)

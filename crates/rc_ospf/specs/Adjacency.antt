@@ -1,5 +1,6 @@
 -- Routers that become adjacent over two interfaces (RFC 2328 s.10.5).
 use Rattle.std.specs.Prelude.{◌==◌, Bool, true, false, not, ◌&&◌, List, Some, map, filter}
+use Rattle.std.specs.Bool.{beq}
 use Rattle.std.specs.List.{flat_map}
 use Rattle.rc_base.specs.Prefix.{same_prefix}
 use Rattle.rc_topology.specs.Topology.{Topology}
@@ -17,11 +18,11 @@ is_same_network PointToPoint PointToPoint = true
 is_same_network _ _ = false
 
 -- Their primary addresses have one prefix, they share a link (so they are of different routers, and no loopbacks), neither is
--- passive, and area, network type and intervals agree.
+-- passive, and area, stub flag of the area, network type and intervals agree.
 abbrev pub is_adjacent : Topology → OspfInterface → OspfInterface → Bool
 is_adjacent links i j =
     same_prefix i.prefix j.prefix && are_linked links i.id j.id && not i.is_passive && not j.is_passive
-    && (i.area == j.area) && is_same_network i.network j.network && (i.hello == j.hello) && (i.dead == j.dead)
+    && (i.area == j.area) && beq i.is_stub j.is_stub && is_same_network i.network j.network && (i.hello == j.hello) && (i.dead == j.dead)
 
 -- the step to a neighbour costs what the interface costs by which it leaves
 abbrev pub step_over : OspfInterface → OspfInterface → Step

@@ -15,7 +15,7 @@ use Rattle.rc_ospf.specs.declared.area.AreaGraph.{AreaGraph}
 use Rattle.rc_ospf.specs.declared.path.AreaPaths.{AreaPaths}
 use Rattle.rc_ospf.specs.Adjacency.{hop_of}
 use Rattle.rc_ospf.specs.Paths.{path_of}
-use Rattle.rc_ospf.specs.Walks.{LeastWalks, IsWalk, AreLeastWalks}
+use Rattle.rc_ospf.specs.Walks.{LeastWalks, Reach, IsWalk, AreLeastWalks}
 
 -- a step between two of n routers, with a cost from 1 to 65,535
 pub record IsFitStep (n : ℕ) (s : Step) : Type 0 where
@@ -82,6 +82,11 @@ HasSmallCosts costs = (n c : ℕ) → HasCost costs n c → c < 2 ^ 26
 pub record AreAreaPaths (n : ℕ) (steps : List Step) (r : ℕ) (p : AreaPaths) : Type 0 where
   pub routers : length p.paths ≡ n
   pub path : (s : ℕ) → s < n → MatchOption (path_of p s) ((walk : List Step) → IsWalk steps p.area r walk s → ⊥) (AreLeastWalks steps p.area r s)
+
+-- inside each area they are those from a router to each other one, where there are any
+abbrev pub IsReachOfOthers : List Step → ℕ → Reach → Type 0
+IsReachOfOthers steps r reach = (area s : ℕ) → ¬ (s ≡ r) →
+    MatchOption (reach area s) ((walk : List Step) → IsWalk steps area r walk s → ⊥) (AreLeastWalks steps area r s)
 
 -- no step of the area leaves the router
 pub record NoneLeaves (steps : List Step) (area r : ℕ) : Type 0 where

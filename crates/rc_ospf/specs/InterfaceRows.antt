@@ -1,6 +1,7 @@
 -- Worked cases of OSPF interfaces, adjacencies and adverts, each by computation.
-use Rattle.std.specs.Prelude.{◌≡◌, ℕ, ◌+◌, ◌-◌, ◌*◌, ◌^◌, Bool, true, false, List, [], ◌∷◌, ◌++◌, map, codes, refl}
+use Rattle.std.specs.Prelude.{◌≡◌, ℕ, ◌+◌, ◌-◌, ◌*◌, ◌^◌, ◌==◌, Bool, true, false, List, [], ◌∷◌, ◌++◌, map, codes, refl}
 use Rattle.std.specs.List.{fold}
+use Rattle.std.specs.Option.{option_map}
 use Rattle.rc_base.specs.Prefix.{Cidr}
 use Rattle.rc_config.specs.IfType.{type_of}
 use Rattle.rc_config.specs.Update.{after, empty}
@@ -10,6 +11,7 @@ use Rattle.rc_config.specs.declared.network.Network.{Network}
 use Rattle.rc_config.specs.declared.ospf.NetworkType.{NetworkType as Kind}
 use Rattle.rc_config.specs.declared.ospf.NetworkType.TheVariants.{Broadcast, PointToPoint}
 use Rattle.rc_config.specs.declared.ospf.OspfLine.TheVariants as line
+use Rattle.rc_config.specs.declared.ospf.OspfProcess.{OspfProcess}
 use Rattle.rc_config.specs.declared.ospf.OspfSetting.TheVariants as setting
 use Rattle.rc_config.specs.declared.router_text.RouterText.{RouterText}
 use Rattle.rc_topology.specs.Ports.{links_of}
@@ -268,6 +270,29 @@ other_network = refl
 pub other_area : steps first (second (InterfaceOspf eth (setting.Area (record { process = 1; area = 1 })) ∷ [])) ≡ []
 unfolding ospf_interfaces adjacencies links_of type_of
 other_area = refl
+
+-- the one side has the area as a stub area, and then the other one too
+abbrev with_stub : ℕ → RouterText → RouterText
+with_stub n f = record f { ospf = option_map (λ (p : OspfProcess). record p { stub_areas = record { area = n; no_summary = n == 1 } ∷ [] }) f.ospf }
+
+abbrev in_area_one : ℕ → RouterText
+in_area_one n = file (primary eth n 24 ∷ everywhere 1)
+
+abbrev between : RouterText → RouterText → List (List ℕ)
+between a b = map told (steps_of (record { routers = (codes "a", a) ∷ (codes "b", b) ∷ [] }) (links_of (record { routers = (codes "a", a) ∷ (codes "b", b) ∷ [] })))
+
+pub other_stub_flag : between (with_stub 1 (in_area_one 1)) (in_area_one 2) ≡ []
+unfolding ospf_interfaces adjacencies links_of type_of
+other_stub_flag = refl
+
+pub same_stub_flag : between (with_stub 1 (in_area_one 1)) (with_stub 1 (in_area_one 2)) ≡ (0 ∷ 1 ∷ 10 ∷ ten 2 ∷ []) ∷ (1 ∷ 0 ∷ 10 ∷ ten 1 ∷ []) ∷ []
+unfolding ospf_interfaces adjacencies links_of type_of
+same_stub_flag = refl
+
+-- of another area than the interface's it says nothing
+pub stub_elsewhere : between (with_stub 7 (in_area_one 1)) (in_area_one 2) ≡ (0 ∷ 1 ∷ 10 ∷ ten 2 ∷ []) ∷ (1 ∷ 0 ∷ 10 ∷ ten 1 ∷ []) ∷ []
+unfolding ospf_interfaces adjacencies links_of type_of
+stub_elsewhere = refl
 
 pub passive_side : steps first (second [] ++ OspfLine (line.Passive eth true) ∷ []) ≡ []
 unfolding ospf_interfaces adjacencies links_of type_of

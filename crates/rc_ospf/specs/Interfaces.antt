@@ -1,8 +1,9 @@
 -- The interfaces on which OSPF runs (RFC 2328 s.9), from the files of a network.
-use Rattle.std.specs.Prelude.{ℕ, ◌*◌, ◌/◌, ◌==◌, min, max, bit_or, Bool, if◌then◌else◌, List, [], length, Option, Some, None, unwrap_or, option_and_then, slice_get}
+use Rattle.std.specs.Prelude.{ℕ, ◌*◌, ◌/◌, ◌==◌, min, max, bit_or, Bool, if◌then◌else◌, List, [], length, Option, Some, None, unwrap_or, is_some, option_and_then, slice_get}
 use Rattle.std.specs.List.{filter_map, flat_map, find, range_with_len}
 use Rattle.std.specs.Option.{option_map, option_map_or, option_or}
 use Rattle.rc_base.specs.declared.position.IfId.{IfId}
+use Rattle.rc_config.specs.ByNumber.{with_number}
 use Rattle.rc_config.specs.Down.{Entries, is_down, prefix_of}
 use Rattle.rc_config.specs.IfType.{type_of, nominal_bandwidth}
 use Rattle.rc_config.specs.Members.{router_at, router_ids}
@@ -18,6 +19,7 @@ use Rattle.rc_config.specs.declared.ospf.OspfArea.{OspfArea}
 use Rattle.rc_config.specs.declared.ospf.OspfNetwork.{OspfNetwork}
 use Rattle.rc_config.specs.declared.ospf.OspfProcess.{OspfProcess}
 use Rattle.rc_config.specs.declared.ospf.OspfSettings.{OspfSettings}
+use Rattle.rc_config.specs.declared.ospf.StubArea.{StubArea}
 use Rattle.rc_config.specs.declared.router_text.RouterText.{RouterText}
 use Rattle.rc_ospf.specs.declared.interface.OspfInterface.{OspfInterface}
 
@@ -60,6 +62,10 @@ hello_of settings = unwrap_or settings.hello 10
 abbrev pub dead_of : OspfSettings → ℕ
 dead_of settings = unwrap_or settings.dead (4 * hello_of settings)
 
+-- what a process says of an area as a stub area (RFC 2328 s.3.6)
+abbrev pub stub_of : OspfProcess → ℕ → Option StubArea
+stub_of p area = with_number (λ (s : StubArea). s.area) area p.stub_areas
+
 -- the OSPF interface of an interface with this primary address, in an area
 abbrev pub ospf_interface : OspfProcess → IfId → List ℕ → Interface → IfAddr → ℕ → OspfInterface
 ospf_interface p id name i primary area = record {
@@ -71,6 +77,7 @@ ospf_interface p id name i primary area = record {
   network = network_of (type_of name) i.ospf;
   hello = hello_of i.ospf;
   dead = dead_of i.ospf;
+  is_stub = is_some (stub_of p area);
   is_passive = is_passive p name;
 }
 

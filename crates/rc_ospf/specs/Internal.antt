@@ -1,21 +1,18 @@
--- What OSPF gives without a state: the routes of each router inside areas.
-use Rattle.std.specs.Prelude.{◌≡◌, ℕ, suc, List, [], ◌∷◌, length}
+-- What OSPF gives without a state: the routes of each router inside and between areas, and its paths to AS boundary routers.
+use Rattle.std.specs.Prelude.{◌≡◌, List, map, length}
 use Rattle.std.specs.List.{flat_map}
+use Rattle.rc_config.specs.Members.{router_ids}
 use Rattle.rc_config.specs.declared.network.Network.{Network}
-use Rattle.rc_route.specs.declared.route.Route.{Route}
 use Rattle.rc_topology.specs.Topology.{Topology}
 use Rattle.rc_ospf.specs.Adjacency.{adjacencies}
 use Rattle.rc_ospf.specs.Adverts.{adverts_of}
+use Rattle.rc_ospf.specs.Areas.{OspfRouter, AreOspfRouters}
+use Rattle.rc_ospf.specs.Boundaries.{boundary_paths}
 use Rattle.rc_ospf.specs.Interfaces.{ospf_interfaces}
-use Rattle.rc_ospf.specs.Routes.{AreIntraRoutes}
+use Rattle.rc_ospf.specs.Routes.{internal_routes, own_prefixes}
 use Rattle.rc_ospf.specs.declared.adjacency.Step.{Step}
 use Rattle.rc_ospf.specs.declared.model.Internal.{Internal}
 use Rattle.rc_ospf.specs.declared.offer.Advert.{Advert}
-
--- the tables are those of the routers from one on
-abbrev pub AreTables : List Step → List Advert → ℕ → List (List Route) → Type 0
-AreTables steps adverts r [] = Unit {0}
-AreTables steps adverts r (t ∷ ts) = AreIntraRoutes steps adverts r t × AreTables steps adverts (suc r) ts
 
 -- the steps between the adjacent routers of a network
 abbrev pub steps_of : Network → Topology → List Step
@@ -25,14 +22,15 @@ steps_of net links = adjacencies links (ospf_interfaces net)
 abbrev pub adverts_in : Network → List Advert
 adverts_in net = flat_map (adverts_of net) (ospf_interfaces net)
 
--- by router: its routes over the least walks from it, to what the interfaces of the others advertise
-pub record AreInternalRoutes (net : Network) (links : Topology) (routes : List (List Route)) : Type 0 where
-  pub routers : length routes ≡ length net.routers
-  pub each : AreTables (steps_of net links) (adverts_in net) 0 routes
-
-abbrev pub IsInternal : Network → Internal → Type 0
-IsInternal net i = AreInternalRoutes net i.links i.routes
+-- by the least walks of all routers over the steps of the network with its links
+pub record IsInternal (net : Network) (i : Internal) : Type 0 where
+  pub routers : List OspfRouter
+  pub as_many : length routers ≡ length net.routers
+  pub are_routers : AreOspfRouters net (steps_of net i.links) 0 routers
+  pub routes : i.routes ≡ map (internal_routes routers (adverts_in net)) routers
+  pub boundaries : i.boundaries ≡ map (boundary_paths net routers) routers
+  pub own : i.own ≡ map (own_prefixes net) (router_ids net)
 
 -- a network with its links has one answer
 abbrev pub HasOneInternal : Type 0
-HasOneInternal = (net : Network) (links : Topology) (these those : List (List Route)) → AreInternalRoutes net links these → AreInternalRoutes net links those → these ≡ those
+HasOneInternal = (net : Network) (these those : Internal) → these.links ≡ those.links → IsInternal net these → IsInternal net those → these ≡ those

@@ -1,53 +1,72 @@
--- The routes of a router inside areas: over the least walks to who offers a prefix (RFC 2328 s.16.1).
-use Rattle.std.specs.Prelude.{◌≡◌, ℕ, ◌+◌, ◌==◌, min, Bool, if◌then◌else◌, List, [], ◌∷◌, map, filter, Option, Some, None}
-use Rattle.std.specs.List.{filter_map, flat_map, fold, list_any}
-use Rattle.std.specs.Option.{option_map}
+-- The routes of a router inside and between areas (RFC 2328 s.16.1 and 16.2).
+use Rattle.std.specs.Prelude.{ℕ, Bool, false, if◌then◌else◌, List, [], ◌∷◌, map, filter, Option, Some, None}
+use Rattle.std.specs.List.{filter_map, flat_map, list_any}
+use Rattle.std.specs.Option.{option_map, option_or}
 use Rattle.rc_base.specs.Lists.{in_order}
 use Rattle.rc_base.specs.Prefix.{Cidr, prefix_cmp, same_prefix}
+use Rattle.rc_config.specs.declared.network.Network.{Network}
 use Rattle.rc_route.specs.Hops.{hop_cmp}
-use Rattle.rc_route.specs.declared.route.Hop.{Hop}
 use Rattle.rc_route.specs.declared.route.Route.{Route}
-use Rattle.rc_route.specs.declared.route.Source.TheVariants.{Ospf}
+use Rattle.rc_route.specs.declared.route.Source.{Source}
+use Rattle.rc_route.specs.declared.route.Source.TheVariants.{Ospf, OspfIa}
+use Rattle.rc_ospf.specs.Adverts.{adverts_of}
+use Rattle.rc_ospf.specs.Areas.{OspfRouter, is_own, summaries_of, inter}
+use Rattle.rc_ospf.specs.Interfaces.{interfaces_at}
 use Rattle.rc_ospf.specs.Offered.{Offered}
-use Rattle.rc_ospf.specs.Walks.{LeastWalks, Reach, IsReach}
-use Rattle.rc_ospf.specs.declared.adjacency.Step.{Step}
+use Rattle.rc_ospf.specs.Ways.{Way, best_way}
+use Rattle.rc_ospf.specs.declared.grouping.Row.{Row}
 use Rattle.rc_ospf.specs.declared.offer.Advert.{Advert}
-use Rattle.rc_ospf.specs.declared.routes.Way.{Way}
+use Rattle.rc_ospf.specs.declared.summaries.Summaries.{Summaries}
 
--- the way to an offer: the least walks to its router inside its area, and its own cost
-abbrev pub way_to : Reach → Offered → Option Way
-way_to reach o = option_map (λ (e : LeastWalks). record { cost = e.cost + o.cost; hops = e.hops }) (reach o.area o.router)
-
-abbrev pub least_cost : Way → List Way → ℕ
-least_cost w ws = fold (λ c (x : Way). min c x.cost) w.cost ws
-
-abbrev pub hops_at : ℕ → List Way → List Hop
-hops_at c ways = flat_map (λ (w : Way). w.hops) (filter (λ (w : Way). w.cost == c) ways)
-
--- the least cost of some ways, and the hops of all that cost as much
-abbrev pub best_of : List Way → Option Way
-best_of [] = None
-best_of (w ∷ ws) = Some (record { cost = least_cost w ws; hops = hops_at (least_cost w ws) (w ∷ ws) })
-
-abbrev pub route_over : Cidr → Way → Route
-route_over p w = record { prefix = p; source = Ospf; distance = 110; metric = w.cost; hops = in_order hop_cmp w.hops }
-
-abbrev pub is_own : ℕ → Offered → Bool
-is_own r o = o.router == r
+abbrev pub advert_prefix : Advert → Cidr
+advert_prefix a = a.prefix
 
 abbrev pub offers_at : Cidr → List Advert → List Offered
 offers_at p adverts = map (λ (a : Advert). a.offer) (filter (λ (a : Advert). same_prefix p a.prefix) adverts)
 
--- the route of a router to a prefix, unless it offers the prefix itself
-abbrev pub intra_route : ℕ → Reach → Cidr → List Offered → Option Route
-intra_route r reach p offers = if list_any (is_own r) offers then None else option_map (route_over p) (best_of (filter_map (way_to reach) offers))
+-- a prefix with its offers, if it has any
+abbrev pub offered_row : Cidr → List Offered → Option Row
+offered_row p [] = None
+offered_row p (o ∷ offers) = Some (record { prefix = p; offers = o ∷ offers })
 
--- a route for each prefix that is offered, by address, then length
-unfoldable pub intra_routes : ℕ → Reach → List Advert → List Route
-intra_routes r reach adverts = filter_map (λ p. intra_route r reach p (offers_at p adverts)) (in_order prefix_cmp (map (λ (a : Advert). a.prefix) adverts))
+-- each prefix that is advertised, by address, then length, with its offers in the order of the adverts
+unfoldable pub offered_rows : List Advert → List Row
+offered_rows adverts = filter_map (λ p. offered_row p (offers_at p adverts)) (in_order prefix_cmp (map advert_prefix adverts))
 
--- the routes of a router, over the least walks from it
-pub record AreIntraRoutes (steps : List Step) (adverts : List Advert) (r : ℕ) (routes : List Route) : Type 0 where
-  pub reach : Reach
-  pub is_reach : IsReach steps r reach
-  pub routes_are : routes ≡ intra_routes r reach adverts
+-- 0.0.0.0/0
+abbrev pub default_prefix : Cidr
+default_prefix = record { network = 0; len = 0 }
+
+abbrev pub is_default : Cidr → Bool
+is_default p = same_prefix p default_prefix
+
+abbrev pub default_row : Row
+default_row = record { prefix = default_prefix; offers = [] }
+
+abbrev pub starts_with_default : List Row → Bool
+starts_with_default [] = false
+starts_with_default (row ∷ rows) = is_default row.prefix
+
+-- the default route in front, where no interface advertises it: border routers send it into stub areas
+abbrev pub with_default : List Row → List Row
+with_default rows = if starts_with_default rows then rows else default_row ∷ rows
+
+abbrev pub route_over : Source → Cidr → Way → Route
+route_over source p w = record { prefix = p; source = source; distance = 110; metric = w.cost; hops = in_order hop_cmp w.hops }
+
+-- inside areas before between areas, whatever they cost, and none to a prefix that the router advertises itself
+abbrev pub route_to : OspfRouter → Cidr → List Offered → Summaries → Option Route
+route_to m p inside summaries =
+    if list_any (is_own m.router) inside then None
+    else option_or (option_map (route_over Ospf p) (best_way m.reach inside)) (option_map (route_over OspfIa p) (inter m summaries))
+
+abbrev pub internal_route : List OspfRouter → OspfRouter → Row → Option Route
+internal_route routers m row = route_to m row.prefix row.offers (summaries_of routers (is_default row.prefix) row.offers)
+
+-- the routes of a router inside and between areas, by address, then length
+unfoldable pub internal_routes : List OspfRouter → List Advert → OspfRouter → List Route
+internal_routes routers adverts m = filter_map (internal_route routers m) (with_default (offered_rows adverts))
+
+-- the prefixes that a router advertises itself, by address, then length
+abbrev pub own_prefixes : Network → ℕ → List Cidr
+own_prefixes net r = in_order prefix_cmp (map advert_prefix (flat_map (adverts_of net) (interfaces_at net r)))

@@ -42,7 +42,6 @@ pub record AreLeastWalks (steps : List Step) (area r s : ℕ) (e : LeastWalks) :
 abbrev pub Reach : Type 0
 Reach = ℕ → ℕ → Option LeastWalks
 
--- inside each area they are those to each other router, where there are any
+-- inside each area they are those to each router, where there are any; to the router itself leads the walk without steps
 abbrev pub IsReach : List Step → ℕ → Reach → Type 0
-IsReach steps r reach = (area s : ℕ) → ¬ (s ≡ r) →
-    MatchOption (reach area s) ((walk : List Step) → IsWalk steps area r walk s → ⊥) (AreLeastWalks steps area r s)
+IsReach steps r reach = (area s : ℕ) → MatchOption (reach area s) ((walk : List Step) → IsWalk steps area r walk s → ⊥) (AreLeastWalks steps area r s)

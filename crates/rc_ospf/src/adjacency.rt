@@ -34,6 +34,7 @@ fn is_adjacent(links: &Links, i: &OspfInterface, j: &OspfInterface) -> bool
         && !i.is_passive
         && !j.is_passive
         && i.area == j.area
+        && i.is_stub == j.is_stub
         && i.network == j.network
         && i.hello == j.hello
         && i.dead == j.dead

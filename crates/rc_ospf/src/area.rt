@@ -1,18 +1,18 @@
 //! The graph of an area, and the least walks in it from one router (RFC 2328, section 16.1).
 ghost use Rattle.std.specs.Prelude.{◌≡◌, ℕ, false, List, ◌<◌, ◌≤◌, ◌^◌, ◌++◌, None, Some, IfOk, OnOk, IfSome, IsTrue, All, length, map, slice_get, vec_len};
 ghost use Rattle.std.specs.List.{filter_map, slice_index_or};
-ghost use Rattle.std.specs.BTreeSet.{keys, insert_key};
+ghost use Rattle.std.specs.BTreeSet.{keys};
 ghost use Rattle.std.specs.Ordering.{nat_cmp};
 ghost use Rattle.std.specs.Option.{option_map};
 ghost use Rattle.rc_base.specs.Lists.{in_order};
 ghost use Rattle.rc_spf.specs.Steps.{AreSpans};
 ghost use Rattle.rc_ospf.specs.Adjacency as adjacency;
-ghost use Rattle.rc_ospf.specs.Edges.{edges_in, hop_at, hops_in, step_area, graph_area, IsFitStep, IsAreaGraph, AreAreaGraphs, IsHopList, IsKept, AreKept, AreAreaPaths, HasSmallCosts, NoneLeaves};
+ghost use Rattle.rc_ospf.specs.Edges.{edges_in, hop_at, hops_in, step_area, graph_area, IsFitStep, IsAreaGraph, AreAreaGraphs, IsHopList, IsKept, AreKept, AreAreaPaths, HasSmallCosts, IsReachOfOthers, NoneLeaves};
 ghost use Rattle.rc_ospf.specs.Paths.{path_in};
-ghost use Rattle.rc_ospf.specs.Walks.{IsReach};
 ghost use Rattle.rc_ospf.specs.declared.adjacency.Step as declared;
 
 use crate::hops::hops_in_order;
+use crate::router_area::insert_area;
 use crate::{AreaPaths, Path, Step};
 use rc_base::{Items, RouterId};
 use rc_route::{Hop, Hops};
@@ -78,14 +78,6 @@ fn area_graph(
         graph,
         groups,
     })
-}
-
-/// Puts an area into a set.
-fn insert_area(areas: &mut BTreeSet<u32>, area: u32) -> Result<(), AllocError>
-    ensures { OnOk result (keys areas.new ≡ insert_key nat_cmp (keys areas.old) area) }
-{
-    areas.insert(area)?;
-    Ok(())
 }
 
 /// The areas of steps, as a set.
@@ -249,7 +241,7 @@ pub(crate) fn reach_from(
     requires few { routers ≤ 512 }
     requires graphs { AreAreaGraphs routers steps.now graphs.now }
     requires router { router < routers }
-    ensures { IfOk result (λ found. IsReach steps.now router (path_in found)) }
+    ensures { IfOk result (λ found. IsReachOfOthers steps.now router (path_in found)) }
 {
     let mut found = Items::new(alloc);
     for graph in graphs {

@@ -1,7 +1,8 @@
 //! Offers by prefix.
 ghost use Rattle.std.specs.Prelude.{◌≡◌, IfOk, OnOk, map};
 ghost use Rattle.rc_base.specs.Groups.{with_thing, grouped};
-ghost use Rattle.rc_ospf.specs.ByPrefix.{advert_prefix, with_offer, row_of, offered_rows};
+ghost use Rattle.rc_ospf.specs.ByPrefix.{with_offer, row_of};
+ghost use Rattle.rc_ospf.specs.Routes.{advert_prefix, offered_rows};
 
 use crate::{Advert, Offer};
 use rc_base::{Items, Prefix, PrefixMap};

@@ -9,8 +9,8 @@ use rc_route::{Hop, Hops};
 use std::alloc::{AllocError, Global};
 use std::collections::BTreeSet;
 
-/// Puts hops at the end.
-pub(crate) fn add_hops(hops: &mut Hops, alloc: Global, more: &[Hop]) -> Result<(), AllocError>
+/// Puts hops at the end. It errs only where memory runs out.
+pub fn add_hops(hops: &mut Hops, alloc: Global, more: &[Hop]) -> Result<(), AllocError>
     ensures { OnOk result (hops.new ≡ hops.old ++ more.now) }
 {
     for hop in more {
@@ -52,8 +52,10 @@ fn sorted_hops(alloc: Global, hops: &[Hop]) -> Result<Hops, AllocError>
     Ok(ordered)
 }
 
-/// Hops in their order, each once. Most routers have one, which is in order already.
-pub(crate) fn hops_in_order(alloc: Global, hops: &[Hop]) -> Result<Hops, AllocError>
+/// Hops in their order, each once. It errs only where memory runs out.
+///
+/// Most ways have one hop, which is in order already.
+pub fn hops_in_order(alloc: Global, hops: &[Hop]) -> Result<Hops, AllocError>
     ensures { IfOk result (λ ordered. ordered ≡ in_order hop_cmp hops.now) }
 {
     match hops {

@@ -1,5 +1,5 @@
 //! Interfaces on which OSPF runs (RFC 2328, section 9).
-ghost use Rattle.std.specs.Prelude.{◌≡◌, ◌++◌, ◌*◌, ◌/◌, Some, [], IfOk, OnOk, length, slice_get};
+ghost use Rattle.std.specs.Prelude.{◌≡◌, ◌++◌, ◌*◌, ◌/◌, Some, [], is_some, IfOk, OnOk, length, slice_get};
 ghost use Rattle.std.specs.List.{filter_map, flat_map, cons_option, range_with_len};
 ghost use Rattle.std.specs.Option.{option_map_or};
 ghost use Rattle.rc_config.specs.Members.{router_at};
@@ -28,6 +28,8 @@ pub struct OspfInterface {
     pub hello: u32,
     /// RouterDeadInterval (RFC 2328, C.3), in seconds.
     pub dead: u32,
+    /// Whether its area is a stub area there (RFC 2328, section 3.6).
+    pub is_stub: bool,
     /// Whether it takes no neighbours.
     pub is_passive: bool,
 }
@@ -149,6 +151,14 @@ fn dead_of(settings: &OspfSettings) -> u32
     }
 }
 
+/// Whether a process has an area as a stub area.
+fn is_stub(process: &OspfProcess, area: u32) -> bool
+    ensures { result ≡ is_some (spec.stub_of process.now area) }
+{
+    let found = process.stub_areas.get(area);
+    found.is_some()
+}
+
 /// The OSPF interface of an interface that is up, in an area.
 fn ospf_interface(
     process: &OspfProcess,
@@ -170,6 +180,7 @@ fn ospf_interface(
         network: network_of(kind, &interface.ospf),
         hello: hello_of(&interface.ospf),
         dead: dead_of(&interface.ospf),
+        is_stub: is_stub(process, area),
         is_passive: process.is_passive(name),
     }
 }
@@ -228,7 +239,7 @@ fn push(all: &mut Items<OspfInterface>, interface: OspfInterface) -> Result<(), 
 }
 
 /// Puts the OSPF interfaces of a process at the end, in the order of declaration.
-fn add_interfaces(
+pub(crate) fn add_interfaces(
     all: &mut Items<OspfInterface>,
     router: RouterId,
     file: &RouterText,
@@ -245,7 +256,7 @@ fn add_interfaces(
 }
 
 /// Puts the OSPF interfaces of a router at the end.
-fn add_router(
+pub(crate) fn add_router(
     all: &mut Items<OspfInterface>,
     net: &Network,
     router: RouterId,

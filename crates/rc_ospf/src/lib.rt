@@ -1,27 +1,41 @@
-//! OSPF inside areas: which routers are adjacent, the least walks between them, and the routes that these give (RFC 2328).
+//! OSPF: which routers are adjacent, the least walks between them, what border routers summarise, and the routes that these give
+//! (RFC 2328).
 //!
 //! It stands on the model of rc_config, the links of rc_topology, the shortest paths of rc_spf and the routes of rc_route. The
-//! layer above knows of each router that its routes are those over the least of all walks, to what the interfaces of the
-//! others advertise (`IsInternal`), and that there is one such answer (`one_internal`).
+//! layer above knows of each router its routes inside and between areas, over the least of all walks, its paths to AS boundary
+//! routers, and the prefixes that it advertises itself (`IsInternal`), and that there is one such answer (`one_internal`).
+//!
+//! The crate goes one way: interfaces and the areas of routers (`interface`, `router_area`), steps and the least walks over them
+//! (`adjacency`, `area`, `path`), routers as the others have them (`member`), ways to what is offered (`way`), what border routers
+//! summarise of a destination (`summaries`), and what each router makes of it (`routes`, `boundary`).
 #![tactic(auto)]
 
 mod adjacency;
 mod advertising;
 mod area;
+mod boundary;
+mod destination;
 mod grouping;
 mod hops;
 mod interface;
+mod member;
 mod model;
 mod offer;
+mod own;
 mod path;
+mod router_area;
 mod routes;
+mod summaries;
 mod tables;
+mod way;
 
 use adjacency::{Step, adjacencies};
 use advertising::adverts;
 use grouping::{Row, offers_by_prefix};
+pub use hops::{add_hops, hops_in_order};
 pub use interface::{OspfInterface, ospf_interfaces};
-pub use model::Internal;
+pub use model::{Boundary, Internal};
 use offer::{Advert, Offer};
 use path::{AreaPaths, Path};
+use router_area::RouterArea;
 pub use tables::{internal, one_internal};

@@ -1,14 +1,81 @@
 //! What OSPF gives without a state.
-use rc_base::Items;
-use rc_route::Table;
+ghost use Rattle.std.specs.Prelude.{◌≡◌, ◌<◌, ◌^◌};
+
+use rc_base::{Items, Prefix, RouterId};
+use rc_route::{Hops, Table};
 use rc_topology::Links;
+use std::marker::Model;
+
+/// The path of a router to an AS boundary router (RFC 2328, section 16.4): its cost, which is below 2^27, and the hops of all
+/// least walks, in order.
+pub struct Boundary {
+    router: RouterId,
+    cost: u32,
+    hops: Hops,
+}
+
+/// By a function of its own, so that what holds such paths drops each by one call.
+impl Drop for Boundary {
+    fn drop(self) {
+        let Boundary {
+            router: _,
+            cost: _,
+            hops: _,
+        } = self;
+    }
+}
+
+impl Model for Boundary {
+    ghost use Rattle.rc_ospf.specs.BoundaryPaths.{BoundaryPath, IsNear};
+
+    ghost Value = { BoundaryPath };
+
+    ghost view = { λ b. record { router = b.router; cost = b.cost; hops = b.hops } };
+
+    ghost invariant = { λ b. IsNear (record { router = b.router; cost = b.cost; hops = b.hops }) };
+}
+
+impl Boundary {
+    pub(crate) fn new(router: RouterId, cost: u32, hops: Hops) -> Boundary
+        requires { cost < 2 ^ 27 }
+        ensures { result ≡ record { router = router; cost = cost; hops = hops } }
+    {
+        Boundary { router, cost, hops }
+    }
+
+    /// The AS boundary router.
+    pub fn router(&self) -> RouterId
+        ensures { result ≡ self.now.router }
+    {
+        self.router
+    }
+
+    /// The cost of each of the walks, below 2^27.
+    pub fn cost(&self) -> u32
+        ensures value { result ≡ self.now.cost }
+        ensures small { result < 2 ^ 27 }
+    {
+        self.cost
+    }
+
+    /// The first hops of all of the walks, in order.
+    pub fn hops(&self) -> &Hops
+        ensures { result.now ≡ self.now.hops }
+    {
+        &self.hops
+    }
+}
 
 /// What OSPF gives without a state. It is computed once, before any table.
 pub struct Internal {
     /// The links of the network.
     pub links: Links,
-    /// By router, in the network's order: its routes inside areas, by address, then length.
+    /// By router, in the network's order: its routes inside and between areas, by address, then length.
     pub routes: Items<Table>,
+    /// By router: its paths to the others that are AS boundary routers, in the network's order.
+    pub boundaries: Items<Items<Boundary>>,
+    /// By router: the prefixes that it advertises itself, by address, then length.
+    pub own: Items<Items<Prefix>>,
 }
 
 /// By a function of its own, so that what holds it drops it by one call.
@@ -17,6 +84,8 @@ impl Drop for Internal {
         let Internal {
             links: _,
             routes: _,
+            boundaries: _,
+            own: _,
         } = self;
     }
 }

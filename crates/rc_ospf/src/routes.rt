@@ -1,67 +1,40 @@
-//! The routes of one router.
-ghost use Rattle.std.specs.Prelude.{◌≡◌, ◌+◌, List, None, IfOk};
-ghost use Rattle.std.specs.List.{fold, filter_map, list_any};
-ghost use Rattle.rc_ospf.specs.Paths.{path_in};
-ghost use Rattle.rc_ospf.specs.Routes.{is_own, route_over};
-ghost use Rattle.rc_ospf.specs.ByPrefix.{with_way, way_over, then_way, route_of_row};
+//! The routes of one router (RFC 2328, sections 16.1 and 16.2).
+ghost use Rattle.std.specs.Prelude.{◌≡◌, IfOk};
+ghost use Rattle.std.specs.List.{filter_map, list_any};
+ghost use Rattle.std.specs.Option.{option_map};
+ghost use Rattle.rc_ospf.specs.Areas.{is_own, inter};
+ghost use Rattle.rc_ospf.specs.ByPrefix.{route_of};
+ghost use Rattle.rc_ospf.specs.Members.{reach_of, known};
+ghost use Rattle.rc_ospf.specs.Routes.{route_over};
+ghost use Rattle.rc_route.specs.declared.route.Source.TheVariants.{Ospf, OspfIa};
+ghost use Rattle.rc_ospf.specs.Ways as ways;
+ghost use Rattle.rc_ospf.specs.declared.member.StubAreas.TheVariants.{Kept};
 
-use crate::hops::{add_hops, hops_in_order};
-use crate::path::path_at;
-use crate::{AreaPaths, Offer, Path, Row};
+use crate::Offer;
+use crate::destination::Destination;
+use crate::hops::hops_in_order;
+use crate::member::{Member, StubAreas};
+use crate::router_area::is_in_backbone;
+use crate::summaries::Summaries;
+use crate::way::{Way, best_way, best_way_to_other};
 use rc_base::{Items, Prefix, RouterId};
-use rc_route::{Hops, Route, Source, Table};
+use rc_route::{Route, Source, Table};
 use std::alloc::{AllocError, Global};
 
-/// A way to a destination: its cost, and hops in the order in which they were found.
-pub struct Way {
-    pub cost: u32,
-    pub hops: Hops,
-}
-
-/// By a function of its own, so that what holds a way drops it by one call.
-impl Drop for Way {
-    fn drop(self) {
-        let Way { cost: _, hops: _ } = self;
-    }
-}
-
-/// The way over least walks, at a cost.
-fn way_at(alloc: Global, cost: u32, path: &Path) -> Result<Way, AllocError>
-    ensures { IfOk result (λ way. way ≡ way_over cost path.now) }
+/// The way of a router between areas. It errs only where memory runs out.
+pub(crate) fn inter(
+    alloc: Global,
+    member: &Member,
+    stubs: StubAreas,
+    summaries: &Summaries,
+) -> Result<Option<Way>, AllocError>
+    ensures { IfOk result (λ way. way ≡ inter (known stubs member.now) summaries.now) }
 {
-    let hops = path.hops().copy(alloc)?;
-    Ok(Way { cost, hops })
-}
-
-/// The better of a way that is known and one over least walks, or both.
-fn add_way(alloc: Global, known: Option<Way>, cost: u32, path: &Path) -> Result<Way, AllocError>
-    ensures { IfOk result (λ way. way ≡ with_way known (way_over cost path.now)) }
-{
-    match known {
-        None => way_at(alloc, cost, path),
-        Some(mut known) => {
-            if cost < known.cost {
-                return way_at(alloc, cost, path);
-            }
-            if cost == known.cost {
-                add_hops(&mut known.hops, alloc, path.hops().as_slice())?;
-            }
-            Ok(known)
-        }
+    if is_in_backbone(member.areas(stubs)) {
+        best_way_to_other(alloc, member, summaries.backbone.as_slice())
+    } else {
+        best_way(alloc, member, summaries.outward.as_slice())
     }
-}
-
-/// The best way to some offer.
-fn best_way(alloc: Global, reach: &[AreaPaths], offers: &[Offer]) -> Result<Option<Way>, AllocError>
-    ensures { IfOk result (λ best. best ≡ fold (then_way (path_in reach.now)) None offers.now) }
-{
-    let mut best = None;
-    for offer in offers {
-        if let Some(path) = path_at(reach, offer.area(), offer.router()) {
-            best = Some(add_way(alloc, best, path.cost() + offer.cost(), path)?);
-        }
-    }
-    Ok(best)
 }
 
 /// Whether the router offers it itself.
@@ -71,50 +44,76 @@ fn offers_itself(router: RouterId, offers: &[Offer]) -> bool
     offers.iter().any(|offer| offer.router() == router)
 }
 
-/// The route over the best way.
-fn route_by(alloc: Global, prefix: Prefix, way: &Way) -> Result<Route, AllocError>
-    ensures { IfOk result (λ route. route ≡ route_over prefix way.now) }
+/// The route over a way.
+fn route_by(alloc: Global, source: Source, prefix: Prefix, way: &Way) -> Result<Route, AllocError>
+    ensures { IfOk result (λ route. route ≡ route_over source prefix way.now) }
 {
-    let hops = hops_in_order(alloc, way.hops.as_slice())?;
+    let hops = hops_in_order(alloc, way.hops().as_slice())?;
     Ok(Route {
         prefix,
-        source: Source::Ospf,
+        source,
         distance: 110,
-        metric: way.cost,
+        metric: way.cost(),
         hops,
     })
 }
 
-/// The route of a router to a prefix, unless it offers the prefix itself.
-fn route_to(
+/// The route of a router inside areas.
+fn intra_route(
     alloc: Global,
-    router: RouterId,
-    reach: &[AreaPaths],
-    row: &Row,
+    member: &Member,
+    destination: &Destination,
 ) -> Result<Option<Route>, AllocError>
-    ensures { IfOk result (λ route. route ≡ route_of_row router (path_in reach.now) row.now) }
+    ensures { IfOk result (λ route. route ≡ option_map (route_over Ospf destination.now.prefix) (ways.best_way (reach_of member.now) destination.now.inside)) }
 {
-    if offers_itself(router, row.offers.as_slice()) {
-        return Ok(None);
-    }
-    match best_way(alloc, reach, row.offers.as_slice())? {
-        Some(way) => Ok(Some(route_by(alloc, row.prefix, &way)?)),
+    match best_way(alloc, member, destination.inside.as_slice())? {
+        Some(way) => Ok(Some(route_by(alloc, Source::Ospf, destination.prefix, &way)?)),
         None => Ok(None),
     }
 }
 
-/// The routes of a router to the prefixes of some rows, over the least walks from it.
-pub(crate) fn routes_of_rows(
+/// The route of a router between areas.
+fn inter_route(
     alloc: Global,
-    router: RouterId,
-    reach: &[AreaPaths],
-    rows: &[Row],
+    member: &Member,
+    destination: &Destination,
+) -> Result<Option<Route>, AllocError>
+    ensures { IfOk result (λ route. route ≡ option_map (route_over OspfIa destination.now.prefix) (inter (known Kept member.now) destination.now.summaries)) }
+{
+    match inter(alloc, member, StubAreas::Kept, &destination.summaries)? {
+        Some(way) => Ok(Some(route_by(alloc, Source::OspfIa, destination.prefix, &way)?)),
+        None => Ok(None),
+    }
+}
+
+/// The route of a router: inside areas before between areas, and none to a prefix that it advertises itself.
+fn route_of(
+    alloc: Global,
+    member: &Member,
+    destination: &Destination,
+) -> Result<Option<Route>, AllocError>
+    ensures { IfOk result (λ route. route ≡ route_of (known Kept member.now) destination.now) }
+{
+    if offers_itself(member.router, destination.inside.as_slice()) {
+        return Ok(None);
+    }
+    match intra_route(alloc, member, destination)? {
+        Some(route) => Ok(Some(route)),
+        None => inter_route(alloc, member, destination),
+    }
+}
+
+/// The routes of a router to some destinations. It errs only where memory runs out.
+pub(crate) fn routes_of(
+    alloc: Global,
+    member: &Member,
+    destinations: &[Destination],
 ) -> Result<Table, AllocError>
-    ensures { IfOk result (λ routes. routes ≡ filter_map (route_of_row router (path_in reach.now)) rows.now) }
+    ensures { IfOk result (λ routes. routes ≡ filter_map (route_of (known Kept member.now)) destinations.now) }
 {
     let mut routes = Items::new(alloc);
-    for row in rows {
-        if let Some(route) = route_to(alloc, router, reach, row)? {
+    for destination in destinations {
+        if let Some(route) = route_of(alloc, member, destination)? {
             routes.push(route)?;
         }
     }

@@ -1,5 +1,6 @@
 //! What a route map reads and sets of a route.
-use rc_base::{Communities, Items, Origin, Prefix};
+use rc_as_path::AsPath;
+use rc_base::{Communities, Origin, Prefix};
 use rc_config::MetricType;
 
 /// The attributes of a route (RFC 4271 s.5, RFC 1997) that a route map may read or set.
@@ -17,7 +18,7 @@ pub struct Attrs {
     /// ORIGIN (RFC 4271 s.5.1.1).
     pub origin: Origin,
     /// AS_PATH (RFC 4271 s.5.1.2), the nearest AS first.
-    pub as_path: Items<u32>,
+    pub as_path: AsPath,
     /// COMMUNITIES (RFC 1997).
     pub communities: Communities,
 }

@@ -1,27 +1,11 @@
 //! What the sets of an entry make of a route.
-ghost use Rattle.std.specs.Prelude.{◌≡◌, ◌++◌, IfOk};
+ghost use Rattle.std.specs.Prelude.{◌≡◌, IfOk};
 ghost use Rattle.rc_policy.specs.Policy.{communities_after, with_sets};
 
 use crate::Attrs;
-use rc_base::{Communities, Items};
+use rc_base::Communities;
 use rc_config::{CommunityChange, Sets};
 use std::alloc::{AllocError, Global};
-
-/// The AS path with numbers put before it.
-fn with_prepended(
-    alloc: Global,
-    numbers: &[u32],
-    as_path: Items<u32>,
-) -> Result<Items<u32>, AllocError>
-    ensures { IfOk result (λ path. path ≡ numbers.now ++ as_path) }
-{
-    if numbers.is_empty() {
-        return Ok(as_path);
-    }
-    let mut path = Vec::from_slice(alloc, numbers)?;
-    path.extend_from_slice(as_path.as_slice())?;
-    Ok(Items::from_vec(path))
-}
 
 /// The communities after a change.
 fn with_change(
@@ -52,7 +36,7 @@ pub(crate) fn with_sets(alloc: Global, sets: &Sets, attrs: Attrs) -> Result<Attr
         as_path,
         communities,
     } = attrs;
-    let as_path = with_prepended(alloc, sets.prepended.as_slice(), as_path)?;
+    let as_path = as_path.prepend_all(alloc, sets.prepended.as_slice())?;
     let communities = with_change(alloc, &sets.communities, communities)?;
     Ok(Attrs {
         prefix,

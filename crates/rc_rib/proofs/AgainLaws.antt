@@ -12,6 +12,7 @@ use Rattle.rc_fib.specs.Forwarding.{resolved}
 use Rattle.rc_route.specs.Tables.{IsRouterState}
 use Rattle.rc_route.specs.declared.route.Route.{Route}
 use Rattle.rc_route.specs.declared.state.RouterState.{RouterState}
+use Rattle.rc_ospf.specs.declared.model.Internal.{Internal}
 use Rattle.rc_rib.specs.Again.{IsUnchanged, ReadsNoTable}
 use Rattle.rc_rib.specs.Best.{best_routes}
 use Rattle.rc_rib.specs.Connected.{connected}
@@ -22,7 +23,7 @@ numbered : (n r : ℕ) → r < n → slice_get (range_with_len 0 n) r ≡ Some r
 numbered n r less =
     slice_get-get_or (range_with_len 0 n) r 0 (omega (arith, less, length-range_with_len 0 n)) ∙ ap Some (get_or-range_with_len 0 n r 0 less ∙ (let e : 0 + r ≡ r = omega arith in e))
 
-module _ (net : Network) (internal : List (List Route)) (r : ℕ) (here : r < length net.routers) where
+module _ (net : Network) (internal : Internal) (r : ℕ) (here : r < length net.routers) where
   -- what the router knows after a round
   row : (old : List RouterState) → slice_get (next_state net internal old) r ≡ Some (next_router net internal old r)
   row old =
@@ -30,18 +31,18 @@ module _ (net : Network) (internal : List (List Route)) (r : ℕ) (here : r < le
 
   -- it comes from the router's previous table
   after : List Route → RouterState
-  after table = record { table = option_map_or (λ file. table_after r file (routes_of internal r) table) (router_at net r) []; paths = [] }
+  after table = record { table = option_map_or (λ file. table_after r file (routes_of internal.routes r) table) (router_at net r) []; paths = [] }
 
   -- what it knows with these lines `ip route`
   with_lines : RouterText → List Route → List StaticRoute → RouterState
   with_lines file table lines = record {
-    table = best_routes (connected r file.interfaces ++ (static_routes (active_lines r file.interfaces (resolved table) lines) ++ routes_of internal r));
+    table = best_routes (connected r file.interfaces ++ (static_routes (active_lines r file.interfaces (resolved table) lines) ++ routes_of internal.routes r));
     paths = [];
   }
 
   -- without such a line it comes from the file alone
   from_file : (found : Option RouterText) (t u : List Route) → IfSome found (λ (file : RouterText). file.static_routes ≡ [])
-      → option_map_or (λ file. table_after r file (routes_of internal r) t) found [] ≡ option_map_or (λ file. table_after r file (routes_of internal r) u) found []
+      → option_map_or (λ file. table_after r file (routes_of internal.routes r) t) found [] ≡ option_map_or (λ file. table_after r file (routes_of internal.routes r) u) found []
   unfolding with_lines
   from_file None t u none = refl
   from_file (Some file) t u none = ap (λ lines. (with_lines file t lines).table) none ∙ sym (ap (λ lines. (with_lines file u lines).table) none)

@@ -5,6 +5,7 @@ use Rattle.rc_config.specs.declared.network.Network.{Network}
 use Rattle.rc_config.specs.declared.router_text.RouterText.{RouterText}
 use Rattle.rc_config.specs.Members.{router_at, router_ids}
 use Rattle.rc_fib.specs.Forwarding.{resolved}
+use Rattle.rc_ospf.specs.declared.model.Internal.{Internal}
 use Rattle.rc_rib.specs.Best.{best_routes}
 use Rattle.rc_rib.specs.Connected.{connected}
 use Rattle.rc_rib.specs.Static.{active_lines, static_routes}
@@ -28,10 +29,10 @@ table_of state r = option_map_or (λ (s : RouterState). s.table) (slice_get stat
 abbrev pub routes_of : List (List Route) → ℕ → List Route
 routes_of internal r = unwrap_or (slice_get internal r) []
 
--- what a router knows after a round in which all read the old state, beside the OSPF routes of each router; there are no BGP paths
-abbrev pub next_router : Network → List (List Route) → List RouterState → ℕ → RouterState
-next_router net internal old r = record { table = option_map_or (λ file. table_after r file (routes_of internal r) (table_of old r)) (router_at net r) []; paths = [] }
+-- what a router knows after a round in which all read the old state, beside what OSPF gives without a state; there are no BGP paths
+abbrev pub next_router : Network → Internal → List RouterState → ℕ → RouterState
+next_router net internal old r = record { table = option_map_or (λ file. table_after r file (routes_of internal.routes r) (table_of old r)) (router_at net r) []; paths = [] }
 
 -- a round: all routers read the old state
-abbrev pub next_state : Network → List (List Route) → List RouterState → List RouterState
+abbrev pub next_state : Network → Internal → List RouterState → List RouterState
 next_state net internal old = map (next_router net internal old) (router_ids net)

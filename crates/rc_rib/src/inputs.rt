@@ -7,7 +7,7 @@ use rc_route::State;
 #[derive(Drop)]
 pub struct Inputs<'a> {
     pub network: &'a Network,
-    /// The OSPF routes of each router, which no round changes.
+    /// What OSPF gives without a state, which no round changes.
     pub internal: &'a Internal,
     /// What each router knows after the round before.
     pub previous: &'a State,

@@ -130,7 +130,7 @@ fn ospf_routes(internal: &Internal, router: RouterId) -> &[Route]
 /// What a router knows after a round, made anew.
 fn anew(alloc: Global, inputs: &Inputs<'_>, router: RouterId) -> Result<RouterState, AllocError>
     requires { All IsRouterState inputs.now.previous.now }
-    ensures next { IfOk result (λ s. s ≡ spec.next_router inputs.now.network.now inputs.now.internal.now.routes inputs.now.previous.now router) }
+    ensures next { IfOk result (λ s. s ≡ spec.next_router inputs.now.network.now inputs.now.internal.now inputs.now.previous.now router) }
     ensures in_order { IfOk result IsRouterState }
 {
     let ospf = ospf_routes(inputs.internal, router);
@@ -186,8 +186,8 @@ pub fn table(
     requires lawful { IsLawful inputs.now.network.now }
     requires router { IsRouter inputs.now.network.now router }
     requires state { IsStateOf (length inputs.now.network.now.routers) inputs.now.previous.now }
-    requires earlier { IfSome inputs.now.earlier (λ old. inputs.now.previous.now ≡ spec.next_state inputs.now.network.now inputs.now.internal.now.routes old.now) }
-    ensures next { IfOk result (λ s. s ≡ spec.next_router inputs.now.network.now inputs.now.internal.now.routes inputs.now.previous.now router) }
+    requires earlier { IfSome inputs.now.earlier (λ old. inputs.now.previous.now ≡ spec.next_state inputs.now.network.now inputs.now.internal.now old.now) }
+    ensures next { IfOk result (λ s. s ≡ spec.next_router inputs.now.network.now inputs.now.internal.now inputs.now.previous.now router) }
     ensures in_order { IfOk result IsRouterState }
 {
     let earlier = inputs.earlier;

@@ -3,14 +3,14 @@ use Rattle.std.proofs.Common.{refl, ◌≡◌, sym, ap, ◌∙◌, subst, ℕ, �
 use Rattle.std.proofs.Math.Decide.{dec_lt}
 use Rattle.rc_config.specs.declared.network.Network.{Network}
 use Rattle.rc_ospf.proofs.OneAnswer.{one_internal}
-use Rattle.rc_route.specs.declared.route.Route.{Route}
+use Rattle.rc_ospf.specs.declared.model.Internal.{Internal}
 use Rattle.rc_route.specs.declared.state.RouterState.{RouterState}
 use Rattle.rc_topology.specs.Ports.{links_of}
 use Rattle.rc_rounds.specs.declared.outcome.Outcome.{Outcome}
 use Rattle.rc_rounds.specs.declared.outcome.Outcome.TheVariants.{Fixed, Repeats, Limit}
 use Rattle.rc_rounds.specs.Rounds.{state_after, checkpoint, GoesOn, GoesOnBelow, EndsAs, HasOneOutcome}
 
-module _ (net : Network) (internal : List (List Route)) where
+module _ (net : Network) (internal : Internal) where
   -- where k rounds may be made, and the k-th ends them: it is that of the round before or of its checkpoint
   abbrev Ends : ℕ → ℕ → Type 0
   Ends limit k = (1 ≤ k) × (k ≤ limit) × GoesOnBelow net internal k × ¬ (GoesOn net internal k)
@@ -56,5 +56,5 @@ module _ (net : Network) (internal : List (List Route)) where
 
 pub one_outcome : HasOneOutcome
 one_outcome net limit this that h g =
-    let same : h.internal ≡ g.internal = one_internal net (links_of net) h.internal g.internal h.are_internal g.are_internal in
+    let same : h.internal ≡ g.internal = one_internal net h.internal g.internal (h.links ∙ sym g.links) h.is_internal g.is_internal in
     same_outcome net g.internal limit this that (subst (λ internal. EndsAs net internal limit this) same h.ends) g.ends

@@ -3,8 +3,8 @@ use Rattle.std.proofs.Common.{refl, ◌≡◌, ◌≢◌, ◌⊎◌, inl, inr, s
 use Rattle.std.proofs.lemmas.Bool.Decides.{Decides-eqb}
 use Rattle.std.proofs.Math.Decide.{dec_lt}
 use Rattle.rc_config.specs.declared.network.Network.{Network}
+use Rattle.rc_ospf.specs.declared.model.Internal.{Internal}
 use Rattle.rc_route.specs.Tables.{IsStateOf}
-use Rattle.rc_route.specs.declared.route.Route.{Route}
 use Rattle.rc_route.specs.declared.state.RouterState.{RouterState}
 use Rattle.rc_rib.specs.Next.{next_state}
 use Rattle.rc_rounds.specs.declared.progress.Progress.{Progress}
@@ -14,7 +14,7 @@ use Rattle.rc_rounds.specs.declared.outcome.Outcome.TheVariants.{Repeats}
 use Rattle.rc_rounds.proofs.CheckpointLaws.{power-is}
 use Rattle.rc_rounds.proofs.RoundLaws.{next_is, further, changed, went_on}
 
-module _ (net : Network) (internal : List (List Route)) (p : Progress) (at : IsProgress net internal p) where
+module _ (net : Network) (internal : Internal) (p : Progress) (at : IsProgress net internal p) where
   -- the state that is kept of the checkpoint is its state
   pub checkpoint_state-is : checkpoint_state p ≡ state_after net internal p.checkpoint
   checkpoint_state-is = by (p.checkpoint == p.done) refl

@@ -5,12 +5,12 @@ use Rattle.std.proofs.lemmas.Bool.{false≢true}
 use Rattle.std.specs.List.Sorted.{IsStrictlySortedBy}
 use Rattle.rc_config.specs.Lawful.{IsLawful}
 use Rattle.rc_config.specs.declared.network.Network.{Network}
-use Rattle.rc_route.specs.declared.route.Route.{Route}
+use Rattle.rc_ospf.specs.declared.model.Internal.{Internal}
 use Rattle.rc_route.specs.declared.state.RouterState.{RouterState}
 use Rattle.rc_rib.specs.Next.{next_state}
 use Rattle.rc_rounds.specs.Rounds.{state_after, checkpoint, GoesOn, GoesOnBelow}
 
-module _ (net : Network) (internal : List (List Route)) where
+module _ (net : Network) (internal : Internal) where
   pub next_is : (i : ℕ) (next last : List RouterState) → next ≡ next_state net internal last → last ≡ state_after net internal i → next ≡ state_after net internal (i + 1)
   next_is i next last e h = e ∙ ap (next_state net internal) h ∙ sym (ap (state_after net internal) (add-one i))
 

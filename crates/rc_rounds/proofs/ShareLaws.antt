@@ -7,36 +7,36 @@ use Rattle.std.specs.List.Sorted.{IsStrictlySortedBy}
 use Rattle.std.proofs.lemmas.List.Elements.{All-append, All-map}
 use Rattle.std.proofs.lemmas.List.FromFn.{map-range_with_len_more, length-map-range_with_len}
 use Rattle.rc_config.specs.declared.network.Network.{Network}
-use Rattle.rc_route.specs.declared.route.Route.{Route}
+use Rattle.rc_ospf.specs.declared.model.Internal.{Internal}
 use Rattle.rc_route.specs.declared.state.RouterState.{RouterState}
 use Rattle.rc_rib.specs.Next.{next_router, next_state}
 use Rattle.rc_route.specs.Tables.{IsRouterState, IsStateOf}
 use Rattle.rc_rounds.specs.Rounds.{empty_state}
 use Rattle.rc_rounds.specs.Shares.{rows, share_start}
 
-pub rows-none : (net : Network) (internal : List (List Route)) (old : List RouterState) (a n : ℕ) → n ≡ 0 → rows net internal old a n ≡ []
+pub rows-none : (net : Network) (internal : Internal) (old : List RouterState) (a n : ℕ) → n ≡ 0 → rows net internal old a n ≡ []
 unfolding rows
 rows-none net internal old a n e = rw e refl
 
-pub rows-more : (net : Network) (internal : List (List Route)) (old : List RouterState) (a n j : ℕ) → a + n ≡ j → rows net internal old a (n + 1) ≡ rows net internal old a n ++ next_router net internal old j ∷ []
+pub rows-more : (net : Network) (internal : Internal) (old : List RouterState) (a n j : ℕ) → a + n ≡ j → rows net internal old a (n + 1) ≡ rows net internal old a n ++ next_router net internal old j ∷ []
 unfolding rows
 rows-more net internal old a n j e = map-range_with_len_more (next_router net internal old) a n j e
 
 -- two neighbouring stretches
-rows-append : (net : Network) (internal : List (List Route)) (old : List RouterState) (a m n : ℕ) → rows net internal old a m ++ rows net internal old (a + m) n ≡ rows net internal old a (m + n)
+rows-append : (net : Network) (internal : Internal) (old : List RouterState) (a m n : ℕ) → rows net internal old a m ++ rows net internal old (a + m) n ≡ rows net internal old a (m + n)
 unfolding rows
 rows-append net internal old a zero n = let e : a + 0 ≡ a = omega arith in let f : 0 + n ≡ n = omega arith in rw (e, f) refl
 rows-append net internal old a (suc m) n =
     let e : a + suc m ≡ a + 1 + m = omega arith in let f : suc m + n ≡ suc (m + n) = omega arith in
     rw (e, f) (ap (λ l. next_router net internal old a ∷ l) (rows-append net internal old (a + 1) m n))
 
-pub rows-extend : (net : Network) (internal : List (List Route)) (old : List RouterState) (b e : ℕ) → b ≤ e → rows net internal old 0 b ++ rows net internal old b (e - b) ≡ rows net internal old 0 e
+pub rows-extend : (net : Network) (internal : Internal) (old : List RouterState) (b e : ℕ) → b ≤ e → rows net internal old 0 b ++ rows net internal old b (e - b) ≡ rows net internal old 0 e
 rows-extend net internal old b e le =
     let z : 0 + b ≡ b = omega arith in let f : b + (e - b) ≡ e = omega arith in
     ap (λ k. rows net internal old 0 b ++ rows net internal old k (e - b)) (sym z) ∙ rows-append net internal old 0 b (e - b) ∙ ap (λ k. rows net internal old 0 k) f
 
 -- all rows are the next state
-pub rows-all : (net : Network) (internal : List (List Route)) (old : List RouterState) → rows net internal old 0 (length net.routers) ≡ next_state net internal old
+pub rows-all : (net : Network) (internal : Internal) (old : List RouterState) → rows net internal old 0 (length net.routers) ≡ next_state net internal old
 unfolding rows
 rows-all net internal old = refl
 
@@ -82,7 +82,7 @@ empty-in_order net = record {
   each = All-map IsRouterState (λ _. record { table = []; paths = [] }) (range_with_len 0 (length net.routers)) (λ k d less. nothing-in_order);
 }
 
-pub next-as_long : (net : Network) (internal : List (List Route)) (old : List RouterState) → length (next_state net internal old) ≡ length net.routers
+pub next-as_long : (net : Network) (internal : Internal) (old : List RouterState) → length (next_state net internal old) ≡ length net.routers
 next-as_long net internal old = length-map-range_with_len (next_router net internal old) 0 (length net.routers)
 
 pub one-more : (state : List RouterState) (s : RouterState) → All IsRouterState state → IsRouterState s → All IsRouterState (state ++ s ∷ [])

@@ -2,11 +2,11 @@
 use Rattle.std.specs.Prelude.{◌≡◌, ◌≢◌, ℕ, zero, suc, ◌+◌, ◌-◌, ◌^◌, ◌≤◌, ◌<◌, List, [], map, nat_lt, if◌then◌else◌}
 use Rattle.rc_config.specs.declared.network.Network.{Network}
 use Rattle.rc_config.specs.Members.{router_ids}
+use Rattle.rc_ospf.specs.declared.model.Internal.{Internal}
 use Rattle.rc_route.specs.Tables.{IsStateOf}
 use Rattle.rc_route.specs.declared.state.RouterState.{RouterState}
-use Rattle.rc_ospf.specs.Internal.{AreInternalRoutes}
+use Rattle.rc_ospf.specs.Internal.{IsInternal}
 use Rattle.rc_rib.specs.Next.{next_state}
-use Rattle.rc_route.specs.declared.route.Route.{Route}
 use Rattle.rc_topology.specs.Ports.{links_of}
 use Rattle.rc_rounds.specs.declared.outcome.Outcome.{Outcome}
 use Rattle.rc_rounds.specs.declared.outcome.Outcome.TheVariants.{Fixed, Repeats, Limit}
@@ -15,8 +15,8 @@ use Rattle.rc_rounds.specs.declared.outcome.Outcome.TheVariants.{Fixed, Repeats,
 abbrev pub empty_state : Network → List RouterState
 empty_state net = map (λ _. record { table = []; paths = [] }) (router_ids net)
 
--- the state after k rounds, beside the OSPF routes of each router
-abbrev pub state_after : Network → List (List Route) → ℕ → List RouterState
+-- the state after k rounds, beside what OSPF gives without a state
+abbrev pub state_after : Network → Internal → ℕ → List RouterState
 state_after net internal zero = empty_state net
 state_after net internal (suc k) = next_state net internal (state_after net internal k)
 
@@ -30,25 +30,26 @@ abbrev pub checkpoint : ℕ → ℕ
 checkpoint k = power_below k k
 
 -- the state after round k is neither that of the round before nor that of its checkpoint
-pub record GoesOn (net : Network) (internal : List (List Route)) (k : ℕ) : Type 0 where
+pub record GoesOn (net : Network) (internal : Internal) (k : ℕ) : Type 0 where
   pub changes : state_after net internal k ≢ state_after net internal (k - 1)
   pub is_new : state_after net internal k ≢ state_after net internal (checkpoint k)
 
-abbrev pub GoesOnBelow : Network → List (List Route) → ℕ → Type 0
+abbrev pub GoesOnBelow : Network → Internal → ℕ → Type 0
 GoesOnBelow net internal k = (j : ℕ) → 1 ≤ j → j < k → GoesOn net internal j
 
 -- The rounds end at the least k from 1 to the limit at which the state is that of the round before, or else that of the
 -- checkpoint; without such a k they reach the limit.
-abbrev pub EndsAs : Network → List (List Route) → ℕ → Outcome → Type 0
+abbrev pub EndsAs : Network → Internal → ℕ → Outcome → Type 0
 EndsAs net internal limit (Fixed k state) = (1 ≤ k) × (k ≤ limit) × GoesOnBelow net internal k × (state ≡ state_after net internal k) × (state_after net internal k ≡ state_after net internal (k - 1))
 EndsAs net internal limit (Repeats i k) =
     (1 ≤ k) × (k ≤ limit) × GoesOnBelow net internal k × (i ≡ checkpoint k) × (state_after net internal k ≢ state_after net internal (k - 1)) × (state_after net internal k ≡ state_after net internal i)
 EndsAs net internal limit (Limit n) = (n ≡ limit) × GoesOnBelow net internal (limit + 1)
 
--- how the rounds of a network end, beside the OSPF routes that its configurations give each router
+-- how the rounds of a network end, beside what OSPF gives by its configurations and links alone
 pub record IsOutcome (net : Network) (limit : ℕ) (outcome : Outcome) : Type 0 where
-  pub internal : List (List Route)
-  pub are_internal : AreInternalRoutes net (links_of net) internal
+  pub internal : Internal
+  pub links : internal.links ≡ links_of net
+  pub is_internal : IsInternal net internal
   pub ends : EndsAs net internal limit outcome
 
 -- the state of a fixed point has so many routers, and each one's routes stand in order

@@ -1,9 +1,9 @@
 //! What the rounds keep from one to the next.
-ghost use Rattle.std.specs.Prelude.{◌≡◌, ◌+◌, ◌≤◌, ◌<◌, ◌⊎◌, List, IfOk, IfSome, length, if◌then◌else◌};
+ghost use Rattle.std.specs.Prelude.{◌≡◌, ◌+◌, ◌≤◌, ◌<◌, ◌⊎◌, IfOk, IfSome, length, if◌then◌else◌};
 ghost use Rattle.rc_config.specs.Lawful.{IsLawful};
 ghost use Rattle.rc_config.specs.declared.network.Network.{Network as NetworkModel};
 ghost use Rattle.rc_rib.specs.Next as rib;
-ghost use Rattle.rc_route.specs.declared.route.Route.{Route as RouteModel};
+ghost use Rattle.rc_ospf.specs.declared.model.Internal.{Internal as InternalModel};
 ghost use Rattle.rc_route.specs.Tables.{IsStateOf};
 ghost use Rattle.rc_rounds.specs.Progress.{IsProgress, IsPowerBelow, IsSame, checkpoint_state};
 ghost use Rattle.rc_rounds.specs.Rounds.{GoesOn};
@@ -82,7 +82,7 @@ impl Progress {
     /// No round is made.
     pub fn start(alloc: Global, net: &Network) -> Result<Progress, AllocError>
         ensures done { IfOk result (λ p. p.done ≡ 0) }
-        ensures made { IfOk result (λ p. (internal : List (List RouteModel)) → IsProgress net.now internal p) }
+        ensures made { IfOk result (λ p. (internal : InternalModel) → IsProgress net.now internal p) }
     {
         let last = empty_state(alloc, net)?;
         Ok(Progress {
@@ -132,11 +132,11 @@ impl Progress {
         gate: &G,
     ) -> Result<State, AllocError>
         requires lawful { IsLawful net.now }
-        requires made { IsProgress net.now internal.now.routes self.now }
+        requires made { IsProgress net.now internal.now self.now }
         requires few { self.now.done < 100000 }
         requires some_workers { 1 ≤ workers }
         requires few_workers { workers ≤ 64 }
-        ensures value { IfOk result (λ s. s ≡ rib.next_state net.now internal.now.routes self.now.last) }
+        ensures value { IfOk result (λ s. s ≡ rib.next_state net.now internal.now self.now.last) }
         ensures in_order { IfOk result (IsStateOf (length net.now.routers)) }
     {
         next_state(
@@ -150,11 +150,11 @@ impl Progress {
 
     /// What the next round reads.
     fn inputs<'a>(&'a self, net: &'a Network, internal: &'a Internal) -> Inputs<'a>
-        requires { IsProgress net.now internal.now.routes self.now }
+        requires { IsProgress net.now internal.now self.now }
         ensures network { result.network.now ≡ net.now }
         ensures internal { result.internal.now ≡ internal.now }
         ensures previous { result.previous.now ≡ self.now.last }
-        ensures earlier { IfSome result.earlier (λ old. self.now.last ≡ rib.next_state net.now internal.now.routes old.now) }
+        ensures earlier { IfSome result.earlier (λ old. self.now.last ≡ rib.next_state net.now internal.now old.now) }
     {
         Inputs {
             network: net,
@@ -173,7 +173,7 @@ impl Progress {
         requires few { self.done < 100000 }
         requires checkpoint { self.checkpoint ≤ 100000 }
         ensures done { result.done ≡ self.done + 1 }
-        ensures made { (net : NetworkModel) (internal : List (List RouteModel)) → IsProgress net internal self → IsStateOf (length net.routers) next → next ≡ rib.next_state net internal self.last → GoesOn net internal (self.done + 1) → IsProgress net internal result }
+        ensures made { (net : NetworkModel) (internal : InternalModel) → IsProgress net internal self → IsStateOf (length net.routers) next → next ≡ rib.next_state net internal self.last → GoesOn net internal (self.done + 1) → IsProgress net internal result }
     {
         let Progress {
             done,

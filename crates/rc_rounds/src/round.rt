@@ -48,10 +48,10 @@ fn add_share(
 ) -> Result<(), AllocError>
     requires lawful { IsLawful inputs.now.network.now }
     requires state { IsStateOf (length inputs.now.network.now.routers) inputs.now.previous.now }
-    requires earlier { IfSome inputs.now.earlier (λ old. inputs.now.previous.now ≡ rib.next_state inputs.now.network.now inputs.now.internal.now.routes old.now) }
+    requires earlier { IfSome inputs.now.earlier (λ old. inputs.now.previous.now ≡ rib.next_state inputs.now.network.now inputs.now.internal.now old.now) }
     requires up { from ≤ to }
     requires end { to ≤ length inputs.now.network.now.routers }
-    ensures value { OnOk result (state.new ≡ state.old ++ rows inputs.now.network.now inputs.now.internal.now.routes inputs.now.previous.now from (to - from)) }
+    ensures value { OnOk result (state.new ≡ state.old ++ rows inputs.now.network.now inputs.now.internal.now inputs.now.previous.now from (to - from)) }
     ensures in_order { OnOk result (All IsRouterState state.old → All IsRouterState state.new) }
 {
     for index in from..to {
@@ -73,10 +73,10 @@ pub(crate) fn next_state<G: Gate>(
 ) -> Result<State, AllocError>
     requires lawful { IsLawful inputs.now.network.now }
     requires state { IsStateOf (length inputs.now.network.now.routers) inputs.now.previous.now }
-    requires earlier { IfSome inputs.now.earlier (λ old. inputs.now.previous.now ≡ rib.next_state inputs.now.network.now inputs.now.internal.now.routes old.now) }
+    requires earlier { IfSome inputs.now.earlier (λ old. inputs.now.previous.now ≡ rib.next_state inputs.now.network.now inputs.now.internal.now old.now) }
     requires some_workers { 1 ≤ workers }
     requires few_workers { workers ≤ 64 }
-    ensures value { IfOk result (λ s. s ≡ rib.next_state inputs.now.network.now inputs.now.internal.now.routes inputs.now.previous.now) }
+    ensures value { IfOk result (λ s. s ≡ rib.next_state inputs.now.network.now inputs.now.internal.now inputs.now.previous.now) }
     ensures in_order { IfOk result (IsStateOf (length inputs.now.network.now.routers)) }
 {
     let routers = inputs.network.routers.len();

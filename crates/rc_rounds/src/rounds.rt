@@ -1,7 +1,7 @@
 //! Rounds until a state comes again.
 ghost use Rattle.std.specs.Prelude.{◌≡◌, ◌≤◌, IfOk, length};
 ghost use Rattle.rc_config.specs.Lawful.{IsLawful};
-ghost use Rattle.rc_ospf.specs.Internal.{AreInternalRoutes};
+ghost use Rattle.rc_ospf.specs.Internal.{IsInternal};
 ghost use Rattle.rc_topology.specs.Ports.{links_of};
 ghost use Rattle.rc_rounds.specs.Rounds.{EndsAs, IsInOrder, IsOutcome, HasOneOutcome};
 
@@ -16,7 +16,7 @@ use std::thread::Threads;
 
 /// How the rounds of a network end, of which at most so many are made.
 ///
-/// The OSPF routes of each router come from the configurations alone, so they are made once, before the first round. `limit`
+/// What OSPF gives by the configurations alone is made once, before the first round. `limit`
 /// is from 1 to 100,000 and `workers` from 1 to 64. Each worker passes the gate in each round, whose number is the phase. At a
 /// fixed point each router's table is in order. It errs only where memory runs out.
 pub fn run_rounds<R: Threads + Sync + AllocGlobal, G: Gate>(
@@ -38,10 +38,11 @@ pub fn run_rounds<R: Threads + Sync + AllocGlobal, G: Gate>(
     rounds_within(rt.alloc(), net, &internal, limit, workers, gate)
 }
 
-/// The OSPF routes of each router.
+/// What OSPF gives without a state.
 fn internal_of(alloc: Global, net: &Network) -> Result<Internal, AllocError>
     requires { IsLawful net.now }
-    ensures { IfOk result (λ i. AreInternalRoutes net.now (links_of net.now) i.routes) }
+    ensures links { IfOk result (λ i. i.links ≡ links_of net.now) }
+    ensures internal { IfOk result (IsInternal net.now) }
 {
     let links = Links::of(alloc, net)?;
     internal(alloc, net, links)
@@ -60,7 +61,7 @@ fn rounds_within<G: Gate>(
     requires few_rounds { limit ≤ 100000 }
     requires some_workers { 1 ≤ workers }
     requires few_workers { workers ≤ 64 }
-    ensures outcome { IfOk result (EndsAs net.now internal.now.routes limit) }
+    ensures outcome { IfOk result (EndsAs net.now internal.now limit) }
     ensures in_order { IfOk result (IsInOrder (length net.now.routers)) }
 {
     let mut progress = Progress::start(alloc, net)?;

@@ -42,7 +42,7 @@ table_decides = pointwise_decides route-Decides
 path-Decides : (x y : BgpPath) → Decides (path_impl.eq-value.it x y) (x ≡ y)
 path-Decides x y =
     Decides-like _ (λ h. search rules) (λ e. search rules)
-    (Decides-and _ _ (prefix-Decides x.prefix y.prefix) (Decides-and _ _ (Decides-eqb x.next_hop y.next_hop) (Decides-and _ _ (Decides-eqb x.med y.med) (Decides-and _ _ (Decides-eqb x.local_preference y.local_preference) (Decides-and _ _ (Decides-eqb x.weight y.weight) (Decides-and _ _ (origin-Decides x.origin y.origin) (Decides-and _ _ (bytes_decides x.as_path y.as_path) (Decides-and _ _ (bytes_decides x.communities y.communities) (Decides-and _ _ (path_source-Decides x.source y.source) (Decides-and _ _ (Decides-eqb x.sender y.sender) (Decides-and _ _ (Decides-eqb x.sender_id y.sender_id) (Decides-and _ _ (Decides-eqb x.neighbor y.neighbor) (Decides-eqb x.igp_metric y.igp_metric)))))))))))))
+    (Decides-and _ _ (prefix-Decides x.prefix y.prefix) (Decides-and _ _ (Decides-eqb x.next_hop y.next_hop) (Decides-and _ _ (Decides-eqb x.med y.med) (Decides-and _ _ (Decides-eqb x.local_preference y.local_preference) (Decides-and _ _ (Decides-eqb x.weight y.weight) (Decides-and _ _ (Decides-eqb x.sender_id y.sender_id) (Decides-and _ _ (Decides-eqb x.neighbor y.neighbor) (Decides-and _ _ (Decides-eqb x.igp_metric y.igp_metric) (Decides-and _ _ (origin-Decides x.origin y.origin) (Decides-and _ _ (path_source-Decides x.source y.source) (Decides-and _ _ (Decides-eqb x.sender y.sender) (Decides-and _ _ (bytes_decides x.communities y.communities) (bytes_decides x.as_path y.as_path)))))))))))))
 
 router-Decides : (x y : RouterState) → Decides (router_impl.eq-value.it x y) (x ≡ y)
 router-Decides x y = search (rules, route-Decides, path-Decides, pointwise_decides)

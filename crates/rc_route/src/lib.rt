@@ -1,8 +1,8 @@
 //! Routes, BGP paths, and what all routers know after a round.
 //!
-//! It stands on the addresses, prefixes, lists and communities of rc_base. The layer above knows a table as its list of
-//! routes, a route's hops as a list, a state as the list of what each router knows, whether two states are equal, and a
-//! router's state again as a copy.
+//! It stands on the addresses, prefixes, lists and communities of rc_base, and on the AS paths of rc_as_path. The layer above
+//! knows a table as its list of routes, a route's hops as a list, a state as the list of what each router knows, whether two
+//! states are equal, and a router's state again as a copy.
 #![tactic(auto)]
 
 mod hops;

@@ -4,7 +4,8 @@ ghost use Rattle.std.specs.Prelude.{◌≡◌, IfOk};
 ghost use Rattle.std.specs.Ordering.{nat_cmp};
 ghost use Rattle.rc_route.specs.Paths.{path_source_rank};
 
-use rc_base::{Addr, Communities, Items, Origin, Prefix, RouterId};
+use rc_as_path::AsPath;
+use rc_base::{Addr, Communities, Origin, Prefix, RouterId};
 use std::alloc::{AllocError, Global};
 use std::cmp::Ordering;
 
@@ -26,6 +27,9 @@ pub enum PathSource {
 }
 
 /// A BGP path with its attributes (RFC 4271 s.5, RFC 1997).
+///
+/// It is kept for each prefix and router: fields of one size stand side by side, so that no room is lost between them, and what is
+/// dear to compare comes last.
 #[derive(PartialEq, Eq)]
 pub struct BgpPath {
     pub prefix: Prefix,
@@ -37,21 +41,21 @@ pub struct BgpPath {
     pub local_preference: u32,
     /// The weight, which no other router sees.
     pub weight: u32,
-    /// ORIGIN (RFC 4271 s.5.1.1).
-    pub origin: Origin,
-    /// AS_PATH (RFC 4271 s.5.1.2), the nearest AS first.
-    pub as_path: Items<u32>,
-    /// COMMUNITIES (RFC 1997).
-    pub communities: Communities,
-    pub source: PathSource,
-    /// The router that sent the path, or that originates it.
-    pub sender: RouterId,
     /// The BGP identifier of the sender, 0 where the router originates the path.
     pub sender_id: Addr,
     /// The address of the sender on the session, 0 where the router originates the path.
     pub neighbor: Addr,
     /// The metric of the route to the next hop, 0 where the router originates the path.
     pub igp_metric: u32,
+    /// ORIGIN (RFC 4271 s.5.1.1).
+    pub origin: Origin,
+    pub source: PathSource,
+    /// The router that sent the path, or that originates it.
+    pub sender: RouterId,
+    /// COMMUNITIES (RFC 1997).
+    pub communities: Communities,
+    /// AS_PATH (RFC 4271 s.5.1.2), the nearest AS first. Paths of one origin share it.
+    pub as_path: AsPath,
 }
 
 /// By a function of its own, so that what holds paths drops each by one call.
@@ -63,39 +67,39 @@ impl Drop for BgpPath {
             med: _,
             local_preference: _,
             weight: _,
-            origin: _,
-            as_path: _,
-            communities: _,
-            source: _,
-            sender: _,
             sender_id: _,
             neighbor: _,
             igp_metric: _,
+            origin: _,
+            source: _,
+            sender: _,
+            communities: _,
+            as_path: _,
         } = self;
     }
 }
 
 impl BgpPath {
-    /// The path again, in memory of its own.
+    /// The path again. It shares the AS path, and has communities of its own.
     pub fn copy(&self, alloc: Global) -> Result<BgpPath, AllocError>
         ensures { IfOk result (λ copied. copied ≡ self.now) }
     {
-        let as_path = self.as_path.copy(alloc)?;
         let communities = self.communities.copy(alloc)?;
+        let as_path = self.as_path.share()?;
         Ok(BgpPath {
             prefix: self.prefix,
             next_hop: self.next_hop,
             med: self.med,
             local_preference: self.local_preference,
             weight: self.weight,
-            origin: self.origin,
-            as_path,
-            communities,
-            source: self.source,
-            sender: self.sender,
             sender_id: self.sender_id,
             neighbor: self.neighbor,
             igp_metric: self.igp_metric,
+            origin: self.origin,
+            source: self.source,
+            sender: self.sender,
+            communities,
+            as_path,
         })
     }
 }

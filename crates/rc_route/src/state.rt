@@ -30,7 +30,7 @@ pub fn equal(a: &State, b: &State) -> bool
     a == b
 }
 
-/// What a router knows, again, in memory of its own: routes with their hops, and paths with their lists.
+/// What a router knows, again: routes and paths in memory of their own, but for AS paths, which both share.
 pub fn copy(alloc: Global, state: &RouterState) -> Result<RouterState, AllocError>
     ensures { IfOk result (λ copied. copied ≡ state.now) }
 {

@@ -6,7 +6,7 @@ mod BuildLaws
 mod IntervalLaws
 mod LeadLaws
 mod LineLaws
-mod LongestLaws
+pub mod LongestLaws
 mod MarkLaws
 mod NumberLaws
 mod StepLaws

@@ -145,7 +145,6 @@ ip inspect
 bridge
 no ip routing
 no ip classless
-router bgp
 ";
 
 /// Lines of an interface that are passed over.

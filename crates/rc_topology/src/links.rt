@@ -55,6 +55,17 @@ impl Links {
         Ok(Links { ports, indexes })
     }
 
+    /// What is kept of the interfaces of a router, as declared; none where the network has no such router.
+    pub fn ports(&self, router: RouterId) -> &[Port]
+        ensures { result.now ≡ spec.ports_at self.now router }
+    {
+        let ports = self.ports.as_slice().get(router.index());
+        match ports {
+            Some(ports) => ports.as_slice(),
+            None => &[],
+        }
+    }
+
     /// What is kept of an interface, or `None` exactly where the network has none of this index.
     fn port(&self, interface: IfId) -> Option<&Port>
         ensures { option_copied result ≡ spec.port_at self.now interface }

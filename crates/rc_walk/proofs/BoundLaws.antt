@@ -113,7 +113,7 @@ module _ (plane : DataPlane) (h : Header) where
     lead_in : All Leads (moves plane h q)
     lead_in = all-cond Leads (is_let_in plane.network h q) (moves_inside plane h q) (End DeniedIn ∷ []) inside (one plane.links DeniedIn)
 
-  steps_enter : (q : Pos) (ts : List Pos) → AreMoves plane h q ts → All (Contains (entries plane.links)) ts
+  pub steps_enter : (q : Pos) (ts : List Pos) → AreMoves plane h q ts → All (Contains (entries plane.links)) ts
   steps_enter q [] m = All-nil (Contains (entries plane.links))
   steps_enter q (t ∷ ts) m =
       All-cons (Contains (entries plane.links)) t ts (All-contains (LeadsIn plane.links) (moves plane h q) (Next t) (lead_in q) m.0) (steps_enter t ts m.1)

@@ -4,3 +4,7 @@ pub mod BoundLaws
 pub mod FirstLaws
 pub mod PlaneLaws
 pub mod NetworkLaws
+pub mod SearchLaws
+pub mod ChoiceLaws
+pub mod SearchState
+pub mod ShortestLaws

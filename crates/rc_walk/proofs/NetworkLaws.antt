@@ -53,14 +53,14 @@ module _ (net : Network) where
   length-range (suc n) a = ap suc (length-range n (a + 1))
 
   -- positions are routers and interfaces
-  length-positions : length (positions net) ≡ length net.routers + length (all_ids (links_of net))
+  pub length-positions : length (positions net) ≡ length net.routers + length (all_ids (links_of net))
   length-positions =
       let ids : length (flat_map (ids_of (links_of net)) (router_ids net)) ≡ length (all_ids (links_of net)) = ap (λ n. length (flat_map (ids_of (links_of net)) (range_with_len 0 n))) (sym length-links_of) in
       let count = counted (router_ids net) in
       let routers = length-range (length net.routers) 0 in
       omega (arith, ids, count, routers)
 
-  some_router : (q : Pos) → IsPosition net q → 1 ≤ length net.routers
+  pub some_router : (q : Pos) → IsPosition net q → 1 ≤ length net.routers
   some_router (Own r) there = omega arith
   some_router (Entering i) there = let router = there.0 in omega arith
 

@@ -5,3 +5,7 @@ pub mod Examples
 pub mod MoveRows
 pub mod WalkRows
 pub mod AccessListRows
+pub mod ShortestWalks
+pub mod Search
+pub mod Searching
+pub mod ShortestRows

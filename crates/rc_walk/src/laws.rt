@@ -1,7 +1,8 @@
 //! What holds of every walk.
-ghost use Rattle.std.specs.Prelude.{◌≡◌, ◌≤◌, List, length};
+ghost use Rattle.std.specs.Prelude.{◌≡◌, ◌≤◌, List, MatchOption, length};
 ghost use Rattle.std.specs.Bool.{Decides};
 ghost use Rattle.rc_base.specs.Positions.{same_position};
+ghost use Rattle.rc_base.specs.declared.ending.Ends.{Ends};
 ghost use Rattle.rc_base.specs.declared.header.Header.{Header};
 ghost use Rattle.rc_base.specs.declared.position.Pos.{Pos};
 ghost use Rattle.rc_config.specs.declared.network.Network.{Network};
@@ -10,6 +11,7 @@ ghost use Rattle.rc_config.specs.Members.{positions};
 ghost use Rattle.rc_route.specs.declared.state.RouterState.{RouterState};
 ghost use Rattle.rc_walk.specs.declared.walk.Walk.{Walk};
 ghost use Rattle.rc_walk.specs.Moves.{DataPlane, plane_of};
+ghost use Rattle.rc_walk.specs.ShortestWalks.{IsShortestWalk, NoWalkEnds, shortest_walk};
 ghost use Rattle.rc_walk.specs.Walks.{IsWalk, IsFirstWalk, first_walk};
 
 /// A packet has one first walk from a position.
@@ -36,4 +38,19 @@ pub fn walks_are_short()
 /// The test of two positions decides whether they are equal.
 pub fn positions_are_told_apart()
     ensures { (p q : Pos) → Decides (same_position p q) (p ≡ q) }
+{}
+
+/// A packet has one shortest walk from a position to an ending that is asked for.
+pub fn one_shortest_walk()
+    ensures { (plane : DataPlane) (h : Header) (ends : Ends) (q : Pos) (w v : Walk) → IsShortestWalk plane h ends q w → IsShortestWalk plane h ends q v → w ≡ v }
+{}
+
+/// The shortest walk is a walk, and its ending is asked for.
+pub fn shortest_walk_is_a_walk()
+    ensures { (plane : DataPlane) (h : Header) (ends : Ends) (q : Pos) (w : Walk) → IsShortestWalk plane h ends q w → IsWalk plane h q w }
+{}
+
+/// From each position there is a shortest walk, or none has such an ending, and it can be computed.
+pub fn there_is_a_shortest_walk()
+    ensures { (plane : DataPlane) (h : Header) (ends : Ends) (q : Pos) → MatchOption (shortest_walk plane h ends q) (NoWalkEnds plane h ends q) (IsShortestWalk plane h ends q) }
 {}

@@ -1,21 +1,25 @@
 //! The moves of a packet at a position, and the walks that they make.
 //!
 //! It stands on the links of rc_topology, the hops of rc_fib and the access groups of rc_filter. The layer above knows the
-//! moves of a header at a position as a list, and a packet's first walk as the one that takes the first move each time.
+//! moves of a header at a position as a list, a packet's first walk as the one that takes the first move each time, and its
+//! shortest walk to an ending as the one whose choices among the moves are the fewest and the first.
 #![tactic(auto)]
 
 mod begun;
+mod finding;
 mod laws;
 mod plane;
+mod search;
 mod sending;
 mod steps;
 mod walk;
 mod walked;
 mod walking;
 
+pub use finding::shortest;
 pub use laws::{
-    first_walk_is_a_walk, one_first_walk, positions_are_told_apart, there_is_a_first_walk,
-    walks_are_short,
+    first_walk_is_a_walk, one_first_walk, one_shortest_walk, positions_are_told_apart,
+    shortest_walk_is_a_walk, there_is_a_first_walk, there_is_a_shortest_walk, walks_are_short,
 };
 pub use plane::Plane;
 pub use steps::{Steps, step};

@@ -1,5 +1,5 @@
-//! The positions of a walk so far.
-ghost use Rattle.std.specs.Prelude.{◌≡◌, ◌∷◌, ◌++◌, [], not, if◌then◌else◌, IfOk};
+//! The positions of a walk so far, or of a search.
+ghost use Rattle.std.specs.Prelude.{◌≡◌, ◌<◌, ◌∷◌, ◌++◌, [], length, not, slice_get, Some, if◌then◌else◌, IfOk};
 ghost use Rattle.rc_walk.specs.Walks.{stands_in};
 
 use crate::{Stop, Walk};
@@ -8,9 +8,9 @@ use rc_base::{Items, Pos};
 use std::alloc::{AllocError, Global};
 use std::marker::Model;
 
-/// The positions of a walk so far, each once, seen as their list.
+/// The positions of a walk so far, or those that a search has found, each once, seen as their list.
 ///
-/// A walk may come to every interface of the network: a set tells a repeat without a scan of those before.
+/// They may be every interface of the network: a set tells a repeat without a scan of those before.
 pub(crate) struct Walked {
     positions: IndexSet<Pos>,
 }
@@ -49,6 +49,21 @@ impl Walked {
     {
         let added = self.positions.insert(*position)?;
         Ok(added)
+    }
+
+    /// How many positions there are.
+    pub fn len(&self) -> usize
+        ensures { result ≡ length self.now }
+    {
+        self.positions.len()
+    }
+
+    /// The position at a place, counted from 0.
+    pub fn at(&self, place: usize) -> Pos
+        requires { place < length self.now }
+        ensures { slice_get self.now place ≡ Some result }
+    {
+        self.positions.as_slice()[place]
     }
 
     /// The walk of these positions.

@@ -1,11 +1,10 @@
-use Rattle.rc_network.specs.Undefined.{named_by, undefined_line, undefined_lines}
-use Rattle.rc_network.proofs.LeastLaws.{least-is, left-map}
+use Rattle.std.specs.Option.{option_map_or}
+use Rattle.std.proofs.Common.{[]}
+use Rattle.rc_network.specs.Undefined.{named_by_maps, named_by_process}
+use Rattle.rc_network.proofs.LeastLaws.{both_parts}
 use Rattle.rc_network.proofs.undefined.undefined_line.Goals as goal
 
-pub loop-index-init : goal.loop-index-init
-loop-index-init c = least-is (undefined_lines c.args.file.now.lists (named_by c.args.file.now))
-
-pub loop-index-preserved : goal.loop-index-preserved
-loop-index-preserved c =
-    left-map c.args.file.now.lists c.loop-index.least c.least_at-least.result (undefined_line c.args.file.now) c.args.file.now.route_maps c.loop-index.index
-    c.least_at-least.ensures c.loop-index.invariant
+pub returns : goal.returns
+returns c =
+    both_parts c.args.file.now (named_by_maps c.args.file.now.route_maps) (option_map_or named_by_process c.args.file.now.ospf []) c.least_of_maps-known.result c.least_of_process.result
+    c.least_of_maps-known.ensures c.least_of_process.ensures

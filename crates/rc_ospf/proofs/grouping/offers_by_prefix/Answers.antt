@@ -1,6 +1,7 @@
 use Rattle.std.proofs.Common.{◌≡◌, ◌∙◌, ap, map}
 use Rattle.std.proofs.lemmas.Result.{IfOk-weaker}
-use Rattle.rc_ospf.specs.ByPrefix.{row_of, offered_rows}
+use Rattle.rc_ospf.specs.ByPrefix.{row_of}
+use Rattle.rc_ospf.specs.Routes.{offered_rows}
 use Rattle.rc_ospf.proofs.RowLaws.{rows_are}
 use Rattle.rc_ospf.proofs.grouping.offers_by_prefix.Goals as goal
 

@@ -8,7 +8,7 @@ use Rattle.rc_rib.proofs.next.table.Goals as goal
 pub returns-in-Some-known-clause-next : goal.returns-in-Some-known-clause-next
 returns-in-Some-known-clause-next c =
     let net = c.args.inputs.now.network.now in
-    let internal = c.args.inputs.now.internal.now.routes in
+    let internal = c.args.inputs.now.internal.now in
     let state = c.args.inputs.now.previous.now in
     let is = subst (λ o. IfSome o (λ old. state ≡ next_state net internal old.now)) c.in-Some.is c.requires.earlier in
     let same = again net internal c.args.router c.requires.router state c.in-Some.earlier.now c.in-Some-known.known.now is c.in-Some-known.ensures in

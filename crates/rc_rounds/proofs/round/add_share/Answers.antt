@@ -6,14 +6,14 @@ use Rattle.rc_rounds.proofs.round.add_share.Goals as goal
 
 pub loop-index-init : goal.loop-index-init
 loop-index-init c = record {
-  value = sym (ap (λ more. c.args.state.now ++ more) (rows-none c.args.inputs.now.network.now c.args.inputs.now.internal.now.routes c.args.inputs.now.previous.now c.args.from (c.args.from - c.args.from) (omega arith)) ∙ append-nil c.args.state.now);
+  value = sym (ap (λ more. c.args.state.now ++ more) (rows-none c.args.inputs.now.network.now c.args.inputs.now.internal.now c.args.inputs.now.previous.now c.args.from (c.args.from - c.args.from) (omega arith)) ∙ append-nil c.args.state.now);
   in_order = λ all. all;
 }
 
 pub loop-index-preserved : goal.loop-index-preserved
 loop-index-preserved c =
     let net = c.args.inputs.now.network.now in
-    let internal = c.args.inputs.now.internal.now.routes in
+    let internal = c.args.inputs.now.internal.now in
     let old = c.args.inputs.now.previous.now in
     let from = c.args.from in
     let index = c.loop-index.index in

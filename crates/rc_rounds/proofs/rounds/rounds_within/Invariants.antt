@@ -5,5 +5,5 @@ use Rattle.rc_rounds.proofs.rounds.rounds_within.Given as goal
 abbrev pub invariant-loop-done : goal.invariant-loop-done
 invariant-loop-done g l = record {
   at : l.progress.done ≡ l.done;
-  made : IsProgress l.net l.internal.routes l.progress;
+  made : IsProgress l.net l.internal l.progress;
 }

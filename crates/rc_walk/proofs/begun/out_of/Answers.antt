@@ -1,4 +1,4 @@
-use Rattle.std.proofs.Common.{◌≡◌, ap, sym, ◌∙◌, subst, ℕ, false, cond, List, [], ◌∷◌, Option, None}
+use Rattle.std.proofs.Common.{◌≡◌, ap, sym, ◌∙◌, subst, ℕ, false, cond, [], ◌∷◌, Option, None}
 use Rattle.rc_base.specs.declared.ending.Kind.TheVariants.{Unreachable}
 use Rattle.rc_base.specs.declared.header.Header.{Header}
 use Rattle.rc_base.specs.declared.position.IfId.{IfId}

@@ -1,4 +1,4 @@
-use Rattle.rc_config.proofs.LawfulLaws.{put-lawful, put-routes, put-lists, put-ospf}
+use Rattle.rc_config.proofs.LawfulLaws.{put-lawful, put-routes, put-lists, put-ospf, put-bgp}
 use Rattle.rc_config.proofs.router_text.RouterText.apply.Goals as goal
 
 pub returns-clause-lawful : goal.returns-clause-lawful
@@ -12,3 +12,6 @@ returns-clause-lists c = put-lists _ c.args.self.now c.put_into.new.self c.args.
 
 pub returns-clause-ospf : goal.returns-clause-ospf
 returns-clause-ospf c = put-ospf _ c.args.self.now c.put_into.new.self c.args.command c.put_into.ensures
+
+pub returns-clause-bgp : goal.returns-clause-bgp
+returns-clause-bgp c = put-bgp _ c.args.self.now c.put_into.new.self c.args.command c.put_into.ensures

@@ -11,4 +11,5 @@ returns-in-Ok-clause-fit c =
       routes = c.in-Ok.ensures.routes was.routes c.requires.in_range;
       lists = c.in-Ok.ensures.lists was.lists c.requires.in_range c.requires.fits;
       ospf = c.in-Ok.ensures.ospf was.ospf c.requires.in_range;
+      bgp = c.in-Ok.ensures.bgp was.bgp c.requires.in_range;
     }

@@ -6,7 +6,7 @@ use Rattle.rc_rounds.proofs.progress.Progress.inputs.Goals.{then-self-eq0, else-
 
 pub returns-clause-earlier : goal.returns-clause-earlier
 returns-clause-earlier c = elim c.if-self-eq0.branch [
-  | then-self-eq0 w ↦ subst (λ o. IfSome o (λ old. c.args.self.now.last ≡ next_state c.args.net.now c.args.internal.now.routes old.now)) (sym w.result-is) tt
+  | then-self-eq0 w ↦ subst (λ o. IfSome o (λ old. c.args.self.now.last ≡ next_state c.args.net.now c.args.internal.now old.now)) (sym w.result-is) tt
   | else-self-eq0 w ↦
-      subst (λ o. IfSome o (λ old. c.args.self.now.last ≡ next_state c.args.net.now c.args.internal.now.routes old.now)) (sym w.result-is) (last_is_next c.args.net.now c.args.internal.now.routes c.args.self.now c.requires (omega (arith, w.if-self-eq0.false)))
+      subst (λ o. IfSome o (λ old. c.args.self.now.last ≡ next_state c.args.net.now c.args.internal.now old.now)) (sym w.result-is) (last_is_next c.args.net.now c.args.internal.now c.args.self.now c.requires (omega (arith, w.if-self-eq0.false)))
 ]

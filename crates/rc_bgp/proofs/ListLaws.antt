@@ -1,0 +1,18 @@
+-- One element more of a loop that keeps what a function makes.
+use Rattle.std.proofs.Common.{refl, ◌≡◌, ap, sym, ◌∙◌, ℕ, suc, ◌+◌, ◌<◌, List, [], ◌∷◌, ◌++◌, length, get_or, drop, drop-cons, add-one, append_assoc, Option, Some, None}
+use Rattle.std.specs.List.{cons_option, filter_map}
+use Rattle.std.specs.Option.{option_to_list}
+
+first_left : {X : Type 0} (xs : List X) (i : ℕ) (x : X) → i < length xs → x ≡ get_or xs i x → drop i xs ≡ x ∷ drop (i + 1) xs
+first_left xs i x lt is = drop-cons xs i x lt ∙ ap (λ y. y ∷ drop (suc i) xs) (sym is) ∙ ap (λ k. x ∷ drop k xs) (sym (add-one i))
+
+in_front : {P : Type 0} (o : Option P) (rest : List P) → option_to_list o ++ rest ≡ cons_option o rest
+in_front None rest = refl
+in_front (Some y) rest = refl
+
+pub one_made : {S P : Type 0} (f : S → Option P) (xs : List S) (i : ℕ) (x : S) (all all' done : List P) (o : Option P) → i < length xs → x ≡ get_or xs i x → o ≡ f x → all' ≡ all ++ option_to_list o
+    → all ++ filter_map f (drop i xs) ≡ done → all' ++ filter_map f (drop (i + 1) xs) ≡ done
+one_made f xs i x all all' done o lt is made pushed kept =
+    ap (λ t. t ++ filter_map f (drop (i + 1) xs)) pushed ∙ append_assoc all (option_to_list o) (filter_map f (drop (i + 1) xs))
+    ∙ ap (λ t. all ++ t) (in_front o (filter_map f (drop (i + 1) xs)) ∙ ap (λ q. cons_option q (filter_map f (drop (i + 1) xs))) made ∙ ap (filter_map f) (sym (first_left xs i x lt is)))
+    ∙ kept

@@ -1,0 +1,152 @@
+-- Worked cases of origination, candidates and best paths, each by computation.
+use Rattle.std.specs.Prelude.{◌≡◌, ℕ, ◌+◌, ◌*◌, true, false, List, [], ◌∷◌, Option, Some, None, codes, refl}
+use Rattle.rc_base.specs.Prefix.{Cidr, prefix_at}
+use Rattle.rc_config.specs.IfType.{type_of}
+use Rattle.rc_config.specs.declared.bgp.BgpProcess.{BgpProcess}
+use Rattle.rc_config.specs.declared.bgp.Neighbor.{Neighbor}
+use Rattle.rc_config.specs.declared.network.Network.{Network}
+use Rattle.rc_config.specs.declared.router_text.RouterText.{RouterText}
+use Rattle.rc_fib.specs.Forwarding.{hops_within}
+use Rattle.rc_route.specs.declared.path.BgpPath.{BgpPath}
+use Rattle.rc_route.specs.declared.path.PathSource.TheVariants.{Network as ByNetwork, External, Internal}
+use Rattle.rc_route.specs.declared.route.Hop.TheVariants.{Null, Via}
+use Rattle.rc_route.specs.declared.route.Route.{Route}
+use Rattle.rc_route.specs.declared.route.Source.TheVariants.{Ebgp, Ospf}
+use Rattle.rc_route.specs.declared.state.RouterState.{RouterState}
+use Rattle.rc_bgp.specs.Candidates.{best_paths, candidates}
+use Rattle.rc_bgp.specs.Nets.{ip, subnet, gigabit, gigabit_1, on, peer, process, router, two, three, external, internal, connected, static, knows, ninth}
+use Rattle.rc_bgp.specs.Originating.{by_networks}
+use Rattle.rc_bgp.specs.declared.session.Session.{Session}
+
+-- ---- `network 10.0.9.0 mask 255.255.255.0`
+
+abbrev from : List Route → List BgpPath
+from table = by_networks 3 table (subnet 9 ∷ [])
+
+pub of_a_connected_route : from (connected 3 (subnet 9) 1 ∷ []) ≡ ninth 3 ByNetwork ∷ []
+of_a_connected_route = refl
+
+-- the MED is the route's metric
+pub of_an_ospf_route : from (record (connected 3 (subnet 9) 1) { source = Ospf; distance = 110; metric = 12 } ∷ []) ≡ record (ninth 3 ByNetwork) { med = 12 } ∷ []
+of_an_ospf_route = refl
+
+pub of_no_route : from (connected 3 (subnet 8) 1 ∷ []) ≡ []
+of_no_route = refl
+
+-- a shorter prefix that holds it is not that prefix
+pub of_a_shorter_prefix : from (connected 3 (prefix_at (ip 9 0) 16) 1 ∷ []) ≡ []
+of_a_shorter_prefix = refl
+
+pub of_a_bgp_route : from (record (static (subnet 9) (ip 12 1)) { source = Ebgp; distance = 20 } ∷ []) ≡ []
+of_a_bgp_route = refl
+
+-- two lines of one prefix make one path, and paths stand in order
+pub twice_and_in_order : by_networks 3 (connected 3 (subnet 8) 0 ∷ connected 3 (subnet 9) 1 ∷ []) (subnet 9 ∷ subnet 8 ∷ subnet 9 ∷ []) ≡ record (ninth 3 ByNetwork) { prefix = subnet 8 } ∷ ninth 3 ByNetwork ∷ []
+twice_and_in_order = refl
+
+-- ---- R1 of AS 65001 has 10.0.9.0/24 and a session with R2 of AS 65002 on 10.0.12.0/24
+
+abbrev r1 : Neighbor → RouterText
+r1 n = router ((gigabit, on 12 1 24) ∷ (gigabit_1, on 9 1 24) ∷ []) (record (process 65001 (n ∷ [])) { networks = subnet 9 ∷ [] })
+
+abbrev r2 : RouterText
+r2 = router ((gigabit, on 12 2 24) ∷ []) (process 65002 (peer (ip 12 1) 65001 ∷ []))
+
+abbrev pair : Neighbor → Network
+pair n = two (r1 n) r2
+
+abbrev plain : Network
+plain = pair (peer (ip 12 2) 65002)
+
+abbrev one_session : List (List Session)
+one_session = (external 1 (ip 12 2) 0 (ip 12 1) ∷ []) ∷ (external 0 (ip 12 1) 1 (ip 12 2) ∷ []) ∷ []
+
+-- what R1 knows, and R2 with this table
+abbrev state : List Route → List RouterState
+state table = knows (connected 0 (subnet 9) 1 ∷ connected 0 (subnet 12) 0 ∷ []) (ninth 0 ByNetwork ∷ []) ∷ knows table [] ∷ []
+
+abbrev heard_by_r2 : BgpPath
+heard_by_r2 = record (ninth 0 External) { next_hop = ip 12 1; weight = 0; as_path = 65001 ∷ []; sender_id = ip 12 1; neighbor = ip 12 1 }
+
+pub r2_hears_r1 : best_paths plain one_session (state (connected 1 (subnet 12) 0 ∷ [])) 1 ≡ heard_by_r2 ∷ []
+unfolding best_paths hops_within
+r2_hears_r1 = refl
+
+pub r1_keeps_its_own : best_paths plain one_session (state (connected 1 (subnet 12) 0 ∷ [])) 0 ≡ ninth 0 ByNetwork ∷ []
+unfolding best_paths hops_within
+r1_keeps_its_own = refl
+
+-- nothing is heard over a session that isn't there
+pub no_session : best_paths plain ([] ∷ [] ∷ []) (state (connected 1 (subnet 12) 0 ∷ [])) 1 ≡ []
+unfolding best_paths hops_within
+no_session = refl
+
+-- a next hop that doesn't resolve, one that is null-routed, and one that only a default route holds
+pub no_next_hop : best_paths plain one_session (state []) 1 ≡ []
+unfolding best_paths hops_within
+no_next_hop = refl
+
+pub null_next_hop : best_paths plain one_session (state (record (static (subnet 12) 0) { hops = Null ∷ [] } ∷ [])) 1 ≡ []
+unfolding best_paths hops_within
+null_next_hop = refl
+
+pub next_hop_by_default : best_paths plain one_session (state (record (static (prefix_at 0 0) (ip 23 3)) { metric = 6 } ∷ connected 1 (subnet 23) 0 ∷ [])) 1 ≡ record heard_by_r2 { igp_metric = 6 } ∷ []
+unfolding best_paths hops_within
+next_hop_by_default = refl
+
+-- `default-originate` sends the default route beside the others, and in place of a best path for it
+abbrev default_of_r1 : BgpPath
+default_of_r1 = record heard_by_r2 { prefix = prefix_at 0 0 }
+
+pub default_originate : best_paths (pair (record (peer (ip 12 2) 65002) { default_originate = true })) one_session (state (connected 1 (subnet 12) 0 ∷ [])) 1 ≡ default_of_r1 ∷ heard_by_r2 ∷ []
+unfolding best_paths hops_within
+default_originate = refl
+
+pub default_in_place : best_paths (pair (record (peer (ip 12 2) 65002) { default_originate = true })) one_session
+    (knows [] (record (ninth 0 External) { prefix = prefix_at 0 0; med = 70; as_path = 65003 ∷ [] } ∷ []) ∷ knows (connected 1 (subnet 12) 0 ∷ []) [] ∷ []) 1 ≡ default_of_r1 ∷ []
+unfolding best_paths hops_within
+default_in_place = refl
+
+-- ---- R1, R2 and R3 of one AS in a chain: R3 doesn't hear of 10.0.9.0/24, though its next hop resolves there
+
+abbrev chain : Network
+chain = three
+    (router ((gigabit, on 12 1 24) ∷ (gigabit_1, on 9 1 24) ∷ []) (record (process 65000 (peer (ip 12 2) 65000 ∷ [])) { networks = subnet 9 ∷ [] }))
+    (router ((gigabit, on 12 2 24) ∷ (gigabit_1, on 23 2 24) ∷ []) (process 65000 (peer (ip 12 1) 65000 ∷ peer (ip 23 3) 65000 ∷ [])))
+    (router ((gigabit, on 23 3 24) ∷ []) (process 65000 (peer (ip 23 2) 65000 ∷ [])))
+
+abbrev chain_sessions : List (List Session)
+chain_sessions = (internal 1 (ip 12 2) 0 (ip 12 1) ∷ []) ∷ (internal 0 (ip 12 1) 1 (ip 12 2) ∷ internal 2 (ip 23 3) 1 (ip 23 2) ∷ []) ∷ (internal 1 (ip 23 2) 2 (ip 23 3) ∷ []) ∷ []
+
+abbrev heard_inside : BgpPath
+heard_inside = record (ninth 0 Internal) { next_hop = ip 12 1; weight = 0; sender_id = ip 12 1; neighbor = ip 12 1 }
+
+abbrev chain_state : List BgpPath → List RouterState
+chain_state second =
+    knows (connected 0 (subnet 9) 1 ∷ connected 0 (subnet 12) 0 ∷ []) (ninth 0 ByNetwork ∷ [])
+    ∷ knows (connected 1 (subnet 12) 0 ∷ connected 1 (subnet 23) 1 ∷ []) second
+    ∷ knows (static (subnet 12) (ip 23 2) ∷ connected 2 (subnet 23) 0 ∷ []) [] ∷ []
+
+pub second_hears : best_paths chain chain_sessions (chain_state []) 1 ≡ heard_inside ∷ []
+unfolding best_paths hops_within
+second_hears = refl
+
+pub third_does_not : best_paths chain chain_sessions (chain_state (heard_inside ∷ [])) 2 ≡ []
+unfolding best_paths hops_within
+third_does_not = refl
+
+-- ---- candidates stand by prefix: what the router originates first, then by sender
+
+abbrev crowded : List RouterState
+crowded = knows (connected 0 (subnet 12) 0 ∷ []) (ninth 0 ByNetwork ∷ []) ∷ knows (connected 1 (subnet 9) 1 ∷ connected 1 (subnet 12) 0 ∷ connected 1 (subnet 23) 1 ∷ []) [] ∷ knows [] (ninth 2 ByNetwork ∷ []) ∷ []
+
+abbrev crowded_net : Network
+crowded_net = three
+    (router ((gigabit, on 12 1 24) ∷ []) (process 65001 (peer (ip 12 2) 65002 ∷ [])))
+    (router ((gigabit, on 12 2 24) ∷ (gigabit_1, on 23 2 24) ∷ []) (record (process 65002 (peer (ip 12 1) 65001 ∷ peer (ip 23 3) 65003 ∷ [])) { networks = subnet 9 ∷ [] }))
+    (router ((gigabit, on 23 3 24) ∷ []) (process 65003 (peer (ip 23 2) 65002 ∷ [])))
+
+pub all_for_one_prefix : candidates crowded_net ([] ∷ (external 0 (ip 12 1) 1 (ip 12 2) ∷ external 2 (ip 23 3) 1 (ip 23 2) ∷ []) ∷ [] ∷ []) crowded 1
+    ≡ ninth 1 ByNetwork ∷ heard_by_r2 ∷ record (ninth 2 External) { next_hop = ip 23 3; weight = 0; as_path = 65003 ∷ []; sender_id = ip 23 3; neighbor = ip 23 3 } ∷ []
+unfolding candidates hops_within
+all_for_one_prefix = refl

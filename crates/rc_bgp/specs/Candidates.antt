@@ -1,0 +1,77 @@
+-- The candidates of a router for each prefix, and the best of them (RFC 4271 s.9.1).
+use Rattle.std.specs.Prelude.{ℕ, Bool, if◌then◌else◌, List, [], ◌∷◌, ◌++◌, map, Option, Some, None, option_and_then}
+use Rattle.std.specs.List.{filter_map, flat_map}
+use Rattle.std.specs.Option.{option_map, option_or, option_to_list}
+use Rattle.rc_base.specs.Lists.{in_order}
+use Rattle.rc_base.specs.Prefix.{Cidr, prefix_cmp, same_prefix}
+use Rattle.rc_bgp_decide.specs.Decision.{best_path}
+use Rattle.rc_config.specs.declared.network.Network.{Network}
+use Rattle.rc_route.specs.declared.path.BgpPath.{BgpPath}
+use Rattle.rc_route.specs.declared.route.Route.{Route}
+use Rattle.rc_route.specs.declared.state.RouterState.{RouterState}
+use Rattle.rc_bgp.specs.Known.{path_at, paths_of, table_of}
+use Rattle.rc_bgp.specs.Originating.{own_paths}
+use Rattle.rc_bgp.specs.Passing.{default_prefix, export, import, originated_default}
+use Rattle.rc_bgp.specs.Reaching.{metric_to}
+use Rattle.rc_bgp.specs.Sessions.{up_sessions}
+use Rattle.rc_bgp.specs.declared.session.Session.{Session}
+
+-- the prefixes of paths, and those of a session's sender's best paths
+abbrev pub prefixes_of : List BgpPath → List Cidr
+prefixes_of paths = map (λ (x : BgpPath). x.prefix) paths
+
+abbrev pub sender_prefixes : List RouterState → Session → List Cidr
+sender_prefixes old s = prefixes_of (paths_of old s.sender)
+
+-- the prefixes that may have candidates, by address, then length
+abbrev pub prefixes_seen : List RouterState → List BgpPath → List Session → List Cidr
+prefixes_seen old own sessions = in_order prefix_cmp (default_prefix ∷ (prefixes_of own ++ flat_map (sender_prefixes old) sessions))
+
+-- a path is a candidate where its next hop resolves (RFC 4271 s.9.1.2), with the metric of the route to it
+abbrev pub reachable : List Route → BgpPath → Option BgpPath
+reachable table x = option_map (λ metric. record x { igp_metric = metric }) (metric_to table x.next_hop)
+
+module _ (net : Network) (old : List RouterState) where
+  -- what the sender's best path of a prefix becomes on a session
+  abbrev pub advertised_best : Session → Cidr → Option BgpPath
+  advertised_best s p = option_and_then (export net s) (path_at (paths_of old s.sender) p)
+
+  -- the default path of `default-originate` stands in place of any other for 0.0.0.0/0
+  abbrev pub advertised_default : Session → Cidr → Option BgpPath
+  advertised_default s p = option_or (originated_default net s) (advertised_best s p)
+
+  -- what is advertised for a prefix
+  abbrev pub advertised : Session → Cidr → Option BgpPath
+  advertised s p = if same_prefix p default_prefix then advertised_default s p else advertised_best s p
+
+  -- what a router with this table hears over a session for a prefix
+  abbrev pub heard : List Route → Session → Cidr → Option BgpPath
+  heard table s p = option_and_then (reachable table) (option_and_then (import net s) (advertised s p))
+
+  -- the candidates for a prefix: what the router originates, then what it hears over each session
+  abbrev pub candidates_at : List Route → List BgpPath → List Session → Cidr → List BgpPath
+  candidates_at table own sessions p = option_to_list (path_at own p) ++ filter_map (λ s. heard table s p) sessions
+
+  -- all candidates, by prefix, then sender, then the sender's address; what the router originates stands first
+  abbrev pub all_candidates : List Route → List BgpPath → List Session → List BgpPath
+  all_candidates table own sessions = flat_map (candidates_at table own sessions) (prefixes_seen old own sessions)
+
+  -- the best path for a prefix
+  abbrev pub best_among : List Route → List BgpPath → List Session → Cidr → Option BgpPath
+  best_among table own sessions p = best_path (candidates_at table own sessions p)
+
+  -- the best path of each prefix that has one, by address, then length
+  abbrev pub all_best : List Route → List BgpPath → List Session → List BgpPath
+  all_best table own sessions = filter_map (best_among table own sessions) (prefixes_seen old own sessions)
+
+-- the candidates of a router in a state, from the sessions of the network
+unfoldable pub candidates : Network → List (List Session) → List RouterState → ℕ → List BgpPath
+candidates net sessions old r = all_candidates net old (table_of old r) (own_paths net old r) (up_sessions sessions old r)
+
+-- the best path of a router for a prefix, after the state
+abbrev pub best_at : Network → List (List Session) → List RouterState → ℕ → Cidr → Option BgpPath
+best_at net sessions old r p = best_among net old (table_of old r) (own_paths net old r) (up_sessions sessions old r) p
+
+-- the best paths of a router after the state
+unfoldable pub best_paths : Network → List (List Session) → List RouterState → ℕ → List BgpPath
+best_paths net sessions old r = all_best net old (table_of old r) (own_paths net old r) (up_sessions sessions old r)

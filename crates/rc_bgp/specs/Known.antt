@@ -1,0 +1,28 @@
+-- What a router knows in a state, found by prefix.
+use Rattle.std.specs.Prelude.{ℕ, Bool, List, [], Option, slice_get}
+use Rattle.std.specs.List.{find}
+use Rattle.std.specs.Option.{option_map_or}
+use Rattle.std.specs.Ordering.{is_lt}
+use Rattle.rc_base.specs.Prefix.{Cidr, prefix_cmp, same_prefix}
+use Rattle.rc_route.specs.declared.path.BgpPath.{BgpPath}
+use Rattle.rc_route.specs.declared.route.Route.{Route}
+use Rattle.rc_route.specs.declared.state.RouterState.{RouterState}
+
+-- the table of a router in a state, and its best paths; none where there is no such router
+abbrev pub table_of : List RouterState → ℕ → List Route
+table_of state r = option_map_or (λ (s : RouterState). s.table) (slice_get state r) []
+
+abbrev pub paths_of : List RouterState → ℕ → List BgpPath
+paths_of state r = option_map_or (λ (s : RouterState). s.paths) (slice_get state r) []
+
+-- the route of just this prefix
+abbrev pub route_at : List Route → Cidr → Option Route
+route_at table p = find (λ (x : Route). same_prefix p x.prefix) table
+
+-- the path of just this prefix
+abbrev pub path_at : List BgpPath → Cidr → Option BgpPath
+path_at paths p = find (λ (x : BgpPath). same_prefix p x.prefix) paths
+
+-- it stands before a prefix
+abbrev pub is_before : {A : Type 0} → (A → Cidr) → Cidr → A → Bool
+is_before prefix_of p x = is_lt (prefix_cmp (prefix_of x) p)

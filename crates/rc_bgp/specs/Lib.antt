@@ -1,0 +1,13 @@
+pub mod Known
+pub mod Speakers
+pub mod Sessions
+pub mod Levels
+pub mod Reaching
+pub mod Originating
+pub mod Passing
+pub mod Candidates
+pub mod Learning
+pub mod Nets
+pub mod SessionRows
+pub mod PassingRows
+pub mod CandidateRows

@@ -1,0 +1,65 @@
+-- The paths that a router originates (RFC 4271 s.9.4), from its previous table.
+use Rattle.std.specs.Prelude.{ℕ, Bool, true, false, if◌then◌else◌, List, [], Option, Some, None, option_and_then}
+use Rattle.std.specs.List.{filter_map}
+use Rattle.std.specs.Option.{option_map_or}
+use Rattle.rc_base.specs.Lists.{in_order}
+use Rattle.rc_base.specs.Prefix.{Cidr, prefix_cmp}
+use Rattle.rc_base.specs.declared.origin.Origin.{Origin}
+use Rattle.rc_base.specs.declared.origin.Origin.TheVariants.{Igp}
+use Rattle.rc_config.specs.Members.{router_at}
+use Rattle.rc_config.specs.declared.bgp.BgpProcess.{BgpProcess}
+use Rattle.rc_config.specs.declared.network.Network.{Network}
+use Rattle.rc_config.specs.declared.router_text.RouterText.{RouterText}
+use Rattle.rc_route.specs.declared.path.BgpPath.{BgpPath}
+use Rattle.rc_route.specs.declared.path.PathSource.{PathSource}
+use Rattle.rc_route.specs.declared.path.PathSource.TheVariants.{Network as ByNetwork}
+use Rattle.rc_route.specs.declared.route.Route.{Route}
+use Rattle.rc_route.specs.declared.route.Source.{Source}
+use Rattle.rc_route.specs.declared.route.Source.TheVariants.{Ebgp, Ibgp}
+use Rattle.rc_route.specs.declared.state.RouterState.{RouterState}
+use Rattle.rc_bgp.specs.Known.{route_at, table_of}
+
+-- a path as its router originates it: weight 32768, local preference 100, an empty AS path, no community
+abbrev pub originated : ℕ → PathSource → Origin → ℕ → Cidr → BgpPath
+originated r source origin med p = record {
+  prefix = p;
+  next_hop = 0;
+  med = med;
+  local_preference = 100;
+  weight = 32768;
+  origin = origin;
+  as_path = [];
+  communities = [];
+  source = source;
+  sender = r;
+  sender_id = 0;
+  neighbor = 0;
+  igp_metric = 0;
+}
+
+abbrev pub is_bgp : Source → Bool
+is_bgp Ebgp = true
+is_bgp Ibgp = true
+is_bgp _ = false
+
+abbrev pub from_route : ℕ → Cidr → Route → Option BgpPath
+from_route r p x = if is_bgp x.source then None else Some (originated r ByNetwork Igp x.metric p)
+
+-- a line `network` originates its prefix where the table has just that prefix, and not from BGP; the MED is the route's metric
+abbrev pub by_network : ℕ → List Route → Cidr → Option BgpPath
+by_network r table p = option_and_then (from_route r p) (route_at table p)
+
+abbrev pub paths_for : ℕ → List Route → List Cidr → List BgpPath
+paths_for r table prefixes = filter_map (by_network r table) prefixes
+
+-- those of the lines of a process, in order of prefix, two lines of one prefix counting once
+abbrev pub by_networks : ℕ → List Route → List Cidr → List BgpPath
+by_networks r table networks = paths_for r table (in_order prefix_cmp networks)
+
+-- the prefixes of the lines `network` of a router
+abbrev pub networks_of : Network → ℕ → List Cidr
+networks_of net r = option_map_or (λ (file : RouterText). option_map_or (λ (process : BgpProcess). process.networks) file.bgp []) (router_at net r) []
+
+-- the paths that a router originates, in order of prefix
+abbrev pub own_paths : Network → List RouterState → ℕ → List BgpPath
+own_paths net old r = by_networks r (table_of old r) (networks_of net r)

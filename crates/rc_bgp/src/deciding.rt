@@ -1,0 +1,233 @@
+//! A router's candidates and best paths.
+ghost use Rattle.std.specs.Prelude.{◌≡◌, ◌++◌, All, IfOk, OnOk};
+ghost use Rattle.std.specs.List.{fold, flat_map, filter_map};
+ghost use Rattle.std.specs.Option.{option_to_list};
+ghost use Rattle.std.specs.BTreeSet.{keys, insert_key};
+ghost use Rattle.rc_base.specs.Prefix.{prefix_cmp};
+ghost use Rattle.rc_bgp_decide.specs.Decision.{best_path};
+ghost use Rattle.rc_route.specs.Tables.{IsPathList, IsRouterState};
+ghost use Rattle.rc_bgp.specs.Candidates as spec;
+
+use crate::hearing::candidates_at;
+use crate::known::{at_path, paths_of, table_of};
+use crate::originating::{listed, own_paths};
+use crate::passing::default_prefix;
+use crate::up::up_sessions;
+use crate::{Session, Sessions};
+use rc_base::{Items, Prefix, RouterId};
+use rc_bgp_decide::best;
+use rc_config::Network;
+use rc_route::{BgpPath, Route, State};
+use std::alloc::{AllocError, Global};
+use std::collections::BTreeSet;
+
+/// The best of some paths, again.
+#[tactic(auto, using(rc_bgp_decide::proofs::DecisionLaws::best_path_at_place))]
+fn best_of(alloc: Global, paths: &[BgpPath]) -> Result<Option<BgpPath>, AllocError>
+    ensures { IfOk result (λ path. path ≡ best_path paths.now) }
+{
+    let place = best(paths);
+    match place {
+        None => Ok(None),
+        Some(place) => {
+            let found = at_path(paths, place);
+            match found {
+                None => Ok(None),
+                Some(path) => Ok(Some(path.copy(alloc)?)),
+            }
+        }
+    }
+}
+
+/// The best path for a prefix.
+fn best_among(
+    alloc: Global,
+    net: &Network,
+    state: &State,
+    table: &[Route],
+    own: &[BgpPath],
+    sessions: &[Session],
+    prefix: &Prefix,
+) -> Result<Option<BgpPath>, AllocError>
+    requires state { All IsRouterState state.now }
+    requires own { IsPathList own.now }
+    ensures { IfOk result (λ path. path ≡ spec.best_among net.now state.now table.now own.now sessions.now prefix.now) }
+{
+    let paths = candidates_at(alloc, net, state, table, own, sessions, prefix)?;
+    best_of(alloc, paths.as_slice())
+}
+
+/// Puts a prefix into a set.
+fn insert(set: &mut BTreeSet<Prefix>, prefix: Prefix) -> Result<(), AllocError>
+    ensures { OnOk result (keys set.new ≡ insert_key prefix_cmp (keys set.old) prefix) }
+{
+    set.insert(prefix)?;
+    Ok(())
+}
+
+/// Puts the prefixes of paths into a set.
+fn add_prefixes(set: &mut BTreeSet<Prefix>, paths: &[BgpPath]) -> Result<(), AllocError>
+    ensures { OnOk result (keys set.new ≡ fold (insert_key prefix_cmp) (keys set.old) (spec.prefixes_of paths.now)) }
+{
+    for path in paths {
+        insert(set, path.prefix)?;
+    }
+    Ok(())
+}
+
+/// Puts the prefixes of the senders' best paths into a set.
+fn add_senders(
+    set: &mut BTreeSet<Prefix>,
+    state: &State,
+    sessions: &[Session],
+) -> Result<(), AllocError>
+    requires { All IsRouterState state.now }
+    ensures { OnOk result (keys set.new ≡ fold (insert_key prefix_cmp) (keys set.old) (flat_map (spec.sender_prefixes state.now) sessions.now)) }
+{
+    for session in sessions {
+        add_prefixes(set, paths_of(state, session.sender))?;
+    }
+    Ok(())
+}
+
+/// The prefixes that may have candidates, by address, then length.
+#[tactic(auto, using(crate::proofs::BestLaws::seen_in_parts))]
+fn prefixes_seen(
+    alloc: Global,
+    state: &State,
+    own: &[BgpPath],
+    sessions: &[Session],
+) -> Result<Items<Prefix>, AllocError>
+    requires { All IsRouterState state.now }
+    ensures { IfOk result (λ prefixes. prefixes ≡ spec.prefixes_seen state.now own.now sessions.now) }
+{
+    let mut set = BTreeSet::new(alloc);
+    insert(&mut set, default_prefix())?;
+    add_prefixes(&mut set, own)?;
+    add_senders(&mut set, state, sessions)?;
+    listed(alloc, set)
+}
+
+/// One path more, if there is one.
+fn push_some(paths: &mut Items<BgpPath>, path: Option<BgpPath>) -> Result<(), AllocError>
+    ensures { OnOk result (paths.new ≡ paths.old ++ option_to_list path) }
+{
+    match path {
+        Some(path) => paths.push(path)?,
+        None => {}
+    }
+    Ok(())
+}
+
+/// The best path of each of some prefixes.
+fn best_for(
+    alloc: Global,
+    net: &Network,
+    state: &State,
+    table: &[Route],
+    own: &[BgpPath],
+    sessions: &[Session],
+    prefixes: &[Prefix],
+) -> Result<Items<BgpPath>, AllocError>
+    requires state { All IsRouterState state.now }
+    requires own { IsPathList own.now }
+    ensures { IfOk result (λ paths. paths ≡ filter_map (spec.best_among net.now state.now table.now own.now sessions.now) prefixes.now) }
+{
+    let mut paths = Items::new(alloc);
+    for prefix in prefixes {
+        let path = best_among(alloc, net, state, table, own, sessions, prefix)?;
+        push_some(&mut paths, path)?;
+    }
+    Ok(paths)
+}
+
+/// The best paths of a router after a state: for each prefix that has a candidate the best of them (RFC 4271 s.9.1), by address,
+/// then length. It errs only where memory runs out.
+#[tactic(auto, using(crate::proofs::BestLaws::best_in_order), unfolding(crate::specs::Candidates::best_paths))]
+pub fn best_paths(
+    alloc: Global,
+    net: &Network,
+    sessions: &Sessions,
+    previous: &State,
+    router: RouterId,
+) -> Result<Items<BgpPath>, AllocError>
+    requires { All IsRouterState previous.now }
+    ensures value { IfOk result (λ paths. paths ≡ spec.best_paths net.now sessions.now previous.now router) }
+    ensures in_order { IfOk result IsPathList }
+{
+    let table = table_of(previous, router);
+    let own = own_paths(alloc, net, table, router)?;
+    let up = up_sessions(alloc, sessions, previous, router)?;
+    let prefixes = prefixes_seen(alloc, previous, own.as_slice(), up.as_slice())?;
+    best_for(
+        alloc,
+        net,
+        previous,
+        table,
+        own.as_slice(),
+        up.as_slice(),
+        prefixes.as_slice(),
+    )
+}
+
+/// Puts paths at the end of a list.
+fn append(all: &mut Items<BgpPath>, paths: Vec<BgpPath>) -> Result<(), AllocError>
+    ensures { OnOk result (all.new ≡ all.old ++ paths.items) }
+{
+    for path in paths {
+        all.push(path)?;
+    }
+    Ok(())
+}
+
+/// The candidates for each of some prefixes.
+fn candidates_for(
+    alloc: Global,
+    net: &Network,
+    state: &State,
+    table: &[Route],
+    own: &[BgpPath],
+    sessions: &[Session],
+    prefixes: &[Prefix],
+) -> Result<Items<BgpPath>, AllocError>
+    requires state { All IsRouterState state.now }
+    requires own { IsPathList own.now }
+    ensures { IfOk result (λ all. all ≡ flat_map (spec.candidates_at net.now state.now table.now own.now sessions.now) prefixes.now) }
+{
+    let mut all = Items::new(alloc);
+    for prefix in prefixes {
+        append(
+            &mut all,
+            candidates_at(alloc, net, state, table, own, sessions, prefix)?,
+        )?;
+    }
+    Ok(all)
+}
+
+/// All candidates of a router after a state (RFC 4271 s.9.1): by prefix; for each what the router originates, then what it hears
+/// over each session, by sender, then the sender's address. It errs only where memory runs out.
+#[tactic(auto, unfolding(crate::specs::Candidates::candidates))]
+pub fn candidates(
+    alloc: Global,
+    net: &Network,
+    sessions: &Sessions,
+    previous: &State,
+    router: RouterId,
+) -> Result<Items<BgpPath>, AllocError>
+    requires { All IsRouterState previous.now }
+    ensures { IfOk result (λ all. all ≡ spec.candidates net.now sessions.now previous.now router) }
+{
+    let table = table_of(previous, router);
+    let own = own_paths(alloc, net, table, router)?;
+    let up = up_sessions(alloc, sessions, previous, router)?;
+    let prefixes = prefixes_seen(alloc, previous, own.as_slice(), up.as_slice())?;
+    candidates_for(
+        alloc,
+        net,
+        previous,
+        table,
+        own.as_slice(),
+        up.as_slice(),
+        prefixes.as_slice(),
+    )
+}

@@ -1,0 +1,27 @@
+//! BGP: which sessions there are and which are up, what goes over them, and each router's best paths (RFC 4271, RFC 1997).
+//!
+//! It stands on the model of rc_config, the links of rc_topology, the lists and maps of rc_policy, the hops of rc_fib and the
+//! decision of rc_bgp_decide. The layer above knows the sessions of a network as a list that no round changes, and a router's
+//! candidates and best paths as functions of the network, the sessions and what all routers knew before, in their order.
+#![tactic(auto)]
+
+mod deciding;
+mod hearing;
+mod known;
+mod learning;
+mod originating;
+mod own;
+mod pairing;
+mod passing;
+mod policy;
+mod reaching;
+mod session;
+mod speaker;
+mod statement;
+mod up;
+
+pub use deciding::{best_paths, candidates};
+pub use learning::learned_route;
+pub use pairing::sessions;
+pub use passing::{export, import};
+pub use session::{Session, Sessions};

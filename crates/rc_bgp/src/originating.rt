@@ -1,0 +1,165 @@
+//! The paths that a router originates.
+ghost use Rattle.std.specs.Prelude.{◌≡◌, IfOk, OnOk};
+ghost use Rattle.std.specs.List.{fold};
+ghost use Rattle.std.specs.BTreeSet.{keys, insert_key};
+ghost use Rattle.rc_base.specs.Lists.{in_order};
+ghost use Rattle.rc_base.specs.Prefix.{prefix_cmp};
+ghost use Rattle.rc_route.specs.Tables.{IsPathList, IsTable};
+ghost use Rattle.rc_bgp.specs.Originating as spec;
+
+use crate::known::route_at;
+use rc_as_path::AsPath;
+use rc_base::{Addr, Communities, Items, Origin, Prefix, RouterId};
+use rc_config::Network;
+use rc_route::{BgpPath, PathSource, Route, Source};
+use std::alloc::{AllocError, Global};
+use std::collections::BTreeSet;
+
+fn is_bgp(source: Source) -> bool
+    ensures { result ≡ spec.is_bgp source }
+{
+    match source {
+        Source::Ebgp => true,
+        Source::Ibgp => true,
+        _ => false,
+    }
+}
+
+/// A path as its router originates it.
+fn originated(
+    alloc: Global,
+    router: RouterId,
+    source: PathSource,
+    origin: Origin,
+    med: u32,
+    prefix: Prefix,
+) -> BgpPath
+    ensures { result ≡ spec.originated router source origin med prefix }
+{
+    BgpPath {
+        prefix,
+        next_hop: Addr::new(0),
+        med,
+        local_preference: 100,
+        weight: 32768,
+        origin,
+        as_path: AsPath::empty(),
+        communities: Communities::none(alloc),
+        source,
+        sender: router,
+        sender_id: Addr::new(0),
+        neighbor: Addr::new(0),
+        igp_metric: 0,
+    }
+}
+
+/// The path that a line `network` originates from a route.
+fn from_route(alloc: Global, router: RouterId, route: &Route, prefix: &Prefix) -> Option<BgpPath>
+    ensures { result ≡ spec.from_route router prefix.now route.now }
+{
+    if is_bgp(route.source) {
+        return None;
+    }
+    Some(originated(
+        alloc,
+        router,
+        PathSource::Network,
+        Origin::Igp,
+        route.metric,
+        *prefix,
+    ))
+}
+
+/// The path that a line `network` originates, if any.
+fn by_network(alloc: Global, router: RouterId, table: &[Route], prefix: &Prefix) -> Option<BgpPath>
+    requires { IsTable table.now }
+    ensures { result ≡ spec.by_network router table.now prefix.now }
+{
+    let found = route_at(table, prefix);
+    match found {
+        Some(route) => from_route(alloc, router, route, prefix),
+        None => None,
+    }
+}
+
+/// Puts a prefix into a set.
+fn insert(set: &mut BTreeSet<Prefix>, prefix: Prefix) -> Result<(), AllocError>
+    ensures { OnOk result (keys set.new ≡ insert_key prefix_cmp (keys set.old) prefix) }
+{
+    set.insert(prefix)?;
+    Ok(())
+}
+
+/// Prefixes as a set.
+fn prefix_set(alloc: Global, prefixes: &[Prefix]) -> Result<BTreeSet<Prefix>, AllocError>
+    ensures { IfOk result (λ set. keys set ≡ in_order prefix_cmp prefixes.now) }
+{
+    let mut set = BTreeSet::new(alloc);
+    for prefix in prefixes {
+        insert(&mut set, *prefix)?;
+    }
+    Ok(set)
+}
+
+/// The prefixes of a set as a list.
+pub(crate) fn listed(alloc: Global, set: BTreeSet<Prefix>) -> Result<Items<Prefix>, AllocError>
+    ensures { IfOk result (λ prefixes. prefixes ≡ keys set) }
+{
+    let mut prefixes = Items::new(alloc);
+    for prefix in set {
+        prefixes.push(prefix)?;
+    }
+    Ok(prefixes)
+}
+
+/// The paths that lines `network` originate for prefixes in order.
+fn paths_for(
+    alloc: Global,
+    router: RouterId,
+    table: &[Route],
+    prefixes: &[Prefix],
+) -> Result<Items<BgpPath>, AllocError>
+    requires { IsTable table.now }
+    ensures { IfOk result (λ paths. paths ≡ spec.paths_for router table.now prefixes.now) }
+{
+    let mut paths = Items::new(alloc);
+    for prefix in prefixes {
+        let path = by_network(alloc, router, table, prefix);
+        match path {
+            Some(path) => paths.push(path)?,
+            None => {}
+        }
+    }
+    Ok(paths)
+}
+
+/// The prefixes of the lines `network` of a router.
+fn networks_of(net: &Network, router: RouterId) -> &[Prefix]
+    ensures { result.now ≡ spec.networks_of net.now router }
+{
+    let found = net.router_at(router);
+    match found {
+        None => &[],
+        Some(file) => match &file.bgp {
+            None => &[],
+            Some(process) => process.networks.as_slice(),
+        },
+    }
+}
+
+/// The paths that a router originates from its previous table, in order of prefix.
+#[tactic(auto, using(crate::proofs::BestLaws::own_in_order))]
+pub(crate) fn own_paths(
+    alloc: Global,
+    net: &Network,
+    table: &[Route],
+    router: RouterId,
+) -> Result<Items<BgpPath>, AllocError>
+    requires { IsTable table.now }
+    ensures value { IfOk result (λ paths. paths ≡ spec.by_networks router table.now (spec.networks_of net.now router)) }
+    ensures in_order { IfOk result IsPathList }
+{
+    let set = prefix_set(alloc, networks_of(net, router))?;
+    let prefixes = listed(alloc, set)?;
+    paths_for(alloc, router, table, prefixes.as_slice())
+}

@@ -1,0 +1,353 @@
+//! What a session makes of a path: export by its sender, import by its receiver.
+ghost use Rattle.std.specs.Prelude.{◌≡◌, IfOk};
+ghost use Rattle.rc_bgp_decide.specs.Decision.{is_internal, is_originated};
+ghost use Rattle.rc_bgp.specs.Passing as spec;
+
+use crate::Session;
+use crate::policy::{mapped, passes_list};
+use rc_as_path::AsPath;
+use rc_base::{Addr, Communities, Origin, Prefix};
+use rc_config::{Neighbor, Network, RouterText};
+use rc_route::{BgpPath, PathSource};
+use std::alloc::{AllocError, Global};
+
+fn is_internal(source: PathSource) -> bool
+    ensures { result ≡ is_internal source }
+{
+    match source {
+        PathSource::Internal => true,
+        _ => false,
+    }
+}
+
+fn is_originated(source: PathSource) -> bool
+    ensures { result ≡ is_originated source }
+{
+    match source {
+        PathSource::External => false,
+        PathSource::Internal => false,
+        _ => true,
+    }
+}
+
+/// Whether a path stays with the sender of a session.
+fn is_withheld(session: &Session, path: &BgpPath) -> bool
+    ensures { result ≡ spec.is_withheld session.now path.now }
+{
+    (is_internal(path.source) && !session.is_external)
+        || path.communities.has(Communities::NO_ADVERTISE)
+        || (session.is_external
+            && (path.communities.has(Communities::NO_EXPORT)
+                || path.communities.has(Communities::NO_EXPORT_SUBCONFED)))
+}
+
+/// The MED of a path over a session (RFC 4271 s.5.1.4).
+fn med_over(session: &Session, path: &BgpPath) -> u32
+    ensures { result ≡ spec.med_over session.now path.now }
+{
+    if session.is_external && !is_originated(path.source) {
+        0
+    } else {
+        path.med
+    }
+}
+
+/// A path again, with the MED that it has over a session.
+fn with_med(alloc: Global, session: &Session, path: &BgpPath) -> Result<BgpPath, AllocError>
+    ensures { IfOk result (λ made. made ≡ spec.with_med session.now path.now) }
+{
+    let mut made = path.copy(alloc)?;
+    made.med = med_over(session, path);
+    Ok(made)
+}
+
+/// Whether a path is sent with the local address as its next hop (RFC 4271 s.5.1.3).
+fn has_own_next_hop(session: &Session, neighbor: &Neighbor, path: &BgpPath) -> bool
+    ensures { result ≡ spec.has_own_next_hop session.now neighbor.now path.now }
+{
+    session.is_external || neighbor.next_hop_self || is_originated(path.source)
+}
+
+/// The next hop of a path over a session.
+fn next_hop_over(session: &Session, neighbor: &Neighbor, path: &BgpPath) -> Addr
+    ensures { result ≡ spec.next_hop_over session.now neighbor.now path.now }
+{
+    if has_own_next_hop(session, neighbor, path) {
+        session.sender_address
+    } else {
+        path.next_hop
+    }
+}
+
+/// The local preference of a path over a session (RFC 4271 s.5.1.5).
+fn local_preference_over(session: &Session, path: &BgpPath) -> u32
+    ensures { result ≡ spec.local_preference_over session.now path.now }
+{
+    if session.is_external {
+        100
+    } else {
+        path.local_preference
+    }
+}
+
+/// The AS path of a path over a session (RFC 4271 s.5.1.2).
+fn as_path_over(
+    alloc: Global,
+    asn: u32,
+    session: &Session,
+    path: &AsPath,
+) -> Result<AsPath, AllocError>
+    ensures { IfOk result (λ made. made ≡ spec.as_path_over asn session.now path.now) }
+{
+    if session.is_external {
+        path.prepend(alloc, asn)
+    } else {
+        path.share()
+    }
+}
+
+/// The communities of a path that go to a neighbour.
+fn communities_to(
+    alloc: Global,
+    neighbor: &Neighbor,
+    path: &BgpPath,
+) -> Result<Communities, AllocError>
+    ensures { IfOk result (λ made. made ≡ spec.communities_to neighbor.now path.now) }
+{
+    if neighbor.send_community {
+        path.communities.copy(alloc)
+    } else {
+        Ok(Communities::none(alloc))
+    }
+}
+
+/// A path as it is sent, behind the prefix list and the route map.
+fn as_sent(
+    alloc: Global,
+    asn: u32,
+    session: &Session,
+    neighbor: &Neighbor,
+    path: &BgpPath,
+) -> Result<BgpPath, AllocError>
+    ensures { IfOk result (λ made. made ≡ spec.as_sent asn session.now neighbor.now path.now) }
+{
+    let as_path = as_path_over(alloc, asn, session, &path.as_path)?;
+    let communities = communities_to(alloc, neighbor, path)?;
+    Ok(BgpPath {
+        prefix: path.prefix,
+        next_hop: next_hop_over(session, neighbor, path),
+        med: path.med,
+        local_preference: local_preference_over(session, path),
+        weight: path.weight,
+        origin: path.origin,
+        as_path,
+        communities,
+        source: path.source,
+        sender: path.sender,
+        sender_id: path.sender_id,
+        neighbor: path.neighbor,
+        igp_metric: path.igp_metric,
+    })
+}
+
+/// What a sender exports, by its statement about the receiver.
+fn exported(
+    alloc: Global,
+    file: &RouterText,
+    asn: u32,
+    neighbor: &Neighbor,
+    session: &Session,
+    path: &BgpPath,
+) -> Result<Option<BgpPath>, AllocError>
+    ensures { IfOk result (λ made. made ≡ spec.exported file.now asn neighbor.now session.now path.now) }
+{
+    if is_withheld(session, path) {
+        return Ok(None);
+    }
+    if !passes_list(file, &neighbor.list_out, &path.prefix) {
+        return Ok(None);
+    }
+    let offered = with_med(alloc, session, path)?;
+    let made = mapped(alloc, file, &neighbor.map_out, offered)?;
+    match made {
+        None => Ok(None),
+        Some(made) => {
+            let sent = as_sent(alloc, asn, session, neighbor, &made)?;
+            Ok(Some(sent))
+        }
+    }
+}
+
+/// What the sender of a session advertises of one of its best paths, or `None` exactly where it withholds the path or a list or
+/// map rejects it (RFC 4271 s.9.2, RFC 1997).
+pub fn export(
+    alloc: Global,
+    net: &Network,
+    session: &Session,
+    path: &BgpPath,
+) -> Result<Option<BgpPath>, AllocError>
+    ensures { IfOk result (λ made. made ≡ spec.export net.now session.now path.now) }
+{
+    let found = net.router_at(session.sender);
+    match found {
+        None => Ok(None),
+        Some(file) => match &file.bgp {
+            None => Ok(None),
+            Some(process) => {
+                let named = process.neighbors.get(session.receiver_address.bits());
+                match named {
+                    None => Ok(None),
+                    Some(neighbor) => exported(alloc, file, process.asn, neighbor, session, path),
+                }
+            }
+        },
+    }
+}
+
+/// The prefix of the default route.
+pub(crate) fn default_prefix() -> Prefix
+    ensures { result ≡ spec.default_prefix }
+{
+    Prefix::new(Addr::new(0), 0).unwrap()
+}
+
+/// The default path of `default-originate`.
+fn default_path(alloc: Global, asn: u32, session: &Session) -> Result<BgpPath, AllocError>
+    ensures { IfOk result (λ made. made ≡ spec.default_path asn session.now) }
+{
+    let as_path = as_path_over(alloc, asn, session, &AsPath::empty())?;
+    Ok(BgpPath {
+        prefix: default_prefix(),
+        next_hop: session.sender_address,
+        med: 0,
+        local_preference: 100,
+        weight: 32768,
+        origin: Origin::Igp,
+        as_path,
+        communities: Communities::none(alloc),
+        source: PathSource::Network,
+        sender: session.sender,
+        sender_id: Addr::new(0),
+        neighbor: Addr::new(0),
+        igp_metric: 0,
+    })
+}
+
+/// The default path that the sender of a session originates, if a line says so.
+pub(crate) fn originated_default(
+    alloc: Global,
+    net: &Network,
+    session: &Session,
+) -> Result<Option<BgpPath>, AllocError>
+    ensures { IfOk result (λ made. made ≡ spec.originated_default net.now session.now) }
+{
+    let found = net.router_at(session.sender);
+    match found {
+        None => Ok(None),
+        Some(file) => match &file.bgp {
+            None => Ok(None),
+            Some(process) => {
+                let named = process.neighbors.get(session.receiver_address.bits());
+                match named {
+                    None => Ok(None),
+                    Some(neighbor) => {
+                        if !neighbor.default_originate {
+                            return Ok(None);
+                        }
+                        let path = default_path(alloc, process.asn, session)?;
+                        Ok(Some(path))
+                    }
+                }
+            }
+        },
+    }
+}
+
+/// The source of what is heard over a session.
+fn source_over(session: &Session) -> PathSource
+    ensures { result ≡ spec.source_over session.now }
+{
+    if session.is_external {
+        PathSource::External
+    } else {
+        PathSource::Internal
+    }
+}
+
+/// A path with what its receiver notes of it.
+fn as_received(session: &Session, path: BgpPath) -> BgpPath
+    ensures { result ≡ spec.as_received session.now path }
+{
+    let mut made = path;
+    made.source = source_over(session);
+    made.sender = session.sender;
+    made.sender_id = session.sender_id;
+    made.neighbor = session.sender_address;
+    made.igp_metric = 0;
+    made
+}
+
+/// What a receiver makes of a path, by its statement about the sender. The path is the receiver's own already.
+fn imported(
+    alloc: Global,
+    file: &RouterText,
+    asn: u32,
+    neighbor: &Neighbor,
+    session: &Session,
+    path: BgpPath,
+) -> Result<Option<BgpPath>, AllocError>
+    ensures { IfOk result (λ made. made ≡ spec.imported file.now asn neighbor.now session.now path) }
+{
+    if path.as_path.holds(asn) {
+        return Ok(None);
+    }
+    if !passes_list(file, &neighbor.list_in, &path.prefix) {
+        return Ok(None);
+    }
+    let mut weighted = path;
+    weighted.weight = u32::from(neighbor.weight);
+    let made = mapped(alloc, file, &neighbor.map_in, weighted)?;
+    match made {
+        None => Ok(None),
+        Some(made) => Ok(Some(as_received(session, made))),
+    }
+}
+
+/// What the receiver of a session makes of a path that is its own already.
+pub(crate) fn taken(
+    alloc: Global,
+    net: &Network,
+    session: &Session,
+    path: BgpPath,
+) -> Result<Option<BgpPath>, AllocError>
+    ensures { IfOk result (λ made. made ≡ spec.import net.now session.now path) }
+{
+    let found = net.router_at(session.receiver);
+    match found {
+        None => Ok(None),
+        Some(file) => match &file.bgp {
+            None => Ok(None),
+            Some(process) => {
+                let named = process.neighbors.get(session.sender_address.bits());
+                match named {
+                    None => Ok(None),
+                    Some(neighbor) => imported(alloc, file, process.asn, neighbor, session, path),
+                }
+            }
+        },
+    }
+}
+
+/// What the receiver of a session takes of an advertised path, or `None` exactly where the path holds the receiver's AS (RFC 4271
+/// s.9.1.2) or a list or map rejects it. Whether its next hop resolves isn't asked here.
+pub fn import(
+    alloc: Global,
+    net: &Network,
+    session: &Session,
+    path: &BgpPath,
+) -> Result<Option<BgpPath>, AllocError>
+    ensures { IfOk result (λ made. made ≡ spec.import net.now session.now path.now) }
+{
+    let copied = path.copy(alloc)?;
+    taken(alloc, net, session, copied)
+}

@@ -1,0 +1,187 @@
+//! Whether an address resolves in a table that isn't prepared, and the metric of the route to it.
+ghost use Rattle.std.specs.Prelude.{◌≡◌, IfOk, OnOk};
+ghost use Rattle.std.specs.List.{fold, flat_map, list_any};
+ghost use Rattle.std.specs.Option.{option_copied};
+ghost use Rattle.std.specs.Ordering.{nat_cmp};
+ghost use Rattle.std.specs.BTreeSet.{keys, insert_key};
+ghost use Rattle.rc_base.specs.Lists.{in_order};
+ghost use Rattle.rc_fib.specs.Forwarding.{has_interface, longest};
+ghost use Rattle.rc_bgp.specs.Reaching as spec;
+ghost use Rattle.rc_bgp.specs.Levels as level;
+
+use rc_base::{Addr, Items};
+use rc_route::{Hop, Route};
+use std::alloc::{AllocError, Global};
+use std::collections::BTreeSet;
+
+/// How many look-ups may follow one another.
+const DEPTH: usize = 16;
+
+/// Whether a route holds an address, and is longer than the one that was found.
+fn is_longer(route: &Route, addr: Addr, found: Option<&Route>) -> bool
+    ensures { result ≡ level.is_longer route.now addr (option_copied found.entry) }
+{
+    if !route.prefix.contains(addr) {
+        return false;
+    }
+    match found {
+        Some(found) => found.prefix.len() < route.prefix.len(),
+        None => true,
+    }
+}
+
+/// The longer of the route that was found and one more.
+fn longer<'a>(addr: Addr, found: Option<&'a Route>, route: &'a Route) -> Option<&'a Route>
+    ensures { option_copied result ≡ level.longer addr (option_copied found.entry) route.now }
+{
+    if is_longer(route, addr, found) {
+        Some(route)
+    } else {
+        found
+    }
+}
+
+/// The route of the longest prefix that holds an address (RFC 1812 s.5.2.4.3).
+fn longest_route(table: &[Route], addr: Addr) -> Option<&Route>
+    ensures { option_copied result ≡ longest table.now addr }
+{
+    let mut found = None;
+    for route in table {
+        found = longer(addr, found, route);
+    }
+    found
+}
+
+/// Whether a hop names an interface.
+fn has_interface(hop: &Hop) -> bool
+    ensures { result ≡ has_interface hop.now }
+{
+    match hop {
+        Hop::Null => false,
+        Hop::Dev(_) => true,
+        Hop::Via(_, interface) => interface.is_some(),
+    }
+}
+
+/// The hops of the route of an address.
+fn first_hops(table: &[Route], addr: Addr) -> &[Hop]
+    ensures { result.now ≡ level.first_hops table.now addr }
+{
+    let found = longest_route(table, addr);
+    match found {
+        Some(route) => route.hops.as_slice(),
+        None => &[],
+    }
+}
+
+/// Whether some hop names an interface.
+fn some_interface(hops: &[Hop]) -> bool
+    ensures { result ≡ list_any has_interface hops.now }
+{
+    hops.iter().any(|hop| has_interface(hop))
+}
+
+/// Whether a hop of the route of an address names an interface.
+fn is_direct(table: &[Route], addr: Addr) -> bool
+    ensures { result ≡ level.is_direct table.now addr }
+{
+    some_interface(first_hops(table, addr))
+}
+
+/// Puts an address into a set.
+fn insert(set: &mut BTreeSet<Addr>, addr: Addr) -> Result<(), AllocError>
+    ensures { OnOk result (keys set.new ≡ insert_key nat_cmp (keys set.old) addr) }
+{
+    set.insert(addr)?;
+    Ok(())
+}
+
+/// Puts the gateways of hops into a set.
+fn add_gateways(set: &mut BTreeSet<Addr>, hops: &[Hop]) -> Result<(), AllocError>
+    ensures { OnOk result (keys set.new ≡ fold (insert_key nat_cmp) (keys set.old) (level.gateways hops.now)) }
+{
+    for hop in hops {
+        match hop {
+            Hop::Via(gateway, None) => insert(set, *gateway)?,
+            _ => {}
+        }
+    }
+    Ok(())
+}
+
+/// The gateways of the routes of some addresses, as a set.
+fn gateway_set(
+    alloc: Global,
+    table: &[Route],
+    addresses: &[Addr],
+) -> Result<BTreeSet<Addr>, AllocError>
+    ensures { IfOk result (λ set. keys set ≡ in_order nat_cmp (flat_map (level.gateways_of table.now) addresses.now)) }
+{
+    let mut set = BTreeSet::new(alloc);
+    for addr in addresses {
+        add_gateways(&mut set, first_hops(table, *addr))?;
+    }
+    Ok(set)
+}
+
+/// The addresses of a set as a list.
+fn listed(alloc: Global, set: BTreeSet<Addr>) -> Result<Vec<Addr>, AllocError>
+    ensures { IfOk result (λ addresses. addresses.items ≡ keys set) }
+{
+    let mut addresses = Vec::new(alloc);
+    for addr in set {
+        addresses.push(addr)?;
+    }
+    Ok(addresses)
+}
+
+/// Whether one of some addresses is direct.
+fn some_direct(table: &[Route], addresses: &[Addr]) -> bool
+    ensures { result ≡ list_any (level.is_direct table.now) addresses.now }
+{
+    addresses.iter().any(|addr| is_direct(table, *addr))
+}
+
+/// Whether an address resolves by its gateways: level by level, so that each address is looked up once a level.
+fn reaches_on(alloc: Global, table: &[Route], addr: Addr) -> Result<bool, AllocError>
+    ensures { IfOk result (λ is. is ≡ spec.reaches table.now addr) }
+{
+    let mut front = Vec::new(alloc);
+    front.push(addr)?;
+    for _depth in 0..DEPTH {
+        if some_direct(table, front.as_slice()) {
+            return Ok(true);
+        }
+        let gateways = gateway_set(alloc, table, front.as_slice())?;
+        front = listed(alloc, gateways)?;
+    }
+    Ok(false)
+}
+
+/// Whether an address resolves in a table. Most do at once, which takes no memory.
+pub(crate) fn reaches(alloc: Global, table: &[Route], addr: Addr) -> Result<bool, AllocError>
+    ensures { IfOk result (λ is. is ≡ spec.reaches table.now addr) }
+{
+    if is_direct(table, addr) {
+        return Ok(true);
+    }
+    reaches_on(alloc, table, addr)
+}
+
+/// The metric of the route to an address that resolves, or `None` exactly where it doesn't.
+pub(crate) fn metric_to(
+    alloc: Global,
+    table: &[Route],
+    addr: Addr,
+) -> Result<Option<u32>, AllocError>
+    ensures { IfOk result (λ metric. metric ≡ spec.metric_to table.now addr) }
+{
+    if !reaches(alloc, table, addr)? {
+        return Ok(None);
+    }
+    let found = longest_route(table, addr);
+    match found {
+        Some(route) => Ok(Some(route.metric)),
+        None => Ok(None),
+    }
+}

@@ -1,0 +1,4 @@
+pub mod DecisionLaws
+mod LeaderLaws
+mod OrderLaws
+mod RowLaws

@@ -1,0 +1,35 @@
+-- The edges and endings of a plane by places, and what a table has to allow for them.
+use Rattle.std.specs.Prelude.{◌≡◌, ℕ, ◌<◌, true, List, length, map}
+use Rattle.rc_base.specs.Positions.{is_among}
+use Rattle.rc_base.specs.declared.ending.Ends.{Ends}
+use Rattle.rc_base.specs.declared.ending.Kind.{Kind}
+use Rattle.rc_base.specs.declared.position.Pos.{Pos}
+use Rattle.rc_config.specs.Members.{positions}
+use Rattle.rc_edges.specs.Edges.{edge}
+use Rattle.rc_edges.specs.Endings.{end}
+use Rattle.rc_edges.specs.Query.{kinds_of}
+use Rattle.rc_places.specs.Places.{position_at}
+use Rattle.rc_trees.specs.Recipes.{parts, tree}
+use Rattle.rc_trees.specs.Trees.{Tree, HasNodes}
+use Rattle.rc_walk.specs.Moves.{DataPlane}
+
+-- the tree of the edge from one place to another
+abbrev pub edge_at : DataPlane → ℕ → ℕ → Tree
+edge_at plane p q = tree (edge plane (position_at plane.network p) (position_at plane.network q))
+
+-- the trees of the endings asked for at a place
+abbrev pub ends_at : DataPlane → Ends → ℕ → List Tree
+ends_at plane ends p = map (λ k. tree (end plane (position_at plane.network p) k)) (kinds_of ends)
+
+-- the parts of each edge from a position may be made
+pub record MaySend (may : List Tree) (plane : DataPlane) (q : Pos) : Type 0 where
+  pub each : (t : ℕ) → t < length (positions plane.network) → HasNodes may (parts (edge plane q (position_at plane.network t)))
+
+-- and those of each ending asked for there
+pub record MayEnd (may : List Tree) (plane : DataPlane) (ends : Ends) (q : Pos) : Type 0 where
+  pub each : (k : Kind) → is_among ends k ≡ true → HasNodes may (parts (end plane q k))
+
+-- the parts of each edge of a plane, and of each ending asked for, may be made
+pub record MayPrepare (may : List Tree) (plane : DataPlane) (ends : Ends) : Type 0 where
+  pub edges : (p : ℕ) → p < length (positions plane.network) → MaySend may plane (position_at plane.network p)
+  pub endings : (p : ℕ) → p < length (positions plane.network) → MayEnd may plane ends (position_at plane.network p)

@@ -1,0 +1,5 @@
+pub mod CostLaws
+pub mod WayLaws
+pub mod RowLaws
+pub mod OrderLaws
+pub mod RangeLaws

@@ -1,0 +1,9 @@
+pub mod AsExternal
+pub mod Costs
+pub mod Origination
+pub mod Externals
+pub mod Ways
+pub mod Routes
+pub mod ByPrefix
+pub mod OriginationRows
+pub mod RouteRows

@@ -1,0 +1,91 @@
+//! The routes of a router to prefixes outside of the AS.
+ghost use Rattle.std.specs.Prelude.{◌≡◌, IfOk};
+ghost use Rattle.rc_route.specs.Tables.{IsTable};
+ghost use Rattle.rc_external.specs.Externals.{IsByPrefix};
+ghost use Rattle.rc_external.specs.Routes as spec;
+
+use crate::way::best_way;
+use crate::{ExternalRow, ExternalWay, Externals};
+use rc_base::{Items, Prefix, RouterId};
+use rc_config::MetricType;
+use rc_ospf::{Boundary, Internal, hops_in_order};
+use rc_route::{Route, Source, Table};
+use std::alloc::{AllocError, Global};
+
+fn source_by_type(metric_type: MetricType) -> Source
+    ensures { result ≡ spec.source_by_type metric_type }
+{
+    match metric_type {
+        MetricType::Type1 => Source::OspfE1,
+        MetricType::Type2 => Source::OspfE2,
+    }
+}
+
+/// The route over a way.
+fn route_over(alloc: Global, prefix: Prefix, way: &ExternalWay) -> Result<Route, AllocError>
+    ensures { IfOk result (λ route. route ≡ spec.route_over prefix way.now) }
+{
+    let hops = hops_in_order(alloc, way.hops.as_slice())?;
+    Ok(Route {
+        prefix,
+        source: source_by_type(way.cost.metric_type),
+        distance: 110,
+        metric: way.cost.metric,
+        hops,
+    })
+}
+
+/// The route to the prefix of a row, where a way leads there.
+#[tactic(auto, using(crate::proofs::WayLaws::best_way_is))]
+fn route_to(
+    alloc: Global,
+    paths: &[Boundary],
+    row: &ExternalRow,
+) -> Result<Option<Route>, AllocError>
+    ensures { IfOk result (λ route. route ≡ spec.route_to paths.now row.now) }
+{
+    match best_way(alloc, paths, row.externals.as_slice())? {
+        Some(way) => Ok(Some(route_over(alloc, row.prefix, &way)?)),
+        None => Ok(None),
+    }
+}
+
+/// The routes to the prefixes of some rows.
+fn routes_over(alloc: Global, paths: &[Boundary], rows: &[ExternalRow]) -> Result<Table, AllocError>
+    ensures { IfOk result (λ routes. routes ≡ spec.routes_over paths.now rows.now) }
+{
+    let mut routes = Items::new(alloc);
+    for row in rows {
+        if let Some(route) = route_to(alloc, paths, row)? {
+            routes.push(route)?;
+        }
+    }
+    Ok(routes)
+}
+
+/// The paths of a router to the others that are AS boundary routers, of which it has none past the end.
+fn boundaries_of(internal: &Internal, router: RouterId) -> &[Boundary]
+    ensures { result.now ≡ spec.boundaries_of internal.now router }
+{
+    let found = internal.boundaries.as_slice().get(router.index());
+    match found {
+        Some(paths) => paths.as_slice(),
+        None => &[],
+    }
+}
+
+/// The external routes of a router: of what other routers send, over its paths to them, in order of prefix. Any of type 1 is
+/// preferred to any of type 2; of type 1 the distance and the metric together count, of type 2 the metric, and then the distance.
+/// Its own prefixes and those that it has inside the AS are among them. It errs only where memory runs out.
+pub fn external(
+    alloc: Global,
+    internal: &Internal,
+    externals: &Externals,
+    router: RouterId,
+) -> Result<Table, AllocError>
+    requires { IsByPrefix externals.now }
+    ensures value { IfOk result (λ routes. routes ≡ spec.external_routes internal.now externals.now router) }
+    ensures in_order { IfOk result IsTable }
+{
+    routes_over(alloc, boundaries_of(internal, router), externals.as_slice())
+}

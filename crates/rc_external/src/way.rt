@@ -1,0 +1,82 @@
+//! Ways to a prefix outside of the AS.
+ghost use Rattle.std.specs.Prelude.{◌≡◌, None, IfOk};
+ghost use Rattle.std.specs.List.{fold};
+ghost use Rattle.std.specs.Option.{option_copied};
+ghost use Rattle.rc_external.specs.ByPrefix.{then_way, with_way};
+ghost use Rattle.rc_external.specs.Ways as ways;
+
+use crate::cost::cost_over;
+use crate::{External, ExternalCost, compare_costs};
+use rc_base::RouterId;
+use rc_ospf::{Boundary, add_hops};
+use rc_route::Hops;
+use std::alloc::{AllocError, Global};
+use std::cmp::Ordering;
+
+/// A way to a prefix: its cost, and hops in the order in which they were found.
+pub struct ExternalWay {
+    pub cost: ExternalCost,
+    pub hops: Hops,
+}
+
+/// By a function of its own, so that what holds a way drops it by one call.
+impl Drop for ExternalWay {
+    fn drop(self) {
+        let ExternalWay { cost: _, hops: _ } = self;
+    }
+}
+
+/// The way over these hops, at a cost.
+fn way_at(alloc: Global, cost: ExternalCost, hops: &Hops) -> Result<ExternalWay, AllocError>
+    ensures { IfOk result (λ way. way ≡ record { cost = cost; hops = hops.now }) }
+{
+    let hops = hops.copy(alloc)?;
+    Ok(ExternalWay { cost, hops })
+}
+
+/// The better of a way that is known and one over these hops, or both.
+fn add_way(
+    alloc: Global,
+    known: Option<ExternalWay>,
+    cost: ExternalCost,
+    hops: &Hops,
+) -> Result<ExternalWay, AllocError>
+    ensures { IfOk result (λ way. way ≡ with_way known (record { cost = cost; hops = hops.now })) }
+{
+    match known {
+        None => way_at(alloc, cost, hops),
+        Some(mut known) => match compare_costs(&cost, &known.cost) {
+            Ordering::Less => way_at(alloc, cost, hops),
+            Ordering::Equal => {
+                add_hops(&mut known.hops, alloc, hops.as_slice())?;
+                Ok(known)
+            }
+            Ordering::Greater => Ok(known),
+        },
+    }
+}
+
+/// The path to a router, where there is one.
+fn path_to(paths: &[Boundary], router: RouterId) -> Option<&Boundary>
+    ensures { option_copied result ≡ ways.path_to paths.now router }
+{
+    paths.iter().find(|path| path.router() == router)
+}
+
+/// The best way to what is sent for a prefix.
+pub(crate) fn best_way(
+    alloc: Global,
+    paths: &[Boundary],
+    externals: &[External],
+) -> Result<Option<ExternalWay>, AllocError>
+    ensures { IfOk result (λ best. best ≡ fold (then_way paths.now) None externals.now) }
+{
+    let mut best = None;
+    for external in externals {
+        if let Some(path) = path_to(paths, external.boundary()) {
+            let cost = cost_over(external, path.cost());
+            best = Some(add_way(alloc, best, cost, path.hops())?);
+        }
+    }
+    Ok(best)
+}

@@ -1,0 +1,4 @@
+pub mod Ring
+pub mod Files
+pub mod Names
+pub mod Rows

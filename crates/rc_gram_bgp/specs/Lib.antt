@@ -1,0 +1,5 @@
+pub mod NeighborLines
+pub mod Lines
+pub mod Rows
+pub mod Reading
+pub mod Examples

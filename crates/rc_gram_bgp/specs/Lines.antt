@@ -1,0 +1,43 @@
+-- The lines in the block of a BGP process (RFC 4271): what a line of each form says, by its words behind the opening, where it fits its
+-- row.
+use Rattle.std.specs.Prelude.{ℕ, List, [], ◌∷◌, Option, Some, None, if◌then◌else◌, codes}
+use Rattle.std.specs.Option.{option_and_then, option_map}
+use Rattle.std.specs.Str.{bytes_eq}
+use Rattle.rc_base.specs.Prefix.{Cidr}
+use Rattle.rc_config.specs.Classes.{natural_length}
+use Rattle.rc_config.specs.declared.bgp.BgpLine.{BgpLine}
+use Rattle.rc_config.specs.declared.bgp.BgpLine.TheVariants.{RouterId, Network, Neighbor}
+use Rattle.rc_config.specs.declared.bgp.NeighborSetting.{NeighborSetting}
+use Rattle.rc_openings.specs.Values.{address_of, mask_length_of, prefix_from}
+use Rattle.rc_openings.specs.declared.form.Form.{Form}
+use Rattle.rc_openings.specs.declared.form.Form.TheVariants as form
+use Rattle.rc_gram_bgp.specs.NeighborLines.{neighbor_of, setting_of}
+
+-- `bgp router-id A`
+abbrev pub router_id : List (List ℕ) → Option BgpLine
+router_id (a ∷ []) = option_map RouterId (address_of a)
+router_id _ = None
+
+-- the prefix of the network of an address by its class; from 224.0.0.0 on there is none
+abbrev pub natural_prefix : Option ℕ → Option Cidr
+natural_prefix a = prefix_from a (option_and_then natural_length a)
+
+abbrev pub network_of : Option Cidr → Option BgpLine
+network_of prefix = option_map Network prefix
+
+-- `network A [mask M]`: the host bits of A are cleared
+abbrev pub network : List (List ℕ) → Option BgpLine
+network (a ∷ []) = network_of (natural_prefix (address_of a))
+network (a ∷ word ∷ m ∷ []) = if bytes_eq word (codes "mask") then network_of (prefix_from (address_of a) (mask_length_of m)) else None
+network _ = None
+
+-- what a line sets for a neighbour
+abbrev pub about : Option ℕ → Option NeighborSetting → Option BgpLine
+about (Some address) (Some setting) = Some (Neighbor address setting)
+about _ _ = None
+
+-- by all words of the line, and by those behind the opening
+abbrev pub line_of : Form → List (List ℕ) → List (List ℕ) → Option BgpLine
+line_of form.BgpRouterId line behind = router_id behind
+line_of form.BgpNetwork line behind = network behind
+line_of f line behind = about (neighbor_of line) (setting_of f behind)

@@ -1,0 +1,81 @@
+//! The lines in the block of a BGP process, by the words behind their openings. A line that fits no row is none.
+ghost use Rattle.std.specs.Prelude.{◌≡◌};
+ghost use Rattle.rc_openings.specs.Words.{words_left};
+ghost use Rattle.rc_gram_bgp.specs.Lines as lines;
+
+use crate::neighbor_lines::{neighbor_of, setting_of};
+use rc_base::{Addr, Prefix};
+use rc_config::{BgpLine, NeighborSetting, natural_len};
+use rc_openings::{Form, Words, prefix_under, word_addr};
+
+/// `bgp router-id A`
+fn router_id(mut words: Words) -> Option<BgpLine>
+    ensures { result ≡ lines.router_id (words_left words.entry) }
+{
+    match (words.next_word(), words.next_word()) {
+        (Some(word), None) => match word_addr(word) {
+            Some(id) => Some(BgpLine::RouterId(id)),
+            None => None,
+        },
+        _ => None,
+    }
+}
+
+/// The prefix of the network of an address by its class.
+fn natural_prefix(address: Option<Addr>) -> Option<Prefix>
+    ensures { result ≡ lines.natural_prefix address }
+{
+    match address {
+        Some(address) => match natural_len(address) {
+            Some(len) => Prefix::new(address, len),
+            None => None,
+        },
+        None => None,
+    }
+}
+
+fn network_of(prefix: Option<Prefix>) -> Option<BgpLine>
+    ensures { result ≡ lines.network_of prefix }
+{
+    match prefix {
+        Some(prefix) => Some(BgpLine::Network(prefix)),
+        None => None,
+    }
+}
+
+/// `network A [mask M]`
+fn network(mut words: Words) -> Option<BgpLine>
+    ensures { result ≡ lines.network (words_left words.entry) }
+{
+    let Some(address) = words.next_word() else {
+        return None;
+    };
+    match (words.next_word(), words.next_word(), words.next_word()) {
+        (None, _, _) => network_of(natural_prefix(word_addr(address))),
+        (Some(word), Some(mask), None) if word == b"mask".as_slice() => {
+            network_of(prefix_under(address, mask))
+        }
+        _ => None,
+    }
+}
+
+/// What a line sets for a neighbour.
+fn about(address: Option<Addr>, setting: Option<NeighborSetting>) -> Option<BgpLine>
+    ensures { result ≡ lines.about address setting }
+{
+    match (address, setting) {
+        (Some(address), Some(setting)) => Some(BgpLine::Neighbor { address, setting }),
+        _ => None,
+    }
+}
+
+/// The line of a form, where it fits its row: by all its words, and by those behind the opening.
+pub(crate) fn line_of(form: Form, line: Words, behind: Words) -> Option<BgpLine>
+    ensures { result ≡ lines.line_of form (words_left line.entry) (words_left behind.entry) }
+{
+    match form {
+        Form::BgpRouterId => router_id(behind),
+        Form::BgpNetwork => network(behind),
+        _ => about(neighbor_of(line), setting_of(form, behind)),
+    }
+}

@@ -1,0 +1,84 @@
+//! One line of BGP where it stands.
+ghost use Rattle.std.specs.Prelude.{◌≡◌, ◌≢◌, Err, IfOk};
+ghost use Rattle.rc_openings.specs.Reading.{Gives, IfAnswered};
+ghost use Rattle.rc_openings.specs.Words.{words_left, words_of};
+ghost use Rattle.rc_config.specs.Lawful.{FitsFile, IsInRange};
+ghost use Rattle.rc_gram_bgp.specs.Reading as reading;
+
+use crate::rows::row;
+use rc_config::{Command, Context, OpenBlock, RouterText};
+use rc_lines::Line;
+use rc_openings::{Decision, Form, LineError, Words, judged};
+
+/// The words that make a line of a form one that isn't modelled, where it fits no row.
+#[tactic(auto, unfolding(rc_openings::specs::Words::words_of))]
+fn refused_words(form: Form) -> Words<'static>
+    ensures { words_left result ≡ reading.refused_words form }
+{
+    match form {
+        Form::BgpNetwork => Words::new(b"route-map backdoor"),
+        _ => Words::new(b""),
+    }
+}
+
+/// What a line of a form says, by all its words and by those behind the opening.
+fn answer(form: Form, behind: Words, line: &Line, file: &RouterText) -> Result<Command, LineError>
+    ensures row { Gives result (reading.row_answer file.now (words_of line.now.text) form (words_left behind.entry)) }
+    ensures takes_no_memory { result ≢ Err LineError.Memory }
+    ensures in_range { IfOk result IsInRange }
+    ensures fits { IfOk result (FitsFile file.now) }
+{
+    let said = row(form, file, line.words(), behind);
+    match judged(said, behind, refused_words(form)) {
+        Ok(command) => Ok(command),
+        Err(refusal) => Err(LineError::Refused(refusal)),
+    }
+}
+
+/// What a line of this form says where it stands, by its words behind the opening that decides it. Forms of other grammars
+/// are a bad value.
+pub fn read_form(
+    form: Form,
+    behind: Words,
+    line: &Line,
+    context: Context,
+) -> Result<Command, LineError>
+    ensures row { Gives result (reading.row_answer context.entry.file.now (words_of line.now.text) form (words_left behind.entry)) }
+    ensures takes_no_memory { result ≢ Err LineError.Memory }
+    ensures in_range { IfOk result IsInRange }
+    ensures fits { IfOk result (FitsFile context.entry.file.now) }
+{
+    answer(form, behind, line, context.file)
+}
+
+/// What a line says in this block, where its form is one of BGP.
+fn read_in(line: &Line, block: &OpenBlock, file: &RouterText) -> Result<Command, LineError>
+    ensures exact { Gives result (reading.says block.now file.now (words_of line.now.text)) }
+    ensures takes_no_memory { result ≢ Err LineError.Memory }
+    ensures in_range { IfOk result IsInRange }
+    ensures fits { IfOk result (FitsFile file.now) }
+{
+    match block.kind().decided(line.words()) {
+        Decision::Passed => Ok(Command::Passed),
+        Decision::Refused(refusal) => Err(LineError::Refused(refusal)),
+        Decision::Form(form, behind) => answer(form, behind, line, file),
+    }
+}
+
+/// What a line says where it stands, where its form is one of BGP: a command, or why it is refused.
+///
+/// It errs exactly where the definition of its openings and rows does, and takes no memory.
+pub fn read_line(line: &Line, context: Context) -> Result<Command, LineError>
+    // One opening decides, that with most words, and the row of its form is the meaning.
+    ensures decided { IfAnswered result (reading.Says context.entry.block context.entry.file.now (words_of line.now.text)) }
+    // So each line says one thing.
+    ensures exact { Gives result (reading.says context.entry.block context.entry.file.now (words_of line.now.text)) }
+    ensures takes_no_memory { result ≢ Err LineError.Memory }
+    // Values are in their ranges.
+    ensures in_range { IfOk result IsInRange }
+    // It changes no access list, and so fits those of the file.
+    ensures fits { IfOk result (FitsFile context.entry.file.now) }
+{
+    let Context { block, file } = context;
+    read_in(line, &block, file)
+}

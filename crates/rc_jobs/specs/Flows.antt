@@ -1,0 +1,51 @@
+-- What positions send to one another and what may end at them, as trees, and what a seat knows of it. Positions are numbers from 0 on.
+use Rattle.std.specs.Prelude.{◌≡◌, ℕ, ◌<◌, Bool, true, false, List, length, map, filter, flat_map, slice_index_or}
+use Rattle.std.specs.List.{range_with_len}
+use Rattle.rc_nodes.specs.Seats.{SeatView, SeatKnows}
+use Rattle.rc_trees.specs.Trees.{Tree, never, always, node}
+use Rattle.rc_jobs.specs.declared.flow.Flow.{Flow}
+use Rattle.rc_jobs.specs.declared.flow.Prepared.{Prepared}
+
+-- so many positions
+abbrev pub positions : ℕ → List ℕ
+positions count = range_with_len 0 count
+
+-- the edges from some positions to one, each with where it comes from
+abbrev pub edges_to : (ℕ → ℕ → Tree) → List ℕ → ℕ → List (ℕ × Tree)
+edges_to edge ps q = map (λ p. (p, edge p q)) ps
+
+-- the endings at some positions, each with where it is
+abbrev pub endings_of : (ℕ → List Tree) → List ℕ → List (ℕ × Tree)
+endings_of ends ps = flat_map (λ q. map (λ e. (q, e)) (ends q)) ps
+
+-- the set has some header
+abbrev pub is_something : Tree → Bool
+is_something never = false
+is_something always = true
+is_something (node v low high) = true
+
+-- the edges to a position that let some header pass
+abbrev pub real_edges_to : (ℕ → ℕ → Tree) → ℕ → ℕ → List (ℕ × Tree)
+real_edges_to edge count q = filter (λ f. is_something f.1) (edges_to edge (positions count) q)
+
+-- the endings that some header may have
+abbrev pub real_endings : (ℕ → List Tree) → ℕ → List (ℕ × Tree)
+real_endings ends count = filter (λ f. is_something f.1) (endings_of ends (positions count))
+
+-- ---- what a seat knows
+
+-- the seat knows the flows as sets of these trees, from these positions
+pub record KnowsFlows (seat : SeatView) (flows : List Flow) (through : List (ℕ × Tree)) : Type 0 where
+  pub count : length flows ≡ length through
+  pub from : (i : ℕ) (d : Flow) (e : ℕ × Tree) → i < length flows → (slice_index_or flows i d).from ≡ (slice_index_or through i e).0
+  pub set : (i : ℕ) (d : Flow) (e : ℕ × Tree) → i < length flows → SeatKnows seat (slice_index_or flows i d).set.index (slice_index_or through i e).1
+
+-- it knows the edges to each position that let some header pass
+pub record KnowsEdges (seat : SeatView) (into : List (List Flow)) (edge : ℕ → ℕ → Tree) : Type 0 where
+  pub each : (q : ℕ) (d : List Flow) → q < length into → KnowsFlows seat (slice_index_or into q d) (real_edges_to edge (length into) q)
+
+-- it knows the sets of a query: those edges, and the endings that some header may have
+pub record IsPrepared (seat : SeatView) (edge : ℕ → ℕ → Tree) (ends : ℕ → List Tree) (count : ℕ) (prepared : Prepared) : Type 0 where
+  pub as_many : length prepared.into ≡ count
+  pub edges : KnowsEdges seat prepared.into edge
+  pub endings : KnowsFlows seat prepared.ends (real_endings ends count)

@@ -1,0 +1,64 @@
+-- The routers that the code keeps are those of the network.
+use Rattle.std.proofs.Common.{refl, ◌≡◌, ap, sym, ◌∙◌, subst, ℕ, suc, ◌+◌, ◌≤◌, Bool, true, false, cond, List, [], ◌∷◌, ◌++◌, length, map, Option, Some, MatchOption, All, arith, eq-eqb}
+use Rattle.std.specs.Prelude.{◌==◌}
+use Rattle.std.proofs.lemmas.List.Elements.{All-contains}
+use Rattle.std.specs.List.Sorted.{IsStrictlySortedBy}
+use Rattle.rc_config.specs.declared.network.Network.{Network}
+use Rattle.rc_route.specs.declared.route.Hop.{Hop}
+use Rattle.rc_ospf.specs.Areas.{OspfRouter, AreOspfRouters, without_stubs}
+use Rattle.rc_ospf.specs.Edges.{IsFitStep, IsReachOfOthers}
+use Rattle.rc_ospf.specs.Members.{nowhere, reach_of, known, IsMember, AreMembers}
+use Rattle.rc_ospf.specs.Paths.{path_in}
+use Rattle.rc_ospf.specs.Walks.{LeastWalks, IsWalk, IsLeastWalk, AreLeastWalks, IsReach, walk_cost, first_hop}
+use Rattle.rc_ospf.specs.declared.adjacency.Step.{Step}
+use Rattle.rc_ospf.specs.declared.member.Member.{Member}
+use Rattle.rc_ospf.specs.declared.member.StubAreas.TheVariants.{Kept, LeftOut}
+use Rattle.rc_ospf.specs.declared.router_area.RouterArea.{RouterArea}
+use Rattle.rc_ospf.proofs.Members.{contains_in}
+
+-- the least walk to the router itself has no steps, since each step costs something
+staying : (n : ℕ) (steps : List Step) (area r s : ℕ) → All (IsFitStep n) steps → r ≡ s → AreLeastWalks steps area r s nowhere
+unfolding IsStrictlySortedBy
+staying n steps area r s fit same = record {
+  cost = ([], record { is_walk = same; least = λ other is. omega arith }, refl);
+  hops = λ h. (λ there. absurd (contains_in [] h there), λ found. absurd (stays found.0 h found.1 found.2));
+  in_order = tt;
+}
+  where
+    stays : (walk : List Step) (h : Hop) → IsLeastWalk steps area r s walk → first_hop walk ≡ Some h → ⊥
+    stays [] h least is = cc
+    stays (x ∷ walk) h least is =
+        let fits = All-contains (IsFitStep n) steps x fit least.is_walk.0 in
+        let some : 1 ≤ x.cost = fits.least in
+        let most : x.cost + walk_cost walk ≤ 0 = least.least [] same in omega (arith, some, most)
+
+pub reach_all : (n : ℕ) (steps : List Step) (m : Member) → All (IsFitStep n) steps → m.own ≡ nowhere → IsReachOfOthers steps m.router (path_in m.found) → IsReach steps m.router (reach_of m)
+reach_all n steps m fit own others area s = by (s == m.router) refl
+  where
+    Walks : Option LeastWalks → Type 0
+    Walks o = MatchOption o ((walk : List Step) → IsWalk steps area m.router walk s → ⊥) (AreLeastWalks steps area m.router s)
+
+    by : (b : Bool) → (s == m.router) ≡ b → Walks (cond b (Some m.own) (path_in m.found area s))
+    by true is = let same : m.router ≡ s = grind (arith, is) in subst (AreLeastWalks steps area m.router s) (sym own) (staying n steps area m.router s fit same)
+    by false is = others area s (λ e. let here : (s == m.router) ≡ true = eq-eqb s m.router e in cc)
+
+pub members_more : (net : Network) (steps : List Step) (r : ℕ) (done : List Member) (m : Member) → AreMembers net steps r done → IsMember net steps (r + length done) m →
+    AreMembers net steps r (done ++ m ∷ [])
+members_more net steps r [] m all last = (subst (λ k. IsMember net steps k m) (omega arith) last, tt)
+members_more net steps r (x ∷ xs) m all last = (all.0, members_more net steps (suc r) xs m all.1 (subst (λ k. IsMember net steps k m) (omega arith) last))
+
+pub ospf_routers : (net : Network) (steps : List Step) (r : ℕ) (ms : List Member) → AreMembers net steps r ms → AreOspfRouters net steps r (map (known Kept) ms)
+ospf_routers net steps r [] all = tt
+ospf_routers net steps r (m ∷ ms) all = (record { router = all.0.router; areas = all.0.areas; reach = all.0.reach }, ospf_routers net steps (suc r) ms all.1)
+
+-- without stub areas they are the routers without these
+abbrev with_areas : Member → List RouterArea → OspfRouter
+with_areas m areas = record { router = m.router; areas = areas; reach = reach_of m }
+
+pub left_out : (net : Network) (steps : List Step) (r : ℕ) (m : Member) → IsMember net steps r m → known LeftOut m ≡ without_stubs (known Kept m)
+left_out net steps r m is = ap (with_areas m) is.non_stub
+
+pub all_left_out : (net : Network) (steps : List Step) (r : ℕ) (ms : List Member) → AreMembers net steps r ms → map (known LeftOut) ms ≡ map without_stubs (map (known Kept) ms)
+all_left_out net steps r [] all = refl
+all_left_out net steps r (m ∷ ms) all =
+    ap (λ x. x ∷ map (known LeftOut) ms) (left_out net steps r m all.0) ∙ ap (λ xs. without_stubs (known Kept m) ∷ xs) (all_left_out net steps (suc r) ms all.1)

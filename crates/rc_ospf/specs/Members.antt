@@ -1,0 +1,37 @@
+-- Routers as the code keeps them.
+use Rattle.std.specs.Prelude.{◌≡◌, ℕ, suc, ◌==◌, if◌then◌else◌, List, [], ◌∷◌, Some}
+use Rattle.rc_config.specs.declared.network.Network.{Network}
+use Rattle.rc_ospf.specs.Areas.{OspfRouter}
+use Rattle.rc_ospf.specs.Paths.{path_in}
+use Rattle.rc_ospf.specs.RouterAreas.{router_areas, open_areas}
+use Rattle.rc_ospf.specs.Walks.{LeastWalks, Reach, IsReach}
+use Rattle.rc_ospf.specs.declared.adjacency.Step.{Step}
+use Rattle.rc_ospf.specs.declared.member.Member.{Member}
+use Rattle.rc_ospf.specs.declared.member.StubAreas.{StubAreas}
+use Rattle.rc_ospf.specs.declared.member.StubAreas.TheVariants.{Kept, LeftOut}
+use Rattle.rc_ospf.specs.declared.router_area.RouterArea.{RouterArea}
+
+-- the least walks to the router itself are that without steps
+abbrev pub nowhere : LeastWalks
+nowhere = record { cost = 0; hops = [] }
+
+abbrev pub reach_of : Member → Reach
+reach_of m area s = if s == m.router then Some m.own else path_in m.found area s
+
+abbrev pub areas_known : StubAreas → Member → List RouterArea
+areas_known Kept m = m.areas
+areas_known LeftOut m = m.non_stub
+
+abbrev pub known : StubAreas → Member → OspfRouter
+known stubs m = record { router = m.router; areas = areas_known stubs m; reach = reach_of m }
+
+pub record IsMember (net : Network) (steps : List Step) (r : ℕ) (m : Member) : Type 0 where
+  pub router : m.router ≡ r
+  pub areas : m.areas ≡ router_areas net r
+  pub non_stub : m.non_stub ≡ open_areas m.areas
+  pub reach : IsReach steps r (reach_of m)
+
+-- they are the routers of a network from one on
+abbrev pub AreMembers : Network → List Step → ℕ → List Member → Type 0
+AreMembers net steps r [] = Unit {0}
+AreMembers net steps r (m ∷ ms) = IsMember net steps r m × AreMembers net steps (suc r) ms

@@ -1,0 +1,15 @@
+//! The headers that reach an ending from a place, in rounds, by workers at once.
+//!
+//! It stands on the edges and endings of rc_edges and on the workers of rc_jobs. The layer above knows the result by the walks of
+//! rc_walk: it is the reduced tree of the headers that some loop-free walk brings from the place to an ending asked for, for every number
+//! of workers; and it knows that a table is full only where the query's operations have more different trees than the table has slots.
+#![tactic(auto)]
+
+mod first;
+mod gather;
+mod prepare_stub;
+mod reach;
+mod result;
+mod round;
+mod rounds;
+mod sends;

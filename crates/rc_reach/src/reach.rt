@@ -1,0 +1,163 @@
+//! The headers that reach an ending.
+ghost use Rattle.std.specs.Prelude.{◌≡◌, ◌↔◌, ◌<◌, ◌≤◌, true, length, IfOk, IfErr};
+ghost use Rattle.std.specs.List.{list_any};
+ghost use Rattle.std.specs.Set.{distinct_count};
+ghost use Rattle.rc_base.specs.Header.{IsHeader};
+ghost use Rattle.rc_base.specs.Positions.{is_among};
+ghost use Rattle.rc_base.specs.declared.header.Header.{Header};
+ghost use Rattle.rc_bdd.specs.Work.{IsCause};
+ghost use Rattle.rc_bdd.specs.declared.work.SetError.TheVariants.{Full};
+ghost use Rattle.rc_config.specs.Lawful.{IsLawful, IsPosition};
+ghost use Rattle.rc_config.specs.Members.{positions};
+ghost use Rattle.rc_edges.specs.Query.{IsReaching, all_kinds, query_nodes, reaching};
+ghost use Rattle.rc_nodes.specs.Seats.{IsSeatOf, Keeps, SeatKnows};
+ghost use Rattle.rc_places.specs.Places.{number_of};
+ghost use Rattle.rc_topology.specs.Ports.{links_of};
+ghost use Rattle.rc_trees.specs.Recipes.{tree};
+ghost use Rattle.rc_trees.specs.Trees.{Tree, HasNodes, IsReduced, holds, same_tree};
+
+use crate::prepare_stub::prepare;
+use crate::result::ended;
+use crate::rounds::propagate;
+use crate::sends::Sends;
+use rc_base::{Ends, Pos};
+use rc_bdd::{SetError, Work};
+use rc_edges::Query;
+use rc_jobs::Prepared;
+use rc_nodes::{May, NEVER, Nodes, Ref, Seat};
+use rc_outside::Gate;
+use rc_places::Places;
+use rc_walk::Plane;
+use std::alloc::{AllocError, AllocGlobal, Global};
+use std::thread::Threads;
+
+impl<'a> Sends for Query<'a> {
+    ghost use Rattle.rc_reach.specs.Places.{edge_at, ends_at};
+
+    ghost edge = { λ q. edge_at q.plane.now };
+
+    ghost ends = { λ q. ends_at q.plane.now q.ends };
+}
+
+/// Whether some ending is asked for.
+fn is_asking(ends: &Ends) -> bool
+    ensures { result ≡ list_any (is_among ends.now) all_kinds }
+{
+    ends.denied_in
+        || ends.accepted
+        || ends.no_route
+        || ends.null_routed
+        || ends.denied_out
+        || ends.unreachable
+        || ends.exits
+        || ends.delivered
+}
+
+/// The place of a position in the list of the network's positions.
+fn number_of_place(alloc: Global, plane: &Plane<'_>, place: &Pos) -> Result<usize, AllocError>
+    requires { IsPosition plane.now.network place.now }
+    ensures { IfOk result (λ n. n ≡ number_of plane.now.network place.now) }
+{
+    let places = Places::of(alloc, plane.network())?;
+    Ok(places.number(place))
+}
+
+/// The set of the headers that reach, without a word on walks.
+fn reach_within<R: Threads + Sync, M: May + Send + Sync, G: Gate>(
+    rt: &R,
+    alloc: Global,
+    plane: &Plane<'_>,
+    place: Pos,
+    ends: Ends,
+    nodes: &Nodes<M>,
+    seat: Seat<M>,
+    workers: u32,
+    gate: &G,
+) -> (Seat<M>, Result<Ref, SetError>)
+    requires lawful { IsLawful plane.now.network }
+    requires links { plane.now.links ≡ links_of plane.now.network }
+    requires place { IsPosition plane.now.network place }
+    requires seat { IsSeatOf nodes.now seat }
+    requires may { HasNodes nodes.now.may (query_nodes plane.now place ends) }
+    requires some { 1 ≤ workers }
+    requires most { workers ≤ 64 }
+    ensures seat { IsSeatOf nodes.now result.0 }
+    ensures keeps { Keeps seat result.0 }
+    ensures set { IfOk result.1 (λ r. SeatKnows result.0 r.index (tree (reaching plane.now place ends))) }
+    ensures cause { IfErr result.1 (IsCause nodes.now result.0) }
+{
+    if !is_asking(&ends) {
+        return (seat, Ok(NEVER));
+    }
+    let number = match number_of_place(alloc, plane, &place) {
+        Ok(number) => number,
+        Err(_) => return (seat, Err(SetError::Memory)),
+    };
+    let (seat, prepared) = prepare(rt, alloc, nodes, seat, plane, &ends, workers);
+    let prepared = match prepared {
+        Ok(prepared) => prepared,
+        Err(error) => return (seat, Err(error)),
+    };
+    let query = Query { plane, place, ends };
+    let work = Work::new(alloc, seat);
+    let (mut work, sets) = propagate(
+        rt, alloc, nodes, work, &query, &prepared, number, workers, gate,
+    );
+    let sets = match sets {
+        Ok(sets) => sets,
+        Err(error) => return (work.into_seat(), Err(error)),
+    };
+    let made = ended(
+        alloc,
+        &mut work,
+        nodes,
+        &query,
+        &prepared,
+        number,
+        sets.as_slice(),
+    );
+    (work.into_seat(), made)
+}
+
+/// The headers that some loop-free walk brings from a place to one of the endings asked for: the walks are those of rc_walk.
+///
+/// The workers, from 1 to 64, make the edges and the endings first, and then each round of propagation; each passes the gate once in each
+/// round, and round 1 is phase 100,001. It errs where memory runs out, and else where the table is full, which is so only where more
+/// different trees may be made than it has slots.
+pub fn reach<R: Threads + Sync + AllocGlobal, M: May + Send + Sync, G: Gate>(
+    rt: &R,
+    plane: &Plane<'_>,
+    place: Pos,
+    ends: Ends,
+    nodes: &Nodes<M>,
+    seat: Seat<M>,
+    workers: u32,
+    gate: &G,
+) -> (Seat<M>, Result<Ref, SetError>)
+    requires lawful { IsLawful plane.now.network }
+    requires links { plane.now.links ≡ links_of plane.now.network }
+    requires place { IsPosition plane.now.network place }
+    requires seat { IsSeatOf nodes.now seat }
+    requires may { HasNodes nodes.now.may (query_nodes plane.now place ends) }
+    requires some { 1 ≤ workers }
+    requires most { workers ≤ 64 }
+    ensures seat { IsSeatOf nodes.now result.0 }
+    ensures keeps { Keeps seat result.0 }
+    ensures set { IfOk result.1 (λ r. SeatKnows result.0 r.index (tree (reaching plane.now place ends))) }
+    ensures reaches { IfOk result.1 (λ r. (t : Tree) → SeatKnows result.0 r.index t → IsReduced t × ((h : Header) → IsHeader h → (holds t h ≡ true) ↔ IsReaching plane.now h place ends)) }
+    ensures full { IfErr result.1 (λ e. e ≡ Full → nodes.now.capacity < distinct_count same_tree nodes.now.may) }
+{
+    // Each of its tables is in order.
+    let _fibs = plane.fibs();
+    reach_within(
+        rt,
+        rt.alloc(),
+        plane,
+        place,
+        ends,
+        nodes,
+        seat,
+        workers,
+        gate,
+    )
+}

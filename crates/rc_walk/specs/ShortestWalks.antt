@@ -1,0 +1,93 @@
+-- The shortest walk of a packet to an ending that is asked for: of several the one whose choices come first.
+use Rattle.std.specs.Prelude.{◌≡◌, ℕ, zero, suc, ◌<◌, ◌⊎◌, true, List, [], ◌∷◌, Option, Some, None, length, slice_get, if◌then◌else◌}
+use Rattle.std.specs.List.{IsDistinct}
+use Rattle.std.specs.Option.{option_map, option_or}
+use Rattle.rc_base.specs.declared.ending.Ends.{Ends}
+use Rattle.rc_base.specs.declared.ending.Kind.{Kind}
+use Rattle.rc_base.specs.declared.header.Header.{Header}
+use Rattle.rc_base.specs.declared.position.Pos.{Pos}
+use Rattle.rc_base.specs.Positions.{is_among, same_position}
+use Rattle.rc_topology.specs.Links.{all_ids}
+use Rattle.rc_walk.specs.declared.walk.Move.{Move}
+use Rattle.rc_walk.specs.declared.walk.Move.TheVariants.{Next, End}
+use Rattle.rc_walk.specs.declared.walk.Stop.TheVariants.{At}
+use Rattle.rc_walk.specs.declared.walk.Walk.{Walk}
+use Rattle.rc_walk.specs.Moves.{DataPlane, moves}
+
+-- ---- lists of choices
+
+-- of two lists that are as long, the first choice that differs is less in this one
+abbrev pub IsLess : List ℕ → List ℕ → Type 0
+IsLess [] ds = ⊥
+IsLess (c ∷ cs) [] = ⊥
+IsLess (c ∷ cs) (d ∷ ds) = (c < d) ⊎ ((c ≡ d) × IsLess cs ds)
+
+-- fewer choices come before more, and of as many the first that differ decide
+abbrev pub ComeBefore : List ℕ → List ℕ → Type 0
+ComeBefore cs ds = (length cs < length ds) ⊎ ((length cs ≡ length ds) × IsLess cs ds)
+
+-- ---- moves
+
+-- further positions of a walk, and the ending behind them
+abbrev pub Rest : Type 0
+Rest = List Pos × Kind
+
+-- what the first of some moves gives that gives something
+abbrev pub first_of : {A : Type 0} → (Move → Option A) → List Move → Option A
+first_of f [] = None
+first_of f (m ∷ ms) = option_or (f m) (first_of f ms)
+
+-- an ending that is asked for
+abbrev pub end_by : Ends → Move → Option Rest
+end_by ends (Next t) = None
+end_by ends (End kind) = if is_among ends kind then Some ([], kind) else None
+
+-- the next position, and what is further from there
+abbrev pub rest_by : (Pos → Option Rest) → Move → Option Rest
+rest_by further (End kind) = None
+rest_by further (Next t) = option_map (λ (r : Rest). (t ∷ r.0, r.1)) (further t)
+
+module _ (plane : DataPlane) (h : Header) where
+  -- the choices that bring a packet from a position over these to an ending: at each position the place, among its moves, of the next
+  -- one, and at the last that of the ending
+  abbrev pub AreChoices : Pos → List Pos → Kind → List ℕ → Type 0
+  AreChoices q ts kind [] = ⊥
+  AreChoices q [] kind (c ∷ cs) = (slice_get (moves plane h q) c ≡ Some (End kind)) × (cs ≡ [])
+  AreChoices q (t ∷ ts) kind (c ∷ cs) = (slice_get (moves plane h q) c ≡ Some (Next t)) × AreChoices t ts kind cs
+
+  module _ (ends : Ends) where
+    -- by these choices a walk from a position, which passes none twice, comes to an ending that is asked for
+    pub record IsWalkTo (q : Pos) (w : Walk) (choices : List ℕ) : Type 0 where
+      pub steps : List Pos
+      pub kind : Kind
+      pub positions : w.positions ≡ q ∷ steps
+      pub stop : w.stop ≡ At kind
+      pub asked : is_among ends kind ≡ true
+      pub chosen : AreChoices q steps kind choices
+      pub once : IsDistinct same_position (q ∷ steps)
+
+    -- no other choices of such a walk come before its own
+    pub record IsShortestWalk (q : Pos) (w : Walk) : Type 0 where
+      pub choices : List ℕ
+      pub walk : IsWalkTo q w choices
+      pub first : (v : Walk) (others : List ℕ) → IsWalkTo q v others → (choices ≡ others) ⊎ ComeBefore choices others
+
+    -- no walk from a position comes to such an ending
+    abbrev pub NoWalkEnds : Pos → Type 0
+    NoWalkEnds q = (v : Walk) (others : List ℕ) → ¬ (IsWalkTo q v others)
+
+    -- ---- the same, computed
+
+    -- over so many further positions to an ending that is asked for, by the first choices that lead to one
+    abbrev pub rest_of : ℕ → Pos → Option Rest
+    rest_of zero q = first_of (end_by ends) (moves plane h q)
+    rest_of (suc more) q = first_of (rest_by (rest_of more)) (moves plane h q)
+
+    -- over the fewest further positions: so many, or else one more, and so on
+    abbrev pub fewest_from : ℕ → ℕ → Pos → Option Rest
+    fewest_from zero few q = rest_of few q
+    fewest_from (suc more) few q = elim (rest_of few q) as (λ _. Option Rest) [ Some rest ↦ Some rest | None ↦ fewest_from more (suc few) q ]
+
+    -- behind the first position each one enters a router, by an interface of its own: no walk has more (`there_is_a_shortest_walk`)
+    abbrev pub shortest_walk : Pos → Option Walk
+    shortest_walk q = option_map (λ (r : Rest). record { positions = q ∷ r.0; stop = At r.1 }) (fewest_from (length (all_ids plane.links)) 0 q)
