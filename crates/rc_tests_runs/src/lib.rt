@@ -19,6 +19,8 @@ mod ospf_networks;
 #[cfg(test)]
 mod policies;
 #[cfg(test)]
+mod reaching;
+#[cfg(test)]
 mod refusals;
 #[cfg(test)]
 mod routes;

@@ -76,8 +76,8 @@ fn only(kind: Kind) -> Ends
     ends
 }
 
-/// The endings at which a packet comes to its destination.
-fn arrivals() -> Ends
+/// The endings at which a packet comes to its destination: a router takes it, or it leaves onto the subnet that holds it.
+pub fn arrivals() -> Ends
     ensures { result ≡ spec.arrivals }
 {
     let mut ends = no_endings();

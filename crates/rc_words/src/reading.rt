@@ -3,7 +3,7 @@ ghost use Rattle.std.specs.Prelude.{◌≡◌, ◌≢◌, ◌<◌, ◌==◌, [],
 ghost use Rattle.std.specs.List.{position};
 ghost use Rattle.clap.specs.Words.{fault_of, kind_of, subcommand_of, subcommand_rows_of, found_of, rows_of, first_of};
 ghost use Rattle.rc_words.specs.App.{netcheck_app};
-ghost use Rattle.rc_words.specs.Request.{place_cut, place_of, number_at, address_at, place_at, limits_at, header_at, ends_at, routes_at, trace_at, reach_at, sample_at, ask_at, request_at, request_of, AreInRange};
+ghost use Rattle.rc_words.specs.Request.{place_cut, place_of, number_at, address_at, place_at, limits_at, header_at, ends_at, routes_at, trace_at, reach_at, sample_at, ask_at, request_at, request_of, AreInRange, IsAskInRange};
 
 use crate::app::netcheck_command;
 use crate::endings::endings_in;
@@ -285,6 +285,7 @@ pub fn request_of_words(alloc: Global, words: &[&str]) -> Result<Request, WordsF
     ensures taken { IfOk result (λ r. request_of (map (λ w. w.now) words.now) ≡ Some r) }
     ensures usage { result ≡ Err WordsFault.Usage → request_of (map (λ w. w.now) words.now) ≡ None }
     ensures in_range { IfOk result (λ r. AreInRange r.limits) }
+    ensures ask { IfOk result (λ r. IsAskInRange r.ask) }
 {
     match matches_of_words(alloc, words) {
         Ok(matches) => request_given(alloc, &matches),
