@@ -1,3 +1,5 @@
 pub mod Parts
 pub mod RouteText
 pub mod WalkText
+pub mod CubeText
+pub mod CubeRows

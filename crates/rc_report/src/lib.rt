@@ -1,10 +1,11 @@
-//! Texts to a sink: lines out of parts, the route table of a router, and the walk of a packet.
+//! Texts to a sink: lines out of parts, the route table of a router, the walk of a packet, and the cubes of a set of headers.
 //!
-//! It stands on sinks, addresses, networks, routes and walks. The layer above knows a text as what is appended to the sink, or a
+//! It stands on sinks, addresses, networks, routes, walks, and the node table with its cubes. The layer above knows a text as what is appended to the sink, or a
 //! front of it where the sink fails. A line of any length goes in pieces of 512 bytes; only `Buffer::new` takes memory.
 #![tactic(auto)]
 
 mod buffer;
+mod cubes;
 mod names;
 mod part;
 mod put;
@@ -12,6 +13,7 @@ mod routes;
 mod walks;
 
 pub use buffer::Buffer;
+pub use cubes::put_cubes;
 pub use part::Part;
 pub use put::{SinkFault, end_line, put_line, put_parts};
 pub use routes::put_routes;

@@ -8,7 +8,7 @@
 //! The functions stand from the bytes up: bytes, numbers, addresses and prefixes, parts, a line. All of them say the same
 //! two things: `IsPutByHand all hand`, that of all these bytes a front is put and `hand` is left in the buffer, and, where a
 //! line is ended, `IsPut text`. No answer is lost between two calls: a text and the next one come to both (`PutLaws` of rc_outside).
-ghost use Rattle.std.specs.Prelude.{◌≡◌, ◌++◌, [], decimal, flat_map};
+ghost use Rattle.std.specs.Prelude.{◌≡◌, ◌++◌, [], codes, decimal, flat_map};
 ghost use Rattle.rc_base.specs.Addr.{dotted};
 ghost use Rattle.rc_base.specs.Prefix.{prefix_text};
 ghost use Rattle.rc_outside.specs.Put.{IsPut, IsPutByHand};
@@ -122,5 +122,13 @@ pub fn put_line<S: Sink>(out: &mut S, line: &mut Buffer, parts: &[Part]) -> Resu
 {
     line.clear();
     put_parts(out, line, parts)?;
+    end_line(out, line)
+}
+
+/// Ends a line by a line feed.
+pub(crate) fn close_line<S: Sink>(out: &mut S, line: &mut Buffer) -> Result<(), SinkFault>
+    ensures { IsPut S.Sink out.old out.new result (line.old ++ codes "\n") }
+{
+    put_parts(out, line, &[Part::Text(b"\n")])?;
     end_line(out, line)
 }

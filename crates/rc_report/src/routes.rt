@@ -1,11 +1,12 @@
 //! The routes of a router, as lines.
-ghost use Rattle.std.specs.Prelude.{◌≡◌, ◌++◌, codes, flat_map};
+ghost use Rattle.std.specs.Prelude.{◌≡◌, ◌++◌, flat_map};
 ghost use Rattle.rc_outside.specs.Put.{IsPut, IsPutByHand};
 ghost use Rattle.rc_report.specs.Parts.{part_text};
 ghost use Rattle.rc_report.specs.RouteText.{hop_text, interface_name, route_head, route_line, router_line, router_name, routes_text, source_text};
 
 use crate::names::{interface_name, router_name};
-use crate::{Buffer, Part, SinkFault, end_line, put_line, put_parts};
+use crate::put::close_line;
+use crate::{Buffer, Part, SinkFault, put_line, put_parts};
 use rc_base::{Addr, IfId, RouterId};
 use rc_config::Network;
 use rc_outside::Sink;
@@ -112,14 +113,6 @@ fn put_open_route<S: Sink>(
     let parts = head_parts(route);
     put_parts(out, line, &parts)?;
     put_hops(out, line, net, route.hops.as_slice())
-}
-
-/// Ends a line by a line feed.
-fn close_line<S: Sink>(out: &mut S, line: &mut Buffer) -> Result<(), SinkFault>
-    ensures { IsPut S.Sink out.old out.new result (line.old ++ codes "\n") }
-{
-    put_parts(out, line, &[Part::Text(b"\n")])?;
-    end_line(out, line)
 }
 
 fn put_route<S: Sink>(

@@ -11,3 +11,5 @@ mod cubes;
 mod hops;
 #[cfg(test)]
 mod operations;
+#[cfg(test)]
+mod printed_cubes;
