@@ -57,3 +57,14 @@ none_reaches plane place ends e =
 
 pub some_asked : (ends : Ends) → list_any (is_among ends) all_kinds ≡ true → (k : Kind) × In k (kinds_of ends)
 some_asked ends e = some_kept (is_among ends) all_kinds e
+
+some_among : (keep : Kind → Bool) (ks : List Kind) → list_any keep ks ≡ true → (k : Kind) × (keep k ≡ true)
+some_among keep [] e = absurd (let x : false ≡ true = e in cc)
+some_among keep (k ∷ ks) e = by (keep k) refl e (some_among keep ks)
+  where
+    by : (b : Bool) → keep k ≡ b → (b || list_any keep ks) ≡ true → (list_any keep ks ≡ true → (j : Kind) × (keep j ≡ true)) → (j : Kind) × (keep j ≡ true)
+    by true is e later = (k, is)
+    by false is e later = later e
+
+pub one_asked : (ends : Ends) → list_any (is_among ends) all_kinds ≡ true → (k : Kind) × (is_among ends k ≡ true)
+one_asked ends e = some_among (is_among ends) all_kinds e

@@ -25,7 +25,7 @@ use Rattle.rc_places.proofs.PlaceLaws.{number_at}
 use Rattle.rc_edges.specs.Endings.{end}
 use Rattle.rc_edges.specs.Query.{kinds_of, query_nodes, reached, reaching}
 use Rattle.rc_edges.proofs.QueryLaws.{coming, may_be_made, result-reached}
-use Rattle.rc_reach.specs.Places.{edge_at, ends_at}
+use Rattle.rc_edges.specs.Prepare.{edge_at, ends_at}
 use Rattle.rc_reach.specs.Rounds.{arrived, ending_after, gathered, MayEnd, MayGather, MayRounds}
 use Rattle.rc_reach.proofs.PositionLaws.{all_positions}
 

@@ -21,7 +21,7 @@ use Rattle.rc_nodes.specs.Seats.{TableView, SeatView, IsSeatOf, SeatKnows}
 use Rattle.rc_places.proofs.PlaceLaws.{number_there}
 use Rattle.rc_places.specs.Places.{number_of, position_at}
 use Rattle.rc_reach.proofs.JoinLaws.{may_end, may_rounds, reaching-ending}
-use Rattle.rc_reach.specs.Places.{edge_at, ends_at}
+use Rattle.rc_edges.specs.Prepare.{edge_at, ends_at}
 use Rattle.rc_reach.specs.Rounds.{ending_after, MayEnd, MayRounds}
 use Rattle.rc_trees.specs.Recipes.{tree}
 use Rattle.rc_trees.specs.Trees.{Tree, HasNodes, IsReduced, holds, same_tree}

@@ -1,4 +1,3 @@
 pub mod Rounds
 pub mod Known
 pub mod Kept
-pub mod Places

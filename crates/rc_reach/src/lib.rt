@@ -7,9 +7,10 @@
 
 mod first;
 mod gather;
-mod prepare_stub;
-mod reach;
+mod reaching;
 mod result;
 mod round;
 mod rounds;
 mod sends;
+
+pub use reaching::reach;

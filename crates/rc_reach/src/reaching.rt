@@ -16,13 +16,12 @@ ghost use Rattle.rc_topology.specs.Ports.{links_of};
 ghost use Rattle.rc_trees.specs.Recipes.{tree};
 ghost use Rattle.rc_trees.specs.Trees.{Tree, HasNodes, IsReduced, holds, same_tree};
 
-use crate::prepare_stub::prepare;
 use crate::result::ended;
 use crate::rounds::propagate;
 use crate::sends::Sends;
 use rc_base::{Ends, Pos};
 use rc_bdd::{SetError, Work};
-use rc_edges::Query;
+use rc_edges::{Query, prepare};
 use rc_jobs::Prepared;
 use rc_nodes::{May, NEVER, Nodes, Ref, Seat};
 use rc_outside::Gate;
@@ -32,7 +31,7 @@ use std::alloc::{AllocError, AllocGlobal, Global};
 use std::thread::Threads;
 
 impl<'a> Sends for Query<'a> {
-    ghost use Rattle.rc_reach.specs.Places.{edge_at, ends_at};
+    ghost use Rattle.rc_edges.specs.Prepare.{edge_at, ends_at};
 
     ghost edge = { λ q. edge_at q.plane.now };
 
@@ -93,7 +92,7 @@ fn reach_within<R: Threads + Sync, M: May + Send + Sync, G: Gate>(
         Ok(number) => number,
         Err(_) => return (seat, Err(SetError::Memory)),
     };
-    let (seat, prepared) = prepare(rt, alloc, nodes, seat, plane, &ends, workers);
+    let (seat, prepared) = prepare(rt, alloc, nodes, seat, plane, ends, workers);
     let prepared = match prepared {
         Ok(prepared) => prepared,
         Err(error) => return (seat, Err(error)),

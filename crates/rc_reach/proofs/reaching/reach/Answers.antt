@@ -8,7 +8,7 @@ use Rattle.rc_nodes.specs.Seats.{SeatKnows}
 use Rattle.rc_reach.proofs.PlaceJoins.{full_means_more, known_reaches}
 use Rattle.rc_trees.specs.Recipes.{tree}
 use Rattle.rc_trees.specs.Trees.{Tree, IsReduced, holds}
-use Rattle.rc_reach.proofs.reach.reach.Goals as goal
+use Rattle.rc_reach.proofs.reaching.reach.Goals as goal
 
 pub returns-clause-reaches : goal.returns-clause-reaches
 returns-clause-reaches g c =
