@@ -1,3 +1,9 @@
+mod Listed
+mod FileFronts
+mod ReadLaws
+mod RouteLaws
+mod AnswerLaws
+mod OneAnswer
 mod SubjectLaws
 mod PutLaws
 mod ExampleLaws

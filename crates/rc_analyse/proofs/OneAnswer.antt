@@ -33,11 +33,11 @@ use Rattle.rc_analyse.specs.declared.findings.Findings.TheVariants as found
 use Rattle.rc_analyse.specs.declared.subject.Subject.{Subject}
 use Rattle.rc_analyse.specs.declared.subject.Subject.TheVariants.{AllRouters, OneRouter, Packet, Packets, Made}
 
-result_or : Result Network NetRefusal → Network → Network
+abbrev result_or : Result Network NetRefusal → Network → Network
 result_or (Ok net) other = net
 result_or (Err refusal) other = other
 
-error_or : Result Network NetRefusal → NetRefusal → NetRefusal
+abbrev error_or : Result Network NetRefusal → NetRefusal → NetRefusal
 error_or (Ok net) other = other
 error_or (Err refusal) other = refusal
 
@@ -103,10 +103,7 @@ module _ (files : List File) (r : Request) where
   dir = dir_of r.ask
 
   same_net : (m n : Network) → IsNet dir files (Ok m) → IsNet dir files (Ok n) → m ≡ n
-  same_net m n h g = ok_once (one_net dir files (Ok m) (Ok n) h g)
-    where
-      ok_once : Ok m ≡ Ok n → m ≡ n
-      ok_once e = ap (λ (x : Result Network NetRefusal). result_or x m) e
+  same_net m n h g = ap (λ (x : Result Network NetRefusal). result_or x m) (one_net dir files (Ok m) (Ok n) h g)
 
   found_once : (this that : Findings) → AreFound files r this → AreFound files r that → this ≡ that
   found_once (found.Refused a) (found.Refused b) h g = ap (λ (x : Result Network NetRefusal). found.Refused (error_or x a)) (one_net dir files (Err a) (Err b) h g)

@@ -1,15 +1,17 @@
 -- Where packets start that are asked about is a position of the network.
 use Rattle.std.proofs.Common.{refl, ◌≡◌, sym, subst, ℕ, ◌<◌, List, [], Option, Some, None, length}
+use Rattle.std.specs.Map.{keys_of}
 use Rattle.std.specs.Option.{option_and_then, option_map}
 use Rattle.std.proofs.lemmas.Option.{none-some}
 use Rattle.std.proofs.lemmas.List.Quantifiers.{position-Some}
 use Rattle.std.proofs.lemmas.List.{length-map}
+use Rattle.rc_base.specs.Name.{same_name}
 use Rattle.rc_base.specs.declared.position.IfId.{IfId}
 use Rattle.rc_base.specs.declared.position.Pos.{Pos}
 use Rattle.rc_base.specs.declared.position.Pos.TheVariants.{Own, Entering}
 use Rattle.rc_config.specs.Lawful.{IsPosition, IsRouter}
 use Rattle.rc_config.specs.Members.{router_named, interface_named, interfaces_of}
-use Rattle.rc_config.specs.Named.{index_of, keys_of, same_name}
+use Rattle.rc_config.specs.Named.{index_of}
 use Rattle.rc_config.specs.declared.network.Network.{Network}
 use Rattle.rc_words.specs.declared.request.Ask.{Ask}
 use Rattle.rc_words.specs.declared.request.Ask.TheVariants.{Routes, Trace, Reach, Sample}
@@ -21,7 +23,7 @@ use Rattle.rc_analyse.specs.declared.subject.Subject.TheVariants.{AllRouters, On
 
 -- an index under a name is one of the list
 within : {V : Type 0} (es : List (List ℕ × V)) (name : List ℕ) (i : ℕ) → index_of es name ≡ Some i → i < length es
-within es name i e = let inside : i < length (keys_of es) = (position-Some (same_name name) (keys_of es) i [] e).0 in subst (λ n. i < n) (length-map (λ (x : List ℕ × _). x.0) es) inside
+within es name i e = let inside : i < length (keys_of es) = (position-Some (same_name name) (keys_of es) i [] e).0 in subst (λ n. i < n) (length-map es (λ x. x.0)) inside
 
 some_index : {A : Type 0} (f : ℕ → A) (o : Option ℕ) (a : A) → option_map f o ≡ Some a → (i : ℕ) × (o ≡ Some i) × (a ≡ f i)
 some_index f None a e = absurd (none-some a e)

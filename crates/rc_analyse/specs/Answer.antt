@@ -31,7 +31,7 @@ use Rattle.rc_words.specs.declared.request.Ask.{Ask}
 use Rattle.rc_words.specs.declared.request.Ask.TheVariants.{Routes, Trace, Reach, Sample}
 use Rattle.rc_words.specs.declared.request.Request.{Request}
 use Rattle.rc_analyse.specs.Net.{IsNet}
-use Rattle.rc_analyse.specs.Given.{Given, refused, no_place, ended, Shown, nothing, all_routes, routes_of, walk_of, cubes_of, first_cube_of}
+use Rattle.rc_analyse.specs.Given.{Given, refused, no_place, ended, Shown, nothing, routes_of_all, routes_of, walk_of, cubes_of, first_cube_of}
 use Rattle.rc_analyse.specs.Subject.{subject_of}
 use Rattle.rc_analyse.specs.Texts.{outcome_text, route_count, text_of}
 use Rattle.rc_analyse.specs.declared.findings.Findings.{Findings}
@@ -91,7 +91,7 @@ reaching_set net state q ends = tree (reaching (plane_of net state) q ends)
 -- What is shown of a fixed point, where this is asked: routes, a packet's first walk, the cubes of the headers that reach, or of a made
 -- network its number of routes and the first of the cubes.
 abbrev pub IsShownAtFixed : Network → List RouterState → Subject → Shown → Type 0
-IsShownAtFixed net state AllRouters shown = shown ≡ all_routes
+IsShownAtFixed net state AllRouters shown = shown ≡ routes_of_all
 IsShownAtFixed net state (OneRouter r) shown = shown ≡ routes_of r
 IsShownAtFixed net state (Packet position header) shown = (walk : Walk) × IsFirstWalk (plane_of net state) header position walk × (shown ≡ walk_of walk)
 IsShownAtFixed net state (Packets position ends examples) shown = (walks : List (List Walk))

@@ -10,7 +10,7 @@ use Rattle.rc_walk.specs.declared.walk.Walk.{Walk}
 pub data Shown : Type 0 where
   nothing : Shown
   -- the routes of all routers, or of one
-  all_routes : Shown
+  routes_of_all : Shown
   routes_of : ℕ → Shown
   -- a walk
   walk_of : Walk → Shown

@@ -16,7 +16,7 @@ use Rattle.rc_rounds.specs.declared.outcome.Outcome.TheVariants.{Fixed, Repeats,
 use Rattle.rc_route.specs.declared.state.RouterState.{RouterState}
 use Rattle.rc_words.specs.declared.request.Ask.{Ask}
 use Rattle.rc_words.specs.declared.request.Ask.TheVariants.{Routes, Trace, Reach, Sample}
-use Rattle.rc_analyse.specs.Given.{Given, refused, no_place, ended, Shown, nothing, all_routes, routes_of, walk_of, cubes_of, first_cube_of}
+use Rattle.rc_analyse.specs.Given.{Given, refused, no_place, ended, Shown, nothing, routes_of_all, routes_of, walk_of, cubes_of, first_cube_of}
 use Rattle.rc_analyse.specs.Subject.{place_text}
 
 unfoldable pub usage_text : List ℕ
@@ -69,7 +69,7 @@ routes_line n = codes "routes " ++ decimal n ++ codes "\n"
 
 abbrev pub shown_text : Network → Outcome → Shown → List ℕ
 shown_text net outcome nothing = []
-shown_text net outcome all_routes = routes_after net outcome
+shown_text net outcome routes_of_all = routes_after net outcome
 shown_text net outcome (routes_of r) = routes_of_after net outcome r
 shown_text net outcome (walk_of walk) = walk_text net walk
 shown_text net outcome (cubes_of set examples) = cubes_text net (only false (cubes set)) examples

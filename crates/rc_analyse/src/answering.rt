@@ -129,7 +129,6 @@ fn first_walk(
 }
 
 /// Answers the first walk of a packet at a fixed point.
-#[tactic(auto, using(crate::proofs::AnswerLaws::walk_put))]
 fn answer_walk<S: Sink>(
     alloc: Global,
     request: &Request,
@@ -184,10 +183,10 @@ fn answer_fixed<R: Threads + Sync + AllocGlobal, S: Sink, G: Gate>(
             answer_walk(alloc, request, net, outcome, state, *position, header, out)
         }
         Subject::Packets(position, ends, examples) => answer_packets(
-            rt, request, net, outcome, state, *position, *ends, *examples, out, gate,
+            rt, request, net, outcome, state, position, ends, *examples, out, gate,
         ),
         Subject::Made(position) => {
-            answer_made(rt, request, net, outcome, state, *position, out, gate)
+            answer_made(rt, request, net, outcome, state, position, out, gate)
         }
     }
 }

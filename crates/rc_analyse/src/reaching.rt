@@ -2,10 +2,11 @@
 //!
 //! The table of nodes, the set and the walks of its examples are all made before the first line is put, and a cube takes no memory: so an
 //! answer is written whole, or it lacks something and nothing is.
-ghost use Rattle.std.specs.Prelude.{◌≡◌, ◌++◌, ◌<◌, ◌≤◌, [], true, false, IfOk, length};
+ghost use Rattle.std.specs.Prelude.{◌≡◌, ◌∷◌, ◌++◌, ◌<◌, ◌≤◌, [], true, false, IfOk, length};
 ghost use Rattle.rc_base.specs.declared.ending.Ends.{Ends as EndsModel};
 ghost use Rattle.rc_config.specs.Lawful.{IsLawful, IsPosition};
 ghost use Rattle.rc_cubes.specs.Cubes.{cubes};
+ghost use Rattle.rc_edges.specs.Query.{query_nodes};
 ghost use Rattle.rc_nodes.specs.Seats.{IsKnown, IsSeatOf, Keeps, SeatKnows};
 ghost use Rattle.rc_outside.specs.Causes.{Rose};
 ghost use Rattle.rc_outside.specs.Put.{IsPut};
@@ -51,13 +52,13 @@ fn alone(alloc: Global, walk: Walk) -> Result<Items<Walk>, AllocError>
 fn walks_of(
     alloc: Global,
     plane: &Plane<'_>,
-    position: Pos,
-    ends: Ends,
+    position: &Pos,
+    ends: &Ends,
     header: &Header,
 ) -> Result<Items<Walk>, AllocError>
-    ensures { IfOk result (AreWalksOf plane.now position ends header.now) }
+    ensures { IfOk result (AreWalksOf plane.now position.now ends.now header.now) }
 {
-    let found = shortest(alloc, plane, position, header, ends)?;
+    let found = shortest(alloc, plane, *position, header, *ends)?;
     match found {
         Some(walk) => alone(alloc, walk),
         None => Ok(Items::new(alloc)),
@@ -68,8 +69,8 @@ fn walks_of(
 fn example_walks<M: May>(
     alloc: Global,
     plane: &Plane<'_>,
-    position: Pos,
-    ends: Ends,
+    position: &Pos,
+    ends: &Ends,
     nodes: &Nodes<M>,
     seat: &mut Seat<M>,
     set: Ref,
@@ -79,7 +80,7 @@ fn example_walks<M: May>(
     requires known { IsKnown seat.old set.index }
     ensures seat { IsSeatOf nodes.now seat.new }
     ensures keeps { Keeps seat.old seat.new }
-    ensures walks { IfOk result (λ walks. (t : Tree) → SeatKnows seat.old set.index t → AreExamplesOf plane.now position ends most t walks.items) }
+    ensures walks { IfOk result (λ walks. (t : Tree) → SeatKnows seat.old set.index t → AreExamplesOf plane.now position.now ends.now most t walks.items) }
 {
     let mut walks = Vec::new(alloc);
     let mut cubes = Cubes::new(set);
@@ -90,6 +91,27 @@ fn example_walks<M: May>(
         }
     }
     Ok(walks)
+}
+
+/// A table of so many nodes at most for the query of a plane, with its first seat.
+fn table_for<'a>(
+    alloc: Global,
+    most: u32,
+    plane: &'a Plane<'a>,
+    place: &Pos,
+    ends: &Ends,
+) -> Result<(Nodes<Query<'a>>, Seat<Query<'a>>), AllocError>
+    requires low { 0 < most }
+    requires high { most ≤ 16777216 }
+    ensures seat { IfOk result (λ p. IsSeatOf p.0 p.1) }
+    ensures table { IfOk result (λ p. (p.0.capacity ≡ most) × (p.0.may ≡ query_nodes plane.entry.now place.now ends.now)) }
+{
+    let query = Query {
+        plane,
+        place: *place,
+        ends: *ends,
+    };
+    Nodes::new(alloc, most, &query)
 }
 
 /// What is lacking where a set can't be made.
@@ -116,6 +138,8 @@ fn put_packets<S: Sink, M: May>(
 ) -> Result<(), SinkFault>
     requires seat { IsSeatOf nodes.now seat.old }
     requires known { IsKnown seat.old set.index }
+    ensures seat { IsSeatOf nodes.now seat.new }
+    ensures keeps { Keeps seat.old seat.new }
     ensures put { (t : Tree) → SeatKnows seat.old set.index t → IsPut S.Sink out.old out.new result ((head_text ask.now ++ outcome_line outcome.now) ++ cubes_text net.now (shown false (cubes t)) walks.now) }
 {
     put_front(out, line, ask, outcome)?;
@@ -134,6 +158,8 @@ fn put_summary<S: Sink, M: May>(
 ) -> Result<(), SinkFault>
     requires seat { IsSeatOf nodes.now seat.old }
     requires known { IsKnown seat.old set.index }
+    ensures seat { IsSeatOf nodes.now seat.new }
+    ensures keeps { Keeps seat.old seat.new }
     ensures put { (t : Tree) → SeatKnows seat.old set.index t → IsPut S.Sink out.old out.new result (routes_line routes ++ cubes_text net.now (shown true (cubes t)) []) }
 {
     put_route_count(out, line, routes)?;
@@ -154,6 +180,8 @@ fn put_made<S: Sink, M: May>(
 ) -> Result<(), SinkFault>
     requires seat { IsSeatOf nodes.now seat.old }
     requires known { IsKnown seat.old set.index }
+    ensures seat { IsSeatOf nodes.now seat.new }
+    ensures keeps { Keeps seat.old seat.new }
     ensures put { (t : Tree) → SeatKnows seat.old set.index t → IsPut S.Sink out.old out.new result ((head_text ask.now ++ outcome_line outcome.now) ++ (routes_line routes ++ cubes_text net.now (shown true (cubes t)) [])) }
 {
     put_front(out, line, ask, outcome)?;
@@ -230,44 +258,39 @@ fn write_made<S: Sink, M: May>(
     }
 }
 
-/// Answers which packets reach, over a plane.
-fn packets_over<R: Threads + Sync + AllocGlobal, S: Sink, G: Gate>(
+/// Answers which packets reach, over a plane and in a table.
+fn packets_in<R: Threads + Sync + AllocGlobal, M: May + Send + Sync, S: Sink, G: Gate>(
     rt: &R,
     request: &Request,
     net: &Network,
     outcome: &Outcome,
     state: &State,
     plane: &Plane<'_>,
-    position: Pos,
-    ends: Ends,
+    position: &Pos,
+    ends: &Ends,
     examples: u32,
+    nodes: &Nodes<M>,
+    seat: Seat<M>,
     out: &mut S,
     gate: &G,
 ) -> Status
     requires limits { AreInRange request.now.limits }
     requires lawful { IsLawful net.now }
     requires plane { plane.now ≡ plane_of net.now state.now }
-    requires place { IsPosition net.now position }
-    ensures put { IsPutAtFixed request.now net.now outcome.now state.now (Subject.Packets position ends examples) result (S.told out.old) (S.told out.new) }
+    requires place { IsPosition net.now position.now }
+    requires seat { IsSeatOf nodes.now seat }
+    requires table { (nodes.now.capacity ≡ request.now.limits.nodes) × (nodes.now.may ≡ query_nodes plane.now position.now ends.now) }
+    ensures put { IsPutAtFixed request.now net.now outcome.now state.now (Subject.Packets position.now ends.now examples) result (S.told out.old) (S.told out.new) }
     ensures sink_only { result ≡ Status.Sink → Rose (S.faults out.old) (S.faults out.new) }
     ensures sink_always { S.faults out.old < S.faults out.new → result ≡ Status.Sink }
 {
-    let alloc = rt.alloc();
-    let query = Query {
-        plane,
-        place: position,
-        ends,
-    };
-    let (nodes, seat) = match Nodes::new(alloc, request.limits.nodes, &query) {
-        Ok(both) => both,
-        Err(_) => return Status::Memory,
-    };
+    let _ = state;
     let (mut seat, set) = reach(
         rt,
         plane,
-        position,
-        ends,
-        &nodes,
+        *position,
+        *ends,
+        nodes,
         seat,
         request.limits.workers,
         gate,
@@ -277,17 +300,24 @@ fn packets_over<R: Threads + Sync + AllocGlobal, S: Sink, G: Gate>(
         Err(error) => return lacking(error),
     };
     let walks = match example_walks(
-        alloc, plane, position, ends, &nodes, &mut seat, set, examples,
+        rt.alloc(),
+        plane,
+        position,
+        ends,
+        nodes,
+        &mut seat,
+        set,
+        examples,
     ) {
         Ok(walks) => walks,
         Err(_) => return Status::Memory,
     };
     write_packets(
-        alloc,
+        rt.alloc(),
         &request.ask,
         net,
         outcome,
-        &nodes,
+        nodes,
         &mut seat,
         set,
         walks.as_slice(),
@@ -295,47 +325,73 @@ fn packets_over<R: Threads + Sync + AllocGlobal, S: Sink, G: Gate>(
     )
 }
 
-/// Answers what is shown of a made network, over a plane.
-fn made_over<R: Threads + Sync + AllocGlobal, S: Sink, G: Gate>(
+/// Answers which packets reach, over a plane.
+#[tactic(auto, using(crate::proofs::PutLaws::memory_at_fixed))]
+fn packets_over<R: Threads + Sync + AllocGlobal, S: Sink, G: Gate>(
     rt: &R,
     request: &Request,
     net: &Network,
     outcome: &Outcome,
     state: &State,
     plane: &Plane<'_>,
-    position: Pos,
+    position: &Pos,
+    ends: &Ends,
+    examples: u32,
     out: &mut S,
     gate: &G,
 ) -> Status
     requires limits { AreInRange request.now.limits }
     requires lawful { IsLawful net.now }
     requires plane { plane.now ≡ plane_of net.now state.now }
-    requires place { IsPosition net.now position }
-    ensures put { IsPutAtFixed request.now net.now outcome.now state.now (Subject.Made position) result (S.told out.old) (S.told out.new) }
+    requires place { IsPosition net.now position.now }
+    ensures put { IsPutAtFixed request.now net.now outcome.now state.now (Subject.Packets position.now ends.now examples) result (S.told out.old) (S.told out.new) }
     ensures sink_only { result ≡ Status.Sink → Rose (S.faults out.old) (S.faults out.new) }
     ensures sink_always { S.faults out.old < S.faults out.new → result ≡ Status.Sink }
 {
-    let alloc = rt.alloc();
+    let Ok((nodes, seat)) = table_for(rt.alloc(), request.limits.nodes, &*plane, position, ends)
+    else {
+        return Status::Memory;
+    };
+    packets_in(
+        rt, request, net, outcome, state, &*plane, position, ends, examples, &nodes, seat, out,
+        gate,
+    )
+}
+
+/// Answers what is shown of a made network, over a plane and in a table.
+fn made_in<R: Threads + Sync + AllocGlobal, M: May + Send + Sync, S: Sink, G: Gate>(
+    rt: &R,
+    request: &Request,
+    net: &Network,
+    outcome: &Outcome,
+    state: &State,
+    plane: &Plane<'_>,
+    position: &Pos,
+    nodes: &Nodes<M>,
+    seat: Seat<M>,
+    out: &mut S,
+    gate: &G,
+) -> Status
+    requires limits { AreInRange request.now.limits }
+    requires lawful { IsLawful net.now }
+    requires plane { plane.now ≡ plane_of net.now state.now }
+    requires place { IsPosition net.now position.now }
+    requires seat { IsSeatOf nodes.now seat }
+    requires table { (nodes.now.capacity ≡ request.now.limits.nodes) × (nodes.now.may ≡ query_nodes plane.now position.now arrivals) }
+    ensures put { IsPutAtFixed request.now net.now outcome.now state.now (Subject.Made position.now) result (S.told out.old) (S.told out.new) }
+    ensures sink_only { result ≡ Status.Sink → Rose (S.faults out.old) (S.faults out.new) }
+    ensures sink_always { S.faults out.old < S.faults out.new → result ≡ Status.Sink }
+{
     let routes = match route_count(state) {
         Ok(routes) => routes,
-        Err(_) => return Status::Memory,
-    };
-    let ends = arrivals();
-    let query = Query {
-        plane,
-        place: position,
-        ends,
-    };
-    let (nodes, seat) = match Nodes::new(alloc, request.limits.nodes, &query) {
-        Ok(both) => both,
         Err(_) => return Status::Memory,
     };
     let (mut seat, set) = reach(
         rt,
         plane,
-        position,
-        ends,
-        &nodes,
+        *position,
+        arrivals(),
+        nodes,
         seat,
         request.limits.workers,
         gate,
@@ -345,27 +401,59 @@ fn made_over<R: Threads + Sync + AllocGlobal, S: Sink, G: Gate>(
         Err(error) => return lacking(error),
     };
     write_made(
-        alloc,
+        rt.alloc(),
         &request.ask,
         net,
         outcome,
         routes,
-        &nodes,
+        nodes,
         &mut seat,
         set,
         out,
     )
 }
 
+/// Answers what is shown of a made network, over a plane.
+#[tactic(auto, using(crate::proofs::PutLaws::memory_at_fixed))]
+fn made_over<R: Threads + Sync + AllocGlobal, S: Sink, G: Gate>(
+    rt: &R,
+    request: &Request,
+    net: &Network,
+    outcome: &Outcome,
+    state: &State,
+    plane: &Plane<'_>,
+    position: &Pos,
+    out: &mut S,
+    gate: &G,
+) -> Status
+    requires limits { AreInRange request.now.limits }
+    requires lawful { IsLawful net.now }
+    requires plane { plane.now ≡ plane_of net.now state.now }
+    requires place { IsPosition net.now position.now }
+    ensures put { IsPutAtFixed request.now net.now outcome.now state.now (Subject.Made position.now) result (S.told out.old) (S.told out.new) }
+    ensures sink_only { result ≡ Status.Sink → Rose (S.faults out.old) (S.faults out.new) }
+    ensures sink_always { S.faults out.old < S.faults out.new → result ≡ Status.Sink }
+{
+    let ends = arrivals();
+    let Ok((nodes, seat)) = table_for(rt.alloc(), request.limits.nodes, &*plane, position, &ends)
+    else {
+        return Status::Memory;
+    };
+    made_in(
+        rt, request, net, outcome, state, &*plane, position, &nodes, seat, out, gate,
+    )
+}
+
 /// Answers which packets get from a position to one of some endings, at a fixed point.
+#[tactic(auto, using(crate::proofs::PutLaws::memory_at_fixed))]
 pub(crate) fn answer_packets<R: Threads + Sync + AllocGlobal, S: Sink, G: Gate>(
     rt: &R,
     request: &Request,
     net: &Network,
     outcome: &Outcome,
     state: &State,
-    position: Pos,
-    ends: Ends,
+    position: &Pos,
+    ends: &Ends,
     examples: u32,
     out: &mut S,
     gate: &G,
@@ -373,8 +461,8 @@ pub(crate) fn answer_packets<R: Threads + Sync + AllocGlobal, S: Sink, G: Gate>(
     requires limits { AreInRange request.now.limits }
     requires lawful { IsLawful net.now }
     requires state { IsStateOf (length net.now.routers) state.now }
-    requires place { IsPosition net.now position }
-    ensures put { IsPutAtFixed request.now net.now outcome.now state.now (Subject.Packets position ends examples) result (S.told out.old) (S.told out.new) }
+    requires place { IsPosition net.now position.now }
+    ensures put { IsPutAtFixed request.now net.now outcome.now state.now (Subject.Packets position.now ends.now examples) result (S.told out.old) (S.told out.new) }
     ensures sink_only { result ≡ Status.Sink → Rose (S.faults out.old) (S.faults out.new) }
     ensures sink_always { S.faults out.old < S.faults out.new → result ≡ Status.Sink }
 {
@@ -390,21 +478,22 @@ pub(crate) fn answer_packets<R: Threads + Sync + AllocGlobal, S: Sink, G: Gate>(
 }
 
 /// Answers what is shown of a made network at a fixed point.
+#[tactic(auto, using(crate::proofs::PutLaws::memory_at_fixed))]
 pub(crate) fn answer_made<R: Threads + Sync + AllocGlobal, S: Sink, G: Gate>(
     rt: &R,
     request: &Request,
     net: &Network,
     outcome: &Outcome,
     state: &State,
-    position: Pos,
+    position: &Pos,
     out: &mut S,
     gate: &G,
 ) -> Status
     requires limits { AreInRange request.now.limits }
     requires lawful { IsLawful net.now }
     requires state { IsStateOf (length net.now.routers) state.now }
-    requires place { IsPosition net.now position }
-    ensures put { IsPutAtFixed request.now net.now outcome.now state.now (Subject.Made position) result (S.told out.old) (S.told out.new) }
+    requires place { IsPosition net.now position.now }
+    ensures put { IsPutAtFixed request.now net.now outcome.now state.now (Subject.Made position.now) result (S.told out.old) (S.told out.new) }
     ensures sink_only { result ≡ Status.Sink → Rose (S.faults out.old) (S.faults out.new) }
     ensures sink_always { S.faults out.old < S.faults out.new → result ≡ Status.Sink }
 {

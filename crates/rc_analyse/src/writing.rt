@@ -221,18 +221,18 @@ fn head_parts(ask: &Ask) -> [Part<'static>; 3]
     ensures { flat_map part_text result ≡ head_text ask.now }
 {
     match ask {
-        Ask::Routes { dir: _, router: _ } => [Part::Text(b""); 3],
+        Ask::Routes { dir: _, router: _ } => [Part::Text(b""), Part::Text(b""), Part::Text(b"")],
         Ask::Trace {
             dir: _,
             place: _,
             header: _,
-        } => [Part::Text(b""); 3],
+        } => [Part::Text(b""), Part::Text(b""), Part::Text(b"")],
         Ask::Reach {
             dir: _,
             place: _,
             ends: _,
             examples: _,
-        } => [Part::Text(b""); 3],
+        } => [Part::Text(b""), Part::Text(b""), Part::Text(b"")],
         Ask::Sample { routers } => [
             Part::Text(b"sample "),
             Part::Number(u64::from(*routers)),
