@@ -1,39 +1,67 @@
 -- Without a fault the answer is complete, and plain words are taken.
-use Rattle.std.proofs.Common.{ap, sym, subst, ◌∙◌, ◌≡◌, inl, inr, ℕ, List, Option, Some, None, IfSome}
+use Rattle.std.proofs.Common.{ap, sym, subst, ◌∙◌, ◌≡◌, ◌⊎◌, inl, inr, ℕ, ◌<◌, List, Option, Some, None, IfSome}
+use Rattle.rc_config.specs.declared.network.Network.{Network}
 use Rattle.rc_outside.specs.Folder.{File}
-use Rattle.rc_rounds.specs.declared.outcome.Outcome.TheVariants as ended
+use Rattle.rc_rounds.specs.declared.outcome.Outcome.TheVariants as outcome
 use Rattle.rc_words.specs.Laws.{TakesPlainWords}
 use Rattle.rc_words.specs.Request.{request_of}
 use Rattle.rc_words.specs.declared.request.Request.{Request}
-use Rattle.rc_analyse.specs.Answer.{AreFindings, IsWrittenOrMemory, IsLacking, IsAnswer, IsComplete, IsCompleteWithout, IsTakenWhenPlain, status_of, text_of}
+use Rattle.rc_analyse.specs.Answer.{AreFound, IsWrittenOrMemory, IsLacking, IsLackingFor, IsPutOf, IsAnswer, IsComplete, IsCompleteWithout, IsTakenWhenPlain, status_of}
+use Rattle.rc_analyse.specs.Given.{Given, refused, no_place, ended}
+use Rattle.rc_analyse.specs.Texts.{text_of}
 use Rattle.rc_analyse.specs.declared.findings.Findings.{Findings}
 use Rattle.rc_analyse.specs.declared.findings.Findings.TheVariants as found
 use Rattle.rc_analyse.specs.declared.status.Status.{Status}
-use Rattle.rc_analyse.specs.declared.status.Status.TheVariants.{Source, Sink, Memory}
+use Rattle.rc_analyse.specs.declared.status.Status.TheVariants.{Done, Refused, Usage, Repeats, Limit, Nodes, Source, Sink, Memory, NoPlace}
+
+-- what was found lacks what the run lacks
+lacks : (files : List File) (r : Request) (f : Findings) (answer : Status) → AreFound files r f → IsLackingFor r.limits.nodes f answer → IsLacking files r answer
+lacks files r f Memory are none = tt
+lacks files r f Nodes are more = (f, are, more)
+lacks files r f Done are none = none
+lacks files r f Refused are none = none
+lacks files r f Usage are none = none
+lacks files r f Repeats are none = none
+lacks files r f Limit are none = none
+lacks files r f Source are none = none
+lacks files r f Sink are none = none
+lacks files r f NoPlace are none = none
 
 -- what files give, written, is an answer
 pub answered : (told : Option (List File)) (r : Request) (f : Findings) (answer : Status) (old new : Option (List ℕ))
-    → IfSome told (λ files. AreFindings files r f) → IsWrittenOrMemory (status_of f) (text_of r.ask f) answer old new → IfSome told (λ files. IsAnswer files r answer old new)
+    → IfSome told (λ files. AreFound files r f) → IsPutOf r f answer old new → IfSome told (λ files. IsAnswer files r answer old new)
 answered None r f answer old new are put = tt
-answered (Some files) r f answer old new are (inl written) = inl (f, are, written)
-answered (Some files) r f answer old new are (inr (is, same)) = inr (inr (subst (IsLacking files r) (sym is) tt, same))
+answered (Some files) r f answer old new are (inl (g, gives, written)) = inl (g, record { found = f; are = are; gives = gives }, written)
+answered (Some files) r f answer old new are (inr (lacking, same)) = inr (inr (lacks files r f answer are lacking, same))
 
 -- what files give never has the status of a folder that failed
-given_status : (f : Findings) → ¬ (status_of f ≡ Source)
-given_status (found.Refused refusal) e = cc
-given_status found.NoPlace e = cc
-given_status (found.Ended net (ended.Fixed k state) shown) e = cc
-given_status (found.Ended net (ended.Repeats i k) shown) e = cc
-given_status (found.Ended net (ended.Limit n) shown) e = cc
+given_status : (g : Given) → ¬ (status_of g ≡ Source)
+given_status (refused refusal) e = cc
+given_status no_place e = cc
+given_status (ended net (outcome.Fixed k state) shown) e = cc
+given_status (ended net (outcome.Repeats i k) shown) e = cc
+given_status (ended net (outcome.Limit n) shown) e = cc
 
-pub never_source : (f : Findings) {text : List ℕ} {answer : Status} {old new : Option (List ℕ)} → IsWrittenOrMemory (status_of f) text answer old new → ¬ (answer ≡ Source)
-never_source f (inl (inl (is, put))) e = given_status f (sym is ∙ e)
-never_source f (inl (inr (is, front))) e = let bad : Sink ≡ Source = sym is ∙ e in cc
-never_source f (inr (is, same)) e = let bad : Memory ≡ Source = sym is ∙ e in cc
+lacking_status : (most : ℕ) (f : Findings) (answer : Status) → IsLackingFor most f answer → ¬ (answer ≡ Source)
+lacking_status most f Source lacking e = lacking
+lacking_status most f Memory lacking e = cc
+lacking_status most f Nodes lacking e = cc
+lacking_status most f Done lacking e = cc
+lacking_status most f Refused lacking e = cc
+lacking_status most f Usage lacking e = cc
+lacking_status most f Repeats lacking e = cc
+lacking_status most f Limit lacking e = cc
+lacking_status most f Sink lacking e = cc
+lacking_status most f NoPlace lacking e = cc
+
+pub never_source : (r : Request) (f : Findings) {answer : Status} {old new : Option (List ℕ)} → IsPutOf r f answer old new → ¬ (answer ≡ Source)
+never_source r f (inl (g, gives, inl (is, put))) e = given_status g (sym is ∙ e)
+never_source r f (inl (g, gives, inr (is, front))) e = let bad : Sink ≡ Source = sym is ∙ e in cc
+never_source r f {answer} (inr (lacking, same)) e = lacking_status r.limits.nodes f answer lacking e
 
 complete : (files : List File) (r : Request) (answer : Status) (old new : Option (List ℕ)) → IsAnswer files r answer old new → ¬ (answer ≡ Source) → ¬ (answer ≡ Sink) → IsComplete files r answer old new
-complete files r answer old new (inl (f, are, inl (is, put))) read written = inr (f, are, is, put)
-complete files r answer old new (inl (f, are, inr (is, front))) read written = absurd (written is)
+complete files r answer old new (inl (g, given, inl (is, put))) read written = inr (g, given, is, put)
+complete files r answer old new (inl (g, given, inr (is, front))) read written = absurd (written is)
 complete files r answer old new (inr (inl (is, same))) read written = absurd (read is)
 complete files r answer old new (inr (inr (lacking, same))) read written = inl lacking
 

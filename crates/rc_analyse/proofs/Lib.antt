@@ -4,3 +4,6 @@ mod ReadLaws
 mod RouteLaws
 mod AnswerLaws
 mod OneAnswer
+mod SubjectLaws
+mod PutLaws
+mod ExampleLaws

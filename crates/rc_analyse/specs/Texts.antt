@@ -1,18 +1,23 @@
 -- The texts that are written.
-use Rattle.std.specs.Prelude.{ℕ, List, [], ◌++◌, codes, decimal, flat_map, slice_get}
+use Rattle.std.specs.Prelude.{ℕ, ◌+◌, true, false, List, [], ◌++◌, codes, decimal, flat_map, length, slice_get}
+use Rattle.std.specs.List.{fold}
 use Rattle.std.specs.Option.{option_map_or}
 use Rattle.rc_config.specs.declared.network.Network.{Network}
 use Rattle.rc_config.specs.Members.{router_ids}
 use Rattle.rc_network.specs.Codes.{net_code}
 use Rattle.rc_network.specs.declared.refusal.NetRefusal.{NetRefusal}
 use Rattle.rc_network.specs.declared.refusal.NetRefusal.TheVariants.{InFile, TooManyFiles}
+use Rattle.rc_cubes.specs.Cubes.{cubes}
+use Rattle.rc_report.specs.CubeText.{cubes_text, shown as only}
 use Rattle.rc_report.specs.RouteText.{routes_text}
 use Rattle.rc_report.specs.WalkText.{walk_text}
 use Rattle.rc_rounds.specs.declared.outcome.Outcome.{Outcome}
 use Rattle.rc_rounds.specs.declared.outcome.Outcome.TheVariants.{Fixed, Repeats, Limit}
 use Rattle.rc_route.specs.declared.state.RouterState.{RouterState}
-use Rattle.rc_analyse.specs.declared.findings.Shown.{Shown}
-use Rattle.rc_analyse.specs.declared.findings.Shown.TheVariants.{Nothing, AllRoutes, RoutesOf, WalkOf}
+use Rattle.rc_words.specs.declared.request.Ask.{Ask}
+use Rattle.rc_words.specs.declared.request.Ask.TheVariants.{Routes, Trace, Reach, Sample}
+use Rattle.rc_analyse.specs.Given.{Given, refused, no_place, ended, Shown, nothing, routes_of_all, routes_of, walk_of, cubes_of, first_cube_of}
+use Rattle.rc_analyse.specs.Subject.{place_text}
 
 unfoldable pub usage_text : List ℕ
 usage_text = codes "usage: netcheck routes DIR [--router R]\n"
@@ -55,12 +60,33 @@ routes_of_after net (Fixed k state) r = routes_in net state r
 routes_of_after net (Repeats i k) r = []
 routes_of_after net (Limit n) r = []
 
+-- how many routes the tables of all routers have
+abbrev pub route_count : List RouterState → ℕ
+route_count state = fold (λ n (s : RouterState). n + length s.table) 0 state
+
+unfoldable pub routes_line : ℕ → List ℕ
+routes_line n = codes "routes " ++ decimal n ++ codes "\n"
+
 abbrev pub shown_text : Network → Outcome → Shown → List ℕ
-shown_text net outcome Nothing = []
-shown_text net outcome AllRoutes = routes_after net outcome
-shown_text net outcome (RoutesOf r) = routes_of_after net outcome r
-shown_text net outcome (WalkOf walk) = walk_text net walk
+shown_text net outcome nothing = []
+shown_text net outcome routes_of_all = routes_after net outcome
+shown_text net outcome (routes_of r) = routes_of_after net outcome r
+shown_text net outcome (walk_of walk) = walk_text net walk
+shown_text net outcome (cubes_of set examples) = cubes_text net (only false (cubes set)) examples
+shown_text net outcome (first_cube_of routes set) = routes_line routes ++ cubes_text net (only true (cubes set)) []
+
+-- what stands before the outcome: the size of a made network
+unfoldable pub head_text : Ask → List ℕ
+head_text (Routes dir router) = []
+head_text (Trace dir place header) = []
+head_text (Reach dir place ends examples) = []
+head_text (Sample n) = codes "sample " ++ decimal n ++ codes "\n"
 
 -- the outcome, and what is shown after it
-abbrev pub outcome_text : Network → Outcome → Shown → List ℕ
-outcome_text net outcome shown = outcome_line outcome ++ shown_text net outcome shown
+abbrev pub outcome_text : Ask → Network → Outcome → Shown → List ℕ
+outcome_text ask net outcome shown = head_text ask ++ outcome_line outcome ++ shown_text net outcome shown
+
+abbrev pub text_of : Ask → Given → List ℕ
+text_of ask (refused refusal) = refused_line refusal
+text_of ask no_place = no_place_line (place_text ask)
+text_of ask (ended net outcome shown) = outcome_text ask net outcome shown

@@ -1,18 +1,33 @@
 //! What the words ask for is found and written.
-ghost use Rattle.std.specs.Prelude.{◌≡◌, ◌≢◌, ◌<◌, IfSome};
+ghost use Rattle.std.specs.Prelude.{◌≡◌, ◌≢◌, ◌++◌, ◌<◌, IfOk, IfSome, length};
+ghost use Rattle.rc_config.specs.Lawful.{IsLawful};
 ghost use Rattle.rc_outside.specs.Causes.{Rose};
-ghost use Rattle.rc_words.specs.Request.{AreInRange};
-ghost use Rattle.rc_analyse.specs.Texts.{usage_text};
-ghost use Rattle.rc_analyse.specs.Answer.{IsWrittenOrMemory, IsAnswer, IsCompleteWithout, IsSilent, MayAsk, files_asked, status_of, status_after, text_of};
+ghost use Rattle.rc_route.specs.Tables.{IsStateOf};
+ghost use Rattle.rc_walk.specs.Moves.{plane_of};
+ghost use Rattle.rc_walk.specs.Walks.{IsFirstWalk};
+ghost use Rattle.rc_words.specs.Request.{AreInRange, IsAskInRange};
+ghost use Rattle.rc_analyse.specs.Answer.{IsAnswer, IsCompleteWithout, IsPutAtFixed, IsPutOf, IsSilent, IsWrittenOrMemory, MayAsk, files_asked, status_after};
+ghost use Rattle.rc_analyse.specs.Lines.{lines_text};
+ghost use Rattle.rc_analyse.specs.Sound.{IsSound, IsSoundEnd, StartsIn};
+ghost use Rattle.rc_analyse.specs.Subject.{place_text};
+ghost use Rattle.rc_analyse.specs.Texts.{head_text, no_place_line, outcome_line, refused_line, usage_text};
 
 use crate::Status;
 use crate::findings::{Findings, analyse_folder};
-use crate::writing::{put_findings, put_usage};
+use crate::reaching::{answer_made, answer_packets};
+use crate::subject::Subject;
+use crate::writing::{Lines, put_ended, put_no_place, put_refusal, put_usage};
+use rc_base::{Header, Pos};
+use rc_config::Network;
+use rc_network::NetRefusal;
 use rc_outside::{Folder, Gate, Sink, SourceError};
 use rc_report::Buffer;
 use rc_rounds::Outcome;
+use rc_route::State;
+use rc_topology::Links;
+use rc_walk::{Plane, Walk, trace};
 use rc_words::{Ask, Request};
-use std::alloc::{AllocGlobal, Global};
+use std::alloc::{AllocError, AllocGlobal, Global};
 use std::thread::Threads;
 
 /// Answers words that are not taken.
@@ -31,7 +46,7 @@ pub(crate) fn answer_usage<S: Sink>(alloc: Global, out: &mut S) -> Status
     }
 }
 
-fn status_after(outcome: &Outcome) -> Status
+pub(crate) fn status_after(outcome: &Outcome) -> Status
     ensures { result ≡ status_after outcome.now }
 {
     match outcome {
@@ -41,19 +56,9 @@ fn status_after(outcome: &Outcome) -> Status
     }
 }
 
-fn status_of(found: &Findings) -> Status
-    ensures { result ≡ status_of found.now }
-{
-    match found {
-        Findings::Refused(_) => Status::Refused,
-        Findings::NoPlace => Status::NoPlace,
-        Findings::Ended(_, outcome, _) => status_after(outcome),
-    }
-}
-
-/// Answers what the files of a folder give. All of its memory is taken before the first line is put.
-fn answer_findings<S: Sink>(alloc: Global, ask: &Ask, found: &Findings, out: &mut S) -> Status
-    ensures put { IsWrittenOrMemory (status_of found.now) (text_of ask.now found.now) result (S.told out.old) (S.told out.new) }
+/// Answers a refusal.
+fn answer_refusal<S: Sink>(alloc: Global, refusal: &NetRefusal, out: &mut S) -> Status
+    ensures put { IsWrittenOrMemory Status.Refused (refused_line refusal.now) result (S.told out.old) (S.told out.new) }
     ensures sink_only { result ≡ Status.Sink → Rose (S.faults out.old) (S.faults out.new) }
     ensures sink_always { S.faults out.old < S.faults out.new → result ≡ Status.Sink }
 {
@@ -61,9 +66,180 @@ fn answer_findings<S: Sink>(alloc: Global, ask: &Ask, found: &Findings, out: &mu
         Ok(line) => line,
         Err(_) => return Status::Memory,
     };
-    match put_findings(out, &mut line, ask, found) {
-        Ok(()) => status_of(found),
+    match put_refusal(out, &mut line, refusal) {
+        Ok(()) => Status::Refused,
         Err(_) => Status::Sink,
+    }
+}
+
+/// Answers that there is no such place.
+fn answer_no_place<S: Sink>(alloc: Global, ask: &Ask, out: &mut S) -> Status
+    ensures put { IsWrittenOrMemory Status.NoPlace (no_place_line (place_text ask.now)) result (S.told out.old) (S.told out.new) }
+    ensures sink_only { result ≡ Status.Sink → Rose (S.faults out.old) (S.faults out.new) }
+    ensures sink_always { S.faults out.old < S.faults out.new → result ≡ Status.Sink }
+{
+    let mut line = match Buffer::new(alloc) {
+        Ok(line) => line,
+        Err(_) => return Status::Memory,
+    };
+    match put_no_place(out, &mut line, ask) {
+        Ok(()) => Status::NoPlace,
+        Err(_) => Status::Sink,
+    }
+}
+
+/// Answers an outcome and what follows it line by line.
+fn answer_lines<S: Sink>(
+    alloc: Global,
+    ask: &Ask,
+    net: &Network,
+    outcome: &Outcome,
+    lines: &Lines,
+    out: &mut S,
+) -> Status
+    ensures put { IsWrittenOrMemory (status_after outcome.now) ((head_text ask.now ++ outcome_line outcome.now) ++ lines_text net.now outcome.now lines.now) result (S.told out.old) (S.told out.new) }
+    ensures sink_only { result ≡ Status.Sink → Rose (S.faults out.old) (S.faults out.new) }
+    ensures sink_always { S.faults out.old < S.faults out.new → result ≡ Status.Sink }
+{
+    let mut line = match Buffer::new(alloc) {
+        Ok(line) => line,
+        Err(_) => return Status::Memory,
+    };
+    match put_ended(out, &mut line, ask, net, outcome, lines) {
+        Ok(()) => status_after(outcome),
+        Err(_) => Status::Sink,
+    }
+}
+
+/// The first walk of a packet in a network whose routers know these routes.
+fn first_walk(
+    alloc: Global,
+    net: &Network,
+    state: &State,
+    position: Pos,
+    header: &Header,
+) -> Result<Walk, AllocError>
+    requires lawful { IsLawful net.now }
+    requires state { IsStateOf (length net.now.routers) state.now }
+    ensures { IfOk result (IsFirstWalk (plane_of net.now state.now) header.now position) }
+{
+    let links = Links::of(alloc, net)?;
+    let plane = Plane::of(alloc, net, &links, state)?;
+    trace(alloc, &plane, position, header)
+}
+
+/// Answers the first walk of a packet at a fixed point.
+fn answer_walk<S: Sink>(
+    alloc: Global,
+    request: &Request,
+    net: &Network,
+    outcome: &Outcome,
+    state: &State,
+    position: Pos,
+    header: &Header,
+    out: &mut S,
+) -> Status
+    requires lawful { IsLawful net.now }
+    requires state { IsStateOf (length net.now.routers) state.now }
+    ensures put { IsPutAtFixed request.now net.now outcome.now state.now (Subject.Packet position header.now) result (S.told out.old) (S.told out.new) }
+    ensures sink_only { result ≡ Status.Sink → Rose (S.faults out.old) (S.faults out.new) }
+    ensures sink_always { S.faults out.old < S.faults out.new → result ≡ Status.Sink }
+{
+    match first_walk(alloc, net, state, position, header) {
+        Ok(walk) => answer_lines(alloc, &request.ask, net, outcome, &Lines::WalkOf(walk), out),
+        Err(_) => Status::Memory,
+    }
+}
+
+/// Answers what is asked of a fixed point.
+fn answer_fixed<R: Threads + Sync + AllocGlobal, S: Sink, G: Gate>(
+    rt: &R,
+    request: &Request,
+    net: &Network,
+    outcome: &Outcome,
+    state: &State,
+    subject: &Subject,
+    out: &mut S,
+    gate: &G,
+) -> Status
+    requires limits { AreInRange request.now.limits }
+    requires lawful { IsLawful net.now }
+    requires state { IsStateOf (length net.now.routers) state.now }
+    requires starts { StartsIn net.now subject.now }
+    ensures put { IsPutAtFixed request.now net.now outcome.now state.now subject.now result (S.told out.old) (S.told out.new) }
+    ensures sink_only { result ≡ Status.Sink → Rose (S.faults out.old) (S.faults out.new) }
+    ensures sink_always { S.faults out.old < S.faults out.new → result ≡ Status.Sink }
+{
+    let alloc = rt.alloc();
+    match subject {
+        Subject::AllRouters => {
+            answer_lines(alloc, &request.ask, net, outcome, &Lines::AllRoutes, out)
+        }
+        Subject::OneRouter(router) => {
+            let lines = Lines::RoutesOf(*router);
+            answer_lines(alloc, &request.ask, net, outcome, &lines, out)
+        }
+        Subject::Packet(position, header) => {
+            answer_walk(alloc, request, net, outcome, state, *position, header, out)
+        }
+        Subject::Packets(position, ends, examples) => answer_packets(
+            rt, request, net, outcome, state, position, ends, *examples, out, gate,
+        ),
+        Subject::Made(position) => {
+            answer_made(rt, request, net, outcome, state, position, out, gate)
+        }
+    }
+}
+
+/// Answers what is asked of a network whose rounds have ended.
+fn answer_ended<R: Threads + Sync + AllocGlobal, S: Sink, G: Gate>(
+    rt: &R,
+    request: &Request,
+    net: &Network,
+    outcome: &Outcome,
+    subject: &Subject,
+    out: &mut S,
+    gate: &G,
+) -> Status
+    requires limits { AreInRange request.now.limits }
+    requires sound { IsSoundEnd net.now outcome.now subject.now }
+    ensures put { IsPutOf request.now (Findings.Ended net.now outcome.now subject.now) result (S.told out.old) (S.told out.new) }
+    ensures sink_only { result ≡ Status.Sink → Rose (S.faults out.old) (S.faults out.new) }
+    ensures sink_always { S.faults out.old < S.faults out.new → result ≡ Status.Sink }
+{
+    match outcome {
+        Outcome::Fixed(_, state) => {
+            answer_fixed(rt, request, net, outcome, state, subject, out, gate)
+        }
+        Outcome::Repeats(_, _) => {
+            answer_lines(rt.alloc(), &request.ask, net, outcome, &Lines::Nothing, out)
+        }
+        Outcome::Limit(_) => {
+            answer_lines(rt.alloc(), &request.ask, net, outcome, &Lines::Nothing, out)
+        }
+    }
+}
+
+/// Answers what the files that are asked about were found to be. All of its memory is taken before the first line is put.
+fn answer_findings<R: Threads + Sync + AllocGlobal, S: Sink, G: Gate>(
+    rt: &R,
+    request: &Request,
+    found: &Findings,
+    out: &mut S,
+    gate: &G,
+) -> Status
+    requires limits { AreInRange request.now.limits }
+    requires sound { IsSound found.now }
+    ensures put { IsPutOf request.now found.now result (S.told out.old) (S.told out.new) }
+    ensures sink_only { result ≡ Status.Sink → Rose (S.faults out.old) (S.faults out.new) }
+    ensures sink_always { S.faults out.old < S.faults out.new → result ≡ Status.Sink }
+{
+    match found {
+        Findings::Refused(refusal) => answer_refusal(rt.alloc(), refusal, out),
+        Findings::NoPlace => answer_no_place(rt.alloc(), &request.ask, out),
+        Findings::Ended(net, outcome, subject) => {
+            answer_ended(rt, request, net, outcome, subject, out, gate)
+        }
     }
 }
 
@@ -78,6 +254,7 @@ pub(crate) fn answer_folder<R: Threads + Sync + AllocGlobal, F: Folder, S: Sink,
 ) -> Status
     requires allowed { MayAsk (F.allows folder.old) request.now.ask }
     requires limits { AreInRange request.now.limits }
+    requires ask { IsAskInRange request.now.ask }
     ensures answer { IfSome (files_asked request.now.ask (F.told folder.old)) (λ files. IsAnswer files request.now result (S.told out.old) (S.told out.new)) }
     ensures complete { IfSome (files_asked request.now.ask (F.told folder.old)) (λ files. IsCompleteWithout (Rose (F.faults folder.old) (F.faults folder.new)) (Rose (S.faults out.old) (S.faults out.new)) files request.now result (S.told out.old) (S.told out.new)) }
     ensures never_usage { result ≢ Status.Usage }
@@ -88,7 +265,7 @@ pub(crate) fn answer_folder<R: Threads + Sync + AllocGlobal, F: Folder, S: Sink,
     ensures sink_always { S.faults out.old < S.faults out.new → result ≡ Status.Sink }
 {
     match analyse_folder(rt, request, folder, gate) {
-        Ok(found) => answer_findings(rt.alloc(), &request.ask, &found, out),
+        Ok(found) => answer_findings(rt, request, &found, out, gate),
         Err(SourceError::Failed) => Status::Source,
         Err(SourceError::Memory) => Status::Memory,
     }

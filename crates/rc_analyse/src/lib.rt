@@ -8,12 +8,13 @@ mod answering;
 mod findings;
 mod listing;
 mod loading;
+mod reaching;
 mod runs;
 mod status;
 mod subject;
 mod writing;
 
-pub use findings::{Findings, Shown, one_answer};
+pub use findings::{Findings, one_answer};
 pub use listing::one_listing;
 pub use rc_words::{
     Ask, Limits, PlaceName, Request, WordText, WordsFault, first_word_is_a_command,

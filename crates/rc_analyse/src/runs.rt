@@ -33,21 +33,21 @@ pub fn run<R: Threads + Sync + AllocGlobal, F: Folder, S: Sink, G: Gate>(
 ) -> Status
     requires { IfSome (request_of (map (λ w. w.now) words.now)) (λ r. MayAsk (F.allows folder.old) r.ask) }
 
-    // Words that clap refuses, or in which a place or an address isn't read, get the usage text, and no others do.
+    // Words that clap refuses, or in which a place, an address or an ending isn't read, get the usage text, and no others do.
     ensures usage { IfNone (request_of (map (λ w. w.now) words.now)) (IsWrittenOrMemory Status.Usage usage_text result (S.told out.old) (S.told out.new)) }
     ensures usage_only { result ≡ Status.Usage → IsNone (request_of (map (λ w. w.now) words.now)) }
 
-    // Plain words are taken, with the values that they say and else the defaults, where their place and addresses are read.
+    // Plain words are taken, with the values that they say and else the defaults, where their place, addresses and ending are read.
     ensures plain { IsTakenWhenPlain (map (λ w. w.now) words.now) }
 
     // Where the files are told, the text and the status are those of the first refusal, or of the place that isn't there, or of
-    // the rounds' outcome with the routes or the walk that are asked for.
+    // the rounds' outcome with the routes, the walk or the cubes that are asked for.
     ensures answer { IfSome (request_of (map (λ w. w.now) words.now)) (λ r. IfSome (files_asked r.ask (F.told folder.old)) (λ files. IsAnswer files r result (S.told out.old) (S.told out.new))) }
 
-    // Where reading or memory failed, nothing is written.
+    // Where reading or memory failed, or the table of nodes is too small, nothing is written.
     ensures silent { IsSilent result → S.told out.new ≡ S.told out.old }
 
-    // Without a fault the whole text is written, unless memory runs out.
+    // Without a fault the whole text is written, unless memory runs out or the query needs more different nodes than the table may hold.
     ensures complete { IfSome (request_of (map (λ w. w.now) words.now)) (λ r. IfSome (files_asked r.ask (F.told folder.old)) (λ files.
         IsCompleteWithout (Rose (F.faults folder.old) (F.faults folder.new)) (Rose (S.faults out.old) (S.faults out.new)) files r result (S.told out.old) (S.told out.new))) }
 

@@ -14,6 +14,8 @@ pub enum Status {
     Repeats,
     /// The limit of rounds was reached; the outcome's line is written.
     Limit,
+    /// The query needs more different nodes than its table may hold; nothing is written.
+    Nodes,
     /// The folder failed; nothing is written.
     Source,
     /// The sink failed; a front of the text is written.
@@ -27,7 +29,7 @@ pub enum Status {
 impl Status {
     ghost use Rattle.rc_analyse.specs.Codes.{status_code};
 
-    /// The exit status of the process: 0 to 4, or 6 to 9.
+    /// The exit status of the process: 0 to 9.
     pub fn code(self) -> u8
         ensures { result ≡ status_code self }
     {
@@ -37,6 +39,7 @@ impl Status {
             Status::Usage => 2,
             Status::Repeats => 3,
             Status::Limit => 4,
+            Status::Nodes => 5,
             Status::Source => 6,
             Status::Sink => 7,
             Status::Memory => 8,

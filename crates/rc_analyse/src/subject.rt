@@ -1,8 +1,8 @@
 //! What of a network is asked about.
-ghost use Rattle.std.specs.Prelude.{◌≡◌};
-ghost use Rattle.rc_analyse.specs.Subject.{position_at, position_named, router_of_text, subject_of};
+ghost use Rattle.std.specs.Prelude.{◌≡◌, IfSome, Some};
+ghost use Rattle.rc_analyse.specs.Subject.{position_at, position_named, router_of_text, sample_place, subject_of};
 
-use rc_base::{Header, Name, Pos, RouterId};
+use rc_base::{Ends, Header, Name, Pos, RouterId};
 use rc_config::Network;
 use rc_words::{Ask, PlaceName};
 
@@ -15,6 +15,10 @@ pub enum Subject {
     OneRouter(RouterId),
     /// The walk of a packet with this header from this position.
     Packet(Pos, Header),
+    /// The packets that get from this position to one of these endings, and examples of the first of their cubes, so many.
+    Packets(Pos, Ends, u32),
+    /// A made network: its routes, and the first packets that arrive from this position.
+    Made(Pos),
 }
 
 /// The router that a text names. A text that is no name names none.
@@ -46,6 +50,18 @@ fn position_named(net: &Network, place: &PlaceName) -> Option<Pos>
     position_at(net, router, &place.interface)
 }
 
+/// The text of a place, as names; both fit a name.
+fn sample_place() -> Option<PlaceName>
+    ensures { result ≡ Some sample_place }
+{
+    let router = Name::new(b"r000")?;
+    let interface = Name::new(b"GigabitEthernet0/3")?;
+    Some(PlaceName {
+        router,
+        interface: Some(interface),
+    })
+}
+
 /// What of the network is asked about, or `None` exactly where it has no such router or interface.
 pub(crate) fn subject_of(net: &Network, ask: &Ask) -> Option<Subject>
     ensures { result ≡ subject_of net.now ask.now }
@@ -69,6 +85,20 @@ pub(crate) fn subject_of(net: &Network, ask: &Ask) -> Option<Subject>
         } => {
             let position = position_named(net, place)?;
             Some(Subject::Packet(position, *header))
+        }
+        Ask::Reach {
+            dir: _,
+            place,
+            ends,
+            examples,
+        } => {
+            let position = position_named(net, place)?;
+            Some(Subject::Packets(position, *ends, *examples))
+        }
+        Ask::Sample { routers: _ } => {
+            let place = sample_place()?;
+            let position = position_named(net, &place)?;
+            Some(Subject::Made(position))
         }
     }
 }

@@ -3,11 +3,10 @@ ghost use Rattle.std.specs.Prelude.{◌≡◌, ◌++◌, [], flat_map};
 ghost use Rattle.std.specs.Option.{option_map_or};
 ghost use Rattle.rc_outside.specs.Put.{IsPut};
 ghost use Rattle.rc_report.specs.Parts.{part_text};
-ghost use Rattle.rc_analyse.specs.Texts.{usage_text, refused_line, no_place_line, outcome_line, routes_in, all_routes, routes_after, routes_of_after, shown_text, outcome_text};
-ghost use Rattle.rc_analyse.specs.Subject.{behind_colon, place_text};
-ghost use Rattle.rc_analyse.specs.Answer.{text_of};
+ghost use Rattle.rc_analyse.specs.Lines.{lines_text};
+ghost use Rattle.rc_analyse.specs.Subject.{behind_colon, name_of_place, place_text};
+ghost use Rattle.rc_analyse.specs.Texts.{all_routes, head_text, no_place_line, outcome_line, refused_line, routes_after, routes_in, routes_line, routes_of_after, usage_text};
 
-use crate::{Findings, Shown};
 use rc_base::{FileName, RouterId};
 use rc_config::Network;
 use rc_network::{NetCause, NetRefusal};
@@ -15,6 +14,7 @@ use rc_outside::Sink;
 use rc_report::{Buffer, Part, SinkFault, put_line, put_routes, put_walk};
 use rc_rounds::Outcome;
 use rc_route::State;
+use rc_walk::Walk;
 use rc_words::{Ask, PlaceName, WordText};
 
 /// Puts a line of bytes as they are.
@@ -67,7 +67,7 @@ fn refusal_parts<'a>(file: &'a FileName, line: u64, cause: &NetCause) -> [Part<'
 
 /// Puts the line of a refusal.
 #[tactic(auto, unfolding(crate::specs::Texts::refused_line))]
-fn put_refusal<S: Sink>(
+pub(crate) fn put_refusal<S: Sink>(
     out: &mut S,
     line: &mut Buffer,
     refusal: &NetRefusal,
@@ -185,42 +185,122 @@ fn put_routes_of_after<S: Sink>(
     }
 }
 
+/// What follows an outcome and needs no sets of headers.
+#[derive(Drop)]
+pub enum Lines {
+    Nothing,
+    /// The routes of all routers.
+    AllRoutes,
+    /// The routes of one router.
+    RoutesOf(RouterId),
+    /// The first walk of a packet.
+    WalkOf(Walk),
+}
+
 /// Puts what follows an outcome.
-fn put_shown<S: Sink>(
+fn put_lines<S: Sink>(
     out: &mut S,
     line: &mut Buffer,
     net: &Network,
     outcome: &Outcome,
-    shown: &Shown,
+    lines: &Lines,
 ) -> Result<(), SinkFault>
-    ensures { IsPut S.Sink out.old out.new result (shown_text net.now outcome.now shown.now) }
+    ensures { IsPut S.Sink out.old out.new result (lines_text net.now outcome.now lines.now) }
 {
-    match shown {
-        Shown::Nothing => Ok(()),
-        Shown::AllRoutes => put_routes_after(out, line, net, outcome),
-        Shown::RoutesOf(router) => put_routes_of_after(out, line, net, outcome, *router),
-        Shown::WalkOf(walk) => put_walk(out, line, net, walk),
+    match lines {
+        Lines::Nothing => Ok(()),
+        Lines::AllRoutes => put_routes_after(out, line, net, outcome),
+        Lines::RoutesOf(router) => put_routes_of_after(out, line, net, outcome, *router),
+        Lines::WalkOf(walk) => put_walk(out, line, net, walk),
     }
 }
 
-/// Puts an outcome and what follows it.
-fn put_ended<S: Sink>(
+/// The line of a made network.
+#[tactic(auto, unfolding(crate::specs::Texts::head_text))]
+fn head_parts(ask: &Ask) -> [Part<'static>; 3]
+    ensures { flat_map part_text result ≡ head_text ask.now }
+{
+    match ask {
+        Ask::Routes { dir: _, router: _ } => [Part::Text(b""), Part::Text(b""), Part::Text(b"")],
+        Ask::Trace {
+            dir: _,
+            place: _,
+            header: _,
+        } => [Part::Text(b""), Part::Text(b""), Part::Text(b"")],
+        Ask::Reach {
+            dir: _,
+            place: _,
+            ends: _,
+            examples: _,
+        } => [Part::Text(b""), Part::Text(b""), Part::Text(b"")],
+        Ask::Sample { routers } => [
+            Part::Text(b"sample "),
+            Part::Number(u64::from(*routers)),
+            Part::Text(b"\n"),
+        ],
+    }
+}
+
+/// Puts the line of a made network, and nothing for a folder.
+fn put_head<S: Sink>(out: &mut S, line: &mut Buffer, ask: &Ask) -> Result<(), SinkFault>
+    ensures { IsPut S.Sink out.old out.new result (head_text ask.now) }
+{
+    let parts = head_parts(ask);
+    put_line(out, line, &parts)
+}
+
+/// Puts what comes first where the rounds have ended: a made network's size, and the outcome.
+pub(crate) fn put_front<S: Sink>(
     out: &mut S,
     line: &mut Buffer,
+    ask: &Ask,
+    outcome: &Outcome,
+) -> Result<(), SinkFault>
+    ensures { IsPut S.Sink out.old out.new result (head_text ask.now ++ outcome_line outcome.now) }
+{
+    put_head(out, line, ask)?;
+    put_outcome(out, line, outcome)
+}
+
+/// Puts an outcome and what follows it.
+pub(crate) fn put_ended<S: Sink>(
+    out: &mut S,
+    line: &mut Buffer,
+    ask: &Ask,
     net: &Network,
     outcome: &Outcome,
-    shown: &Shown,
+    lines: &Lines,
 ) -> Result<(), SinkFault>
-    ensures { IsPut S.Sink out.old out.new result (outcome_text net.now outcome.now shown.now) }
+    ensures { IsPut S.Sink out.old out.new result ((head_text ask.now ++ outcome_line outcome.now) ++ lines_text net.now outcome.now lines.now) }
 {
-    put_outcome(out, line, outcome)?;
-    put_shown(out, line, net, outcome, shown)
+    put_front(out, line, ask, outcome)?;
+    put_lines(out, line, net, outcome, lines)
+}
+
+/// Puts the line of the number of routes.
+#[tactic(auto, unfolding(crate::specs::Texts::routes_line))]
+pub(crate) fn put_route_count<S: Sink>(
+    out: &mut S,
+    line: &mut Buffer,
+    routes: u64,
+) -> Result<(), SinkFault>
+    ensures { IsPut S.Sink out.old out.new result (routes_line routes) }
+{
+    put_line(
+        out,
+        line,
+        &[
+            Part::Text(b"routes "),
+            Part::Number(routes),
+            Part::Text(b"\n"),
+        ],
+    )
 }
 
 /// What stands in the line of a place that isn't there, by its names. What it doesn't have is an empty text.
 #[tactic(auto, unfolding(crate::specs::Texts::no_place_line))]
 fn named_parts(place: &PlaceName) -> [Part<'_>; 5]
-    ensures { flat_map part_text result ≡ no_place_line (place.now.router ++ behind_colon place.now.interface) }
+    ensures { flat_map part_text result ≡ no_place_line (name_of_place place.now) }
 {
     match &place.interface {
         None => [
@@ -268,29 +348,30 @@ fn no_place_parts(ask: &Ask) -> [Part<'_>; 5]
             place,
             header: _,
         } => named_parts(place),
+        Ask::Reach {
+            dir: _,
+            place,
+            ends: _,
+            examples: _,
+        } => named_parts(place),
+        Ask::Sample { routers: _ } => [
+            Part::Text(b"no place "),
+            Part::Text(b"r000"),
+            Part::Text(b":"),
+            Part::Text(b"GigabitEthernet0/3"),
+            Part::Text(b"\n"),
+        ],
     }
 }
 
 /// Puts the line of a place that isn't there.
-fn put_no_place<S: Sink>(out: &mut S, line: &mut Buffer, ask: &Ask) -> Result<(), SinkFault>
+pub(crate) fn put_no_place<S: Sink>(
+    out: &mut S,
+    line: &mut Buffer,
+    ask: &Ask,
+) -> Result<(), SinkFault>
     ensures { IsPut S.Sink out.old out.new result (no_place_line (place_text ask.now)) }
 {
     let parts = no_place_parts(ask);
     put_line(out, line, &parts)
-}
-
-/// Puts what the files of a folder give to what is asked.
-pub(crate) fn put_findings<S: Sink>(
-    out: &mut S,
-    line: &mut Buffer,
-    ask: &Ask,
-    found: &Findings,
-) -> Result<(), SinkFault>
-    ensures { IsPut S.Sink out.old out.new result (text_of ask.now found.now) }
-{
-    match found {
-        Findings::Refused(refusal) => put_refusal(out, line, refusal),
-        Findings::NoPlace => put_no_place(out, line, ask),
-        Findings::Ended(net, outcome, shown) => put_ended(out, line, net, outcome, shown),
-    }
 }

@@ -25,6 +25,8 @@ mod ospf_networks;
 #[cfg(test)]
 mod policies;
 #[cfg(test)]
+mod reaching;
+#[cfg(test)]
 mod refusals;
 #[cfg(test)]
 mod routes;

@@ -15,7 +15,7 @@ use Rattle.clap.specs.declared.builder.ValueParser.{ValueParser}
 use Rattle.clap.specs.declared.builder.ValueParser.TheVariants as vp
 use Rattle.clap.proofs.OnLiterals.{clap_on_literals}
 use Rattle.rc_words.specs.App.{netcheck_app}
-use Rattle.rc_words.specs.Plain.{CommandName, routes, trace, command_word, OptionName, router, from, dst, src, proto, sport, dport, rounds, workers, nodes, option_name, same_option, ValueKind, number, text, kind_of, default, options_of, required_of}
+use Rattle.rc_words.specs.Plain.{CommandName, routes, trace, reach, sample, command_word, OptionName, router, from, dst, src, proto, sport, dport, end, examples, rounds, workers, nodes, option_name, same_option, ValueKind, number, text, kind_of, default, options_of, required_of}
 use Rattle.rc_words.proofs.Defaults.{IsDefaulted, defaults_by, looked, or_default}
 use Rattle.rc_words.proofs.KeptValues.{IsOwn, AreOwn}
 use Rattle.rc_words.proofs.PlainWalk.{IsFirst}
@@ -61,10 +61,19 @@ dir_rule = record (new_rule (codes "DIR")) {
   required = true;
 }
 
+abbrev pub count_rule : Rule
+count_rule = record (new_rule (codes "N")) {
+  index = Some 1;
+  action = Some Set;
+  range = Some (record { start_inclusive = 1; end_inclusive = 1 });
+  parser = Some (vp.Unsigned 4 512);
+  required = true;
+}
+
 -- ---- names of options
 
 abbrev all_options : List OptionName
-all_options = router ∷ from ∷ dst ∷ src ∷ proto ∷ sport ∷ dport ∷ rounds ∷ workers ∷ nodes ∷ []
+all_options = router ∷ from ∷ dst ∷ src ∷ proto ∷ sport ∷ dport ∷ end ∷ examples ∷ rounds ∷ workers ∷ nodes ∷ []
 
 abbrev pub IsSmall : ValueKind → Type 0
 IsSmall (number low high) = high < 2 ^ 32
@@ -76,19 +85,22 @@ pub record IsNamed (o : OptionName) : Type 0 where
   pub not_end : bytes_eq (codes "--" ++ option_name o) (45 ∷ 45 ∷ []) ≡ false
   pub own : find (λ a. same_option a o) all_options ≡ Some o
   pub not_dir : bytes_eq (codes "DIR") (option_name o) ≡ false
+  pub not_count : bytes_eq (codes "N") (option_name o) ≡ false
   pub small : IsSmall (kind_of o)
 
 pub named : (o : OptionName) → IsNamed o
-named router = record { long = refl; not_end = refl; own = refl; not_dir = refl; small = tt }
-named from = record { long = refl; not_end = refl; own = refl; not_dir = refl; small = tt }
-named dst = record { long = refl; not_end = refl; own = refl; not_dir = refl; small = tt }
-named src = record { long = refl; not_end = refl; own = refl; not_dir = refl; small = tt }
-named proto = record { long = refl; not_end = refl; own = refl; not_dir = refl; small = lit< tt }
-named sport = record { long = refl; not_end = refl; own = refl; not_dir = refl; small = lit< tt }
-named dport = record { long = refl; not_end = refl; own = refl; not_dir = refl; small = lit< tt }
-named rounds = record { long = refl; not_end = refl; own = refl; not_dir = refl; small = lit< tt }
-named workers = record { long = refl; not_end = refl; own = refl; not_dir = refl; small = lit< tt }
-named nodes = record { long = refl; not_end = refl; own = refl; not_dir = refl; small = lit< tt }
+named router = record { long = refl; not_end = refl; own = refl; not_dir = refl; not_count = refl; small = tt }
+named from = record { long = refl; not_end = refl; own = refl; not_dir = refl; not_count = refl; small = tt }
+named dst = record { long = refl; not_end = refl; own = refl; not_dir = refl; not_count = refl; small = tt }
+named src = record { long = refl; not_end = refl; own = refl; not_dir = refl; not_count = refl; small = tt }
+named proto = record { long = refl; not_end = refl; own = refl; not_dir = refl; not_count = refl; small = lit< tt }
+named sport = record { long = refl; not_end = refl; own = refl; not_dir = refl; not_count = refl; small = lit< tt }
+named dport = record { long = refl; not_end = refl; own = refl; not_dir = refl; not_count = refl; small = lit< tt }
+named end = record { long = refl; not_end = refl; own = refl; not_dir = refl; not_count = refl; small = tt }
+named examples = record { long = refl; not_end = refl; own = refl; not_dir = refl; not_count = refl; small = lit< tt }
+named rounds = record { long = refl; not_end = refl; own = refl; not_dir = refl; not_count = refl; small = lit< tt }
+named workers = record { long = refl; not_end = refl; own = refl; not_dir = refl; not_count = refl; small = lit< tt }
+named nodes = record { long = refl; not_end = refl; own = refl; not_dir = refl; not_count = refl; small = lit< tt }
 
 pub same_is : (a b : OptionName) → option_name a ≡ option_name b → a ≡ b
 same_is a b e =
@@ -225,5 +237,93 @@ trace_is = record {
   required = (trace_options.0, (trace_options.1.0, tt));
   defaults = trace_defaults;
   defaults_pass = trace_defaults_pass;
+  check = λ rows. refl;
+}
+
+-- ---- reach
+
+abbrev pub reach_shape : Shape
+reach_shape = shape_at (codes "reach")
+
+reach_enters : walked whole.top.rules (names_of whole) (walk_from nothing_held) (codes "reach") ≡ gone nothing_held (codes "reach") []
+unfolding clap_on_literals
+reach_enters = refl
+
+reach_enters_well : turn_fault whole.top (names_of whole) (walk_from nothing_held) (codes "reach") ≡ []
+unfolding clap_on_literals
+reach_enters_well = refl
+
+reach_own : AllOf (IsOwn reach_shape.rules) reach_shape.rules
+reach_own = (record { here = refl; set = refl; least = refl; most = refl }, (record { here = refl; set = refl; least = refl; most = refl }, (record { here = refl; set = refl; least = refl; most = refl }, (record { here = refl; set = refl; least = refl; most = refl }, (record { here = refl; set = refl; least = refl; most = refl }, (record { here = refl; set = refl; least = refl; most = refl }, (record { here = refl; set = refl; least = refl; most = refl }, tt)))))))
+
+reach_options : AllOf (IsOption reach_shape.rules) (options_of reach)
+reach_options = (record { long = refl; here = refl; after = λ found. refl }, (record { long = refl; here = refl; after = λ found. refl }, (record { long = refl; here = refl; after = λ found. refl }, (record { long = refl; here = refl; after = λ found. refl }, (record { long = refl; here = refl; after = λ found. refl }, (record { long = refl; here = refl; after = λ found. refl }, tt))))))
+
+reach_defaults : AllOf IsDefaulted reach_shape.rules
+reach_defaults = ((None, refl), ((None, refl), ((None, refl), ((Some (codes "0"), refl), ((Some (codes "1000"), refl), ((Some (codes "4"), refl), ((Some (codes "1048576"), refl), tt)))))))
+
+reach_defaults_pass : AllOf (λ a. given_default_fault a a.defaults ≡ []) reach_shape.rules
+reach_defaults_pass = (refl, (refl, (refl, (refl, (refl, (refl, (refl, tt)))))))
+
+pub reach_is : IsCommand reach dir_rule reach_shape
+reach_is = record {
+  found = refl;
+  name = refl;
+  enters = reach_enters;
+  enters_well = reach_enters_well;
+  once = refl;
+  own = own_by reach_shape.rules reach_own (λ x. refl);
+  first = λ v e. record { single = record { here = refl; set = refl; least = refl; most = refl; passes = e }; place = refl; one = refl; several = refl; trailing = refl };
+  after = λ found. refl;
+  no_default = refl;
+  apart = λ o. (named o).not_dir;
+  options = reach_options;
+  required = (reach_options.0, tt);
+  defaults = reach_defaults;
+  defaults_pass = reach_defaults_pass;
+  check = λ rows. refl;
+}
+
+-- ---- sample
+
+abbrev pub sample_shape : Shape
+sample_shape = shape_at (codes "sample")
+
+sample_enters : walked whole.top.rules (names_of whole) (walk_from nothing_held) (codes "sample") ≡ gone nothing_held (codes "sample") []
+unfolding clap_on_literals
+sample_enters = refl
+
+sample_enters_well : turn_fault whole.top (names_of whole) (walk_from nothing_held) (codes "sample") ≡ []
+unfolding clap_on_literals
+sample_enters_well = refl
+
+sample_own : AllOf (IsOwn sample_shape.rules) sample_shape.rules
+sample_own = (record { here = refl; set = refl; least = refl; most = refl }, (record { here = refl; set = refl; least = refl; most = refl }, (record { here = refl; set = refl; least = refl; most = refl }, (record { here = refl; set = refl; least = refl; most = refl }, tt))))
+
+sample_options : AllOf (IsOption sample_shape.rules) (options_of sample)
+sample_options = (record { long = refl; here = refl; after = λ found. refl }, (record { long = refl; here = refl; after = λ found. refl }, (record { long = refl; here = refl; after = λ found. refl }, tt)))
+
+sample_defaults : AllOf IsDefaulted sample_shape.rules
+sample_defaults = ((None, refl), ((Some (codes "1000"), refl), ((Some (codes "4"), refl), ((Some (codes "1048576"), refl), tt))))
+
+sample_defaults_pass : AllOf (λ a. given_default_fault a a.defaults ≡ []) sample_shape.rules
+sample_defaults_pass = (refl, (refl, (refl, (refl, tt))))
+
+pub sample_is : IsCommand sample count_rule sample_shape
+sample_is = record {
+  found = refl;
+  name = refl;
+  enters = sample_enters;
+  enters_well = sample_enters_well;
+  once = refl;
+  own = own_by sample_shape.rules sample_own (λ x. refl);
+  first = λ v e. record { single = record { here = refl; set = refl; least = refl; most = refl; passes = e }; place = refl; one = refl; several = refl; trailing = refl };
+  after = λ found. refl;
+  no_default = refl;
+  apart = λ o. (named o).not_count;
+  options = sample_options;
+  required = tt;
+  defaults = sample_defaults;
+  defaults_pass = sample_defaults_pass;
   check = λ rows. refl;
 }

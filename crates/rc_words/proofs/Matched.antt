@@ -1,4 +1,4 @@
--- Where clap finds no fault in the words there is a request, with every number in its option's range, but where a place or address text isn't read.
+-- Where clap finds no fault in the words there is a request, with every number in its option's range, but where the text of a place, an address or an ending isn't read.
 use Rattle.std.proofs.Common.{ap, sym, lit<, ◌≡◌, ◌∙◌, Bool, true, false, not, ◌&&◌, ◌||◌, ◌⊎◌, inl, inr, List, [], ◌∷◌, refl, Option, Some, None, codes, find, is_some, true≢false}
 use Rattle.std.specs.Prelude.{option_and_then, option_map}
 use Rattle.std.specs.List.{list_any}
@@ -12,18 +12,20 @@ use Rattle.clap.specs.Words.{subcommand_of, first_of}
 use Rattle.clap.proofs.WalkLemmas.{both}
 use Rattle.rc_base.specs.declared.header.Header.{Header}
 use Rattle.rc_openings.specs.Values.{address_of}
+use Rattle.rc_base.specs.declared.ending.Ends.{Ends}
 use Rattle.rc_words.specs.App.{netcheck_app}
-use Rattle.rc_words.specs.Plain.{CommandName, routes, trace, command_word, from, dst, src, proto, sport, dport, rounds, workers, nodes, limit_options}
-use Rattle.rc_words.specs.Request.{address_at, place_of, place_at, limits_at, header_at, trace_at, request_at, is_read, texts_are_read, AreInRange, IsHeaderInRange, IsAskInRange}
-use Rattle.rc_words.specs.declared.request.Ask.TheVariants.{Routes, Trace}
+use Rattle.rc_words.specs.Endings.{ending_named, endings_of, only}
+use Rattle.rc_words.specs.Plain.{CommandName, routes, trace, reach, sample, command_word, from, dst, src, proto, sport, dport, end, examples, rounds, workers, nodes, limit_options}
+use Rattle.rc_words.specs.Request.{address_at, place_of, place_at, limits_at, header_at, ends_at, trace_at, reach_at, sample_at, request_at, is_read, texts_are_read, AreInRange, IsHeaderInRange, IsAskInRange}
+use Rattle.rc_words.specs.declared.request.Ask.TheVariants.{Routes, Trace, Reach, Sample}
 use Rattle.rc_words.specs.declared.request.Limits.{Limits}
 use Rattle.rc_words.specs.declared.request.PlaceName.{PlaceName}
 use Rattle.rc_words.specs.declared.request.Request.{Request}
-use Rattle.rc_words.proofs.Commands.{IsCommand, IsOption, whole, wanted_ids, dir_rule, rule_for, routes_shape, routes_is, trace_shape, trace_is}
+use Rattle.rc_words.proofs.Commands.{IsCommand, IsOption, whole, wanted_ids, dir_rule, count_rule, rule_for, routes_shape, routes_is, trace_shape, trace_is, reach_shape, reach_is, sample_shape, sample_is}
 use Rattle.rc_words.proofs.Defaults.{IsDefaulted, look, look_all}
 use Rattle.rc_words.proofs.KeptValues.{RowsPass, all_pass, settled_passes, first_none, second_none}
 use Rattle.rc_words.proofs.Rules.{AllOf, find_all, some_of}
-use Rattle.rc_words.proofs.Told.{after, look_option, number_in, given_text, default_text, no_text}
+use Rattle.rc_words.proofs.Told.{after, look_option, number_in, count_in, given_text, default_text, no_text}
 
 -- ---- the parts of a request
 
@@ -83,9 +85,24 @@ routes_told rows h given =
     let no_from : first_of (codes "from") (after routes_shape.rules rows) ≡ None = no_text routes_shape.rules (codes "from") rows d h refl refl in
     let no_dst : first_of (codes "dst") (after routes_shape.rules rows) ≡ None = no_text routes_shape.rules (codes "dst") rows d h refl refl in
     let no_src : first_of (codes "src") (after routes_shape.rules rows) ≡ None = no_text routes_shape.rules (codes "src") rows d h refl refl in
+    let no_end : first_of (codes "end") (after routes_shape.rules rows) ≡ None = no_text routes_shape.rules (codes "end") rows d h refl refl in
     record {
       read = λ _. (record { ask = Routes dir (first_of (codes "router") (after routes_shape.rules rows)); limits = l }, rw (dir_is, l_is), l_in, tt);
-      unread = λ e. let bad : true ≡ false = rw (no_from, no_dst, no_src) at e in absurd (true≢false bad);
+      unread = λ e. let bad : true ≡ false = rw (no_from, no_dst, no_src, no_end) at e in absurd (true≢false bad);
+    }
+
+sample_told : (rows : List Row) → RowsPass sample_shape.rules rows → AreGiven (wanted_ids count_rule sample) (after sample_shape.rules rows) → IsTold (Some (codes "sample", after sample_shape.rules rows))
+sample_told rows h given =
+    let d = sample_is.defaults in
+    let (n, n_is, n_low, n_high) = count_in sample_shape.rules rows refl (look_all sample_shape.rules (codes "N") rows d ∙ sample_is.after (look (codes "N") rows)) h given.0 in
+    let (l, l_is, l_in) = limits_asked sample_shape.rules rows d sample_is.options h in
+    let no_from : first_of (codes "from") (after sample_shape.rules rows) ≡ None = no_text sample_shape.rules (codes "from") rows d h refl refl in
+    let no_dst : first_of (codes "dst") (after sample_shape.rules rows) ≡ None = no_text sample_shape.rules (codes "dst") rows d h refl refl in
+    let no_src : first_of (codes "src") (after sample_shape.rules rows) ≡ None = no_text sample_shape.rules (codes "src") rows d h refl refl in
+    let no_end : first_of (codes "end") (after sample_shape.rules rows) ≡ None = no_text sample_shape.rules (codes "end") rows d h refl refl in
+    record {
+      read = λ _. (record { ask = Sample n; limits = l }, rw (n_is, l_is), l_in, (n_low, n_high));
+      unread = λ e. let bad : true ≡ false = rw (no_from, no_dst, no_src, no_end) at e in absurd (true≢false bad);
     }
 
 then_none : {A B : Type 0} (f : A → Option B) (o : Option A) → ((x : A) → f x ≡ None) → option_and_then f o ≡ None
@@ -99,6 +116,12 @@ unread_none read (Some t) e = elim (read t) as (λ x. is_some x ≡ false → x 
 and_split : (a b : Bool) → (a && b) ≡ false → (a ≡ false) ⊎ (b ≡ false)
 and_split true b e = inr e
 and_split false b e = inl refl
+
+-- where the last of two is read, an unread one is the first
+last_read : (a b : Bool) → b ≡ true → (a && b) ≡ false → a ≡ false
+last_read true true is e = e
+last_read true false is e = absurd (true≢false (sym is))
+last_read false b is e = refl
 
 -- without an address there is no header, and without a header or a place no trace
 no_dst : (rows : List Row) → address_at (codes "dst") rows ≡ None → header_at rows ≡ None
@@ -118,8 +141,8 @@ no_header rows e = rw e (go (place_at (codes "from") rows) (first_of (codes "DIR
 no_place : (rows : List Row) → place_at (codes "from") rows ≡ None → trace_at rows ≡ None
 no_place rows e = rw e (then_none _ (first_of (codes "DIR") rows) (λ x. refl))
 
-trace_unread : (rows : List Row) → texts_are_read (Some (codes "trace", rows)) ≡ false → trace_at rows ≡ None
-trace_unread rows e = elim (and_split (is_read place_of (first_of (codes "from") rows) && is_read address_of (first_of (codes "dst") rows)) (is_read address_of (first_of (codes "src") rows)) e) [
+trace_unread : (rows : List Row) → first_of (codes "end") rows ≡ None → texts_are_read (Some (codes "trace", rows)) ≡ false → trace_at rows ≡ None
+trace_unread rows no_end whole_unread = let e : (is_read place_of (first_of (codes "from") rows) && is_read address_of (first_of (codes "dst") rows) && is_read address_of (first_of (codes "src") rows)) ≡ false = last_read _ (is_read ending_named (first_of (codes "end") rows)) (ap (is_read ending_named) no_end) whole_unread in elim (and_split (is_read place_of (first_of (codes "from") rows) && is_read address_of (first_of (codes "dst") rows)) (is_read address_of (first_of (codes "src") rows)) e) [
   | inl both_unread ↦ elim (and_split (is_read place_of (first_of (codes "from") rows)) (is_read address_of (first_of (codes "dst") rows)) both_unread) [
     | inl place_unread ↦ no_place rows (unread_none place_of (first_of (codes "from") rows) place_unread)
     | inr dst_unread ↦ no_header rows (no_dst rows (unread_none address_of (first_of (codes "dst") rows) dst_unread))
@@ -133,14 +156,60 @@ trace_told rows h given =
     let (dir, dir_is) = argument_asked trace dir_rule trace_shape trace_is rows h given.0 in
     let (place_text, place_is) = given_text trace_shape.rules (codes "from") (rule_for from) rows (look_option trace_shape.rules from rows d trace_is.options.0) refl h given.1.0 in
     let (l, l_is, l_in) = limits_asked trace_shape.rules rows d trace_is.options.1.1.1.1.1.1 h in
+    let no_end : first_of (codes "end") (after trace_shape.rules rows) ≡ None = no_text trace_shape.rules (codes "end") rows d h refl refl in
     record {
       read = λ e.
-          let outer = both _ _ e in
+          let outer = both _ _ (both _ _ e).0 in
           let inner = both _ _ outer.0 in
           let (place, place_at_is) = read_text place_of (first_of (codes "from") (after trace_shape.rules rows)) place_text place_is inner.0 in
           let (header, header_is, header_in) = header_asked trace_shape trace_is rows h given.1.1.0 inner.1 outer.1 in
           (record { ask = Trace dir place header; limits = l }, rw (dir_is, place_at_is, header_is, l_is), l_in, header_in);
-      unread = λ e. ap (option_and_then (λ ask. option_map (λ limits. record { ask = ask; limits = limits }) (limits_at (after trace_shape.rules rows)))) (trace_unread (after trace_shape.rules rows) e);
+      unread = λ e. ap (option_and_then (λ ask. option_map (λ limits. record { ask = ask; limits = limits }) (limits_at (after trace_shape.rules rows)))) (trace_unread (after trace_shape.rules rows) no_end e);
+    }
+
+-- without the endings, or without a place, nothing is asked
+no_place_to_reach : (rows : List Row) → place_at (codes "from") rows ≡ None → reach_at rows ≡ None
+no_place_to_reach rows e = rw e (then_none _ (first_of (codes "DIR") rows) (λ x. refl))
+
+no_ends : (rows : List Row) → ends_at rows ≡ None → reach_at rows ≡ None
+no_ends rows e = rw e (then_none _ (first_of (codes "DIR") rows) (λ x. then_none _ (place_at (codes "from") rows) (λ y. refl)))
+
+ends_read : (o : Option Text) → is_read ending_named o ≡ true → (ends : Ends) × (endings_of o ≡ Some ends)
+ends_read None e = (_, refl)
+ends_read (Some t) e = let (k, is) = some_of (ending_named t) e in (only k, ap (option_map only) is)
+
+ends_unread : (o : Option Text) → is_read ending_named o ≡ false → endings_of o ≡ None
+ends_unread None e = absurd (true≢false e)
+ends_unread (Some t) e = elim (ending_named t) as (λ x. is_some x ≡ false → option_map only x ≡ None) [ None ↦ λ _. refl | Some x ↦ λ f. absurd (true≢false f) ] e
+
+-- no address is an option of `reach`
+reach_unread : (rows : List Row) → first_of (codes "dst") rows ≡ None → first_of (codes "src") rows ≡ None → texts_are_read (Some (codes "reach", rows)) ≡ false → reach_at rows ≡ None
+reach_unread rows no_dst no_src e =
+    let fewer : (is_read place_of (first_of (codes "from") rows) && true && true && is_read ending_named (first_of (codes "end") rows)) ≡ false = rw (no_dst, no_src) at e in
+    by (is_read place_of (first_of (codes "from") rows)) refl (is_read ending_named (first_of (codes "end") rows)) refl fewer
+  where
+    by : (a : Bool) → is_read place_of (first_of (codes "from") rows) ≡ a → (b : Bool) → is_read ending_named (first_of (codes "end") rows) ≡ b → (a && true && true && b) ≡ false → reach_at rows ≡ None
+    by false p b q f = no_place_to_reach rows (unread_none place_of (first_of (codes "from") rows) p)
+    by true p false q f = no_ends rows (ends_unread (first_of (codes "end") rows) q)
+    by true p true q f = absurd (true≢false f)
+
+reach_told : (rows : List Row) → RowsPass reach_shape.rules rows → AreGiven (wanted_ids dir_rule reach) (after reach_shape.rules rows) → IsTold (Some (codes "reach", after reach_shape.rules rows))
+reach_told rows h given =
+    let d = reach_is.defaults in
+    let (dir, dir_is) = argument_asked reach dir_rule reach_shape reach_is rows h given.0 in
+    let (place_text, place_is) = given_text reach_shape.rules (codes "from") (rule_for from) rows (look_option reach_shape.rules from rows d reach_is.options.0) refl h given.1.0 in
+    let (n, n_is, n_low, n_high) = number_in 32 reach_shape.rules examples 0 1000 (codes "0") rows d reach_is.options.1.1.0 h refl refl refl (lit< tt) in
+    let (l, l_is, l_in) = limits_asked reach_shape.rules rows d reach_is.options.1.1.1 h in
+    let no_dst : first_of (codes "dst") (after reach_shape.rules rows) ≡ None = no_text reach_shape.rules (codes "dst") rows d h refl refl in
+    let no_src : first_of (codes "src") (after reach_shape.rules rows) ≡ None = no_text reach_shape.rules (codes "src") rows d h refl refl in
+    record {
+      read = λ e.
+          let outer = both _ _ e in
+          let inner = both _ _ (both _ _ outer.0).0 in
+          let (place, place_at_is) = read_text place_of (first_of (codes "from") (after reach_shape.rules rows)) place_text place_is inner.0 in
+          let (ends, ends_is) = ends_read (first_of (codes "end") (after reach_shape.rules rows)) outer.1 in
+          (record { ask = Reach dir place ends n; limits = l }, rw (dir_is, place_at_is, ends_is, n_is, l_is), l_in, n_high);
+      unread = λ e. ap (option_and_then (λ ask. option_map (λ limits. record { ask = ask; limits = limits }) (limits_at (after reach_shape.rules rows)))) (reach_unread (after reach_shape.rules rows) no_dst no_src e);
     }
 
 -- ---- the command that the words name
@@ -174,7 +243,7 @@ abbrev Tells : Shape → Type 0
 Tells s = (ws : List Text) → level_fault s [] nothing_held ws false [] ≡ [] → IsTold (Some (rows_at s ws))
 
 all_tell : AllOf Tells whole.subs
-all_tell = (level_told routes dir_rule routes_shape routes_is routes_told, (level_told trace dir_rule trace_shape trace_is trace_told, tt))
+all_tell = (level_told routes dir_rule routes_shape routes_is routes_told, (level_told trace dir_rule trace_shape trace_is trace_told, (level_told reach dir_rule reach_shape reach_is reach_told, (level_told sample count_rule sample_shape sample_is sample_told, tt))))
 
 stop_told : (stop : Option (Text × List Text)) → entered_fault whole stop ≡ [] → is_some (entered whole stop) ≡ true → IsTold (entered whole stop)
 stop_told None e there = absurd (true≢false (sym there))

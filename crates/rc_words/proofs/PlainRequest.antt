@@ -16,15 +16,17 @@ use Rattle.clap.specs.Values.{read_as, reading_of}
 use Rattle.clap.specs.Walk.{Row, Rule, Text, has_row, row_text}
 use Rattle.clap.specs.Words.{first_of}
 use Rattle.clap.proofs.WalkLemmas.{both}
+use Rattle.rc_base.specs.declared.ending.Ends.{Ends}
 use Rattle.rc_base.specs.declared.header.Header.{Header}
 use Rattle.rc_openings.specs.Values.{address_of}
-use Rattle.rc_words.specs.Plain.{CommandName, routes, trace, command_word, OptionName, router, from, dst, src, proto, sport, dport, rounds, workers, nodes, option_name, same_option, ValueKind, number, text, kind_of, default, limit_options, options_of, required_of, has_option, Use, IsPlainNumber, IsPlainValue, is_plain_text, is_given, ArePlainUses, ArePlain, option_words, plain_words, text_for, number_for, plain_limits, plain_header, plain_request}
-use Rattle.rc_words.specs.Request.{number_read, number_at, address_at, place_of, place_at, limits_at, header_at, request_at, request_of}
-use Rattle.rc_words.specs.declared.request.Ask.TheVariants.{Trace}
+use Rattle.rc_words.specs.Plain.{CommandName, routes, trace, reach, sample, command_word, OptionName, router, from, dst, src, proto, sport, dport, end, examples, rounds, workers, nodes, option_name, same_option, ValueKind, number, text, kind_of, default, limit_options, options_of, required_of, has_option, Use, IsPlainNumber, IsPlainValue, is_plain_text, is_given, ArePlainUses, ArePlain, option_words, plain_words, text_for, number_for, plain_limits, plain_header, plain_request}
+use Rattle.rc_words.specs.Endings.{endings_of}
+use Rattle.rc_words.specs.Request.{number_read, number_at, address_at, place_of, place_at, limits_at, header_at, ends_at, request_at, request_of}
+use Rattle.rc_words.specs.declared.request.Ask.TheVariants.{Trace, Reach, Sample}
 use Rattle.rc_words.specs.declared.request.Limits.{Limits}
 use Rattle.rc_words.specs.declared.request.PlaceName.{PlaceName}
 use Rattle.rc_words.proofs.Numbers.{IsDigits, digits_are, digits_read, digits_accepted}
-use Rattle.rc_words.proofs.Commands.{IsCommand, IsOption, IsSmall, named, same_is, rule_for, dir_rule, parser_by, wanted_ids, routes_shape, routes_is, trace_shape, trace_is}
+use Rattle.rc_words.proofs.Commands.{IsCommand, IsOption, IsSmall, named, same_is, rule_for, dir_rule, count_rule, parser_by, wanted_ids, routes_shape, routes_is, trace_shape, trace_is, reach_shape, reach_is, sample_shape, sample_is}
 use Rattle.rc_words.proofs.Defaults.{look, look_all, or_default, default_row, defaults_by}
 use Rattle.rc_words.proofs.PlainWalk.{IsSingle, IsOptionWord, IsPlainText, OptionUse, words_of, given, AreUsed, row_for, same_text_eq}
 use Rattle.rc_words.proofs.PlainTaken.{plain_well, plain_rows}
@@ -245,7 +247,7 @@ routes_taken d uses h =
     let dir = ap first_in (argument_found routes dir_rule routes_shape routes_is d refl uses) in
     let one = text_found routes dir_rule routes_shape routes_is d refl uses router routes_is.options.0 in
     let limits = limits_found routes dir_rule routes_shape routes_is d refl uses routes_is.options.1 h.options in
-    words_ask routes dir_rule routes_shape routes_is d refl uses (text_plain d h.folder) h ∙ rw (dir, one, limits)
+    words_ask routes dir_rule routes_shape routes_is d refl uses (text_plain d h.argument) h ∙ rw (dir, one, limits)
 
 -- ---- trace
 
@@ -273,13 +275,49 @@ trace_header d uses p =
 
 trace_taken : (d : Text) (uses : List Use) → ArePlain trace d uses → request_of (plain_words trace d uses) ≡ plain_request trace d uses
 trace_taken d uses h =
-    words_ask trace dir_rule trace_shape trace_is d refl uses (text_plain d h.folder) h
+    words_ask trace dir_rule trace_shape trace_is d refl uses (text_plain d h.argument) h
     ∙ trace_from (after trace_shape.rules (plain_found dir_rule d uses)) d (option_and_then place_of (text_for from uses)) (plain_header uses) (plain_limits uses)
     (ap first_in (argument_found trace dir_rule trace_shape trace_is d refl uses))
     (ap (option_and_then place_of) (text_found trace dir_rule trace_shape trace_is d refl uses from trace_is.options.0))
     (trace_header d uses h.options)
     (limits_found trace dir_rule trace_shape trace_is d refl uses trace_is.options.1.1.1.1.1.1 h.options)
 
+-- ---- reach
+
+reach_from : (rows : List Row) (d : Text) (place : Option PlaceName) (ends : Option Ends) (n : ℕ) (l : Limits) → first_of (codes "DIR") rows ≡ Some d → place_at (codes "from") rows ≡ place → ends_at rows ≡ ends
+    → number_at 32 (codes "examples") rows ≡ Some n → limits_at rows ≡ Some l
+    → request_at (Some (codes "reach", rows)) ≡ option_map (λ ask. record { ask = ask; limits = l }) (option_and_then (λ p. option_map (λ e. Reach d p e n) ends) place)
+reach_from rows d None ends n l dir_is place_is ends_is n_is l_is = rw (dir_is, place_is)
+reach_from rows d (Some p) None n l dir_is place_is ends_is n_is l_is = rw (dir_is, place_is, ends_is)
+reach_from rows d (Some p) (Some e) n l dir_is place_is ends_is n_is l_is = rw (dir_is, place_is, ends_is, n_is, l_is)
+
+reach_taken : (d : Text) (uses : List Use) → ArePlain reach d uses → request_of (plain_words reach d uses) ≡ plain_request reach d uses
+reach_taken d uses h =
+    words_ask reach dir_rule reach_shape reach_is d refl uses (text_plain d h.argument) h
+    ∙ reach_from (after reach_shape.rules (plain_found dir_rule d uses)) d (option_and_then place_of (text_for from uses)) (endings_of (text_for end uses)) (number_for examples uses) (plain_limits uses)
+    (ap first_in (argument_found reach dir_rule reach_shape reach_is d refl uses))
+    (ap (option_and_then place_of) (text_found reach dir_rule reach_shape reach_is d refl uses from reach_is.options.0))
+    (ap endings_of (text_found reach dir_rule reach_shape reach_is d refl uses end reach_is.options.1.0))
+    (value_found reach dir_rule reach_shape reach_is d refl uses 32 examples 0 1000 (codes "0") reach_is.options.1.1.0 refl (lit< tt) refl refl h.options)
+    (limits_found reach dir_rule reach_shape reach_is d refl uses reach_is.options.1.1.1 h.options)
+
+-- ---- sample
+
+sample_from : (rows : List Row) (n : ℕ) (l : Limits) → number_at 32 (codes "N") rows ≡ Some n → limits_at rows ≡ Some l → request_at (Some (codes "sample", rows)) ≡ Some (record { ask = Sample n; limits = l })
+sample_from rows n l n_is l_is = rw (n_is, l_is)
+
+sample_taken : (d : Text) (uses : List Use) → ArePlain sample d uses → request_of (plain_words sample d uses) ≡ plain_request sample d uses
+sample_taken d uses h =
+    let digits = digits_are d h.argument.some h.argument.digits in
+    let pass : value_passes count_rule d ≡ true = digits_accepted 4 512 d digits (lit< tt) h.argument.least h.argument.most in
+    let read : number_read 32 d ≡ Some (digits_value 10 d) = digits_read 32 d digits (lt_of_le_of_lt h.argument.most (lit< tt)) in
+    words_ask sample count_rule sample_shape sample_is d pass uses (digits_plain d digits) h
+    ∙ sample_from (after sample_shape.rules (plain_found count_rule d uses)) (digits_value 10 d) (plain_limits uses)
+    (ap (λ x. option_and_then (number_read 32) (option_and_then row_text x)) (argument_found sample count_rule sample_shape sample_is d pass uses) ∙ read)
+    (limits_found sample count_rule sample_shape sample_is d pass uses sample_is.options h.options)
+
 pub plain_taken : (k : CommandName) (d : Text) (uses : List Use) → ArePlain k d uses → request_of (plain_words k d uses) ≡ plain_request k d uses
 plain_taken routes = routes_taken
 plain_taken trace = trace_taken
+plain_taken reach = reach_taken
+plain_taken sample = sample_taken

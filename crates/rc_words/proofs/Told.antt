@@ -1,5 +1,5 @@
 -- What clap found without a fault: numbers in range, texts that are there, and nothing of what isn't an option.
-use Rattle.std.proofs.Common.{ap, sym, subst, ◌≡◌, ◌∙◌, ℕ, ◌<◌, ◌≤◌, ◌^◌, true, false, List, [], ◌∷◌, refl, Option, Some, None, cond, fold, true≢false, slice_get}
+use Rattle.std.proofs.Common.{ap, sym, subst, ◌≡◌, ◌∙◌, ℕ, ◌<◌, ◌≤◌, ◌^◌, true, false, List, [], ◌∷◌, refl, Option, Some, None, cond, fold, true≢false, slice_get, codes, lit<}
 use Rattle.std.specs.Prelude.{option_and_then}
 use Rattle.std.specs.Str.{bytes_eq}
 use Rattle.std.proofs.lemmas.Slice.Eq.{bytes_eq-Decides}
@@ -10,7 +10,7 @@ use Rattle.clap.specs.Words.{first_of}
 use Rattle.clap.specs.declared.builder.ValueParser.TheVariants as vp
 use Rattle.rc_words.specs.Plain.{OptionName, option_name, number, kind_of, default}
 use Rattle.rc_words.specs.Request.{number_read, number_at}
-use Rattle.rc_words.proofs.Commands.{IsOption, rule_for}
+use Rattle.rc_words.proofs.Commands.{IsOption, rule_for, count_rule}
 use Rattle.rc_words.proofs.Defaults.{IsDefaulted, look, looked, look_all, or_default}
 use Rattle.rc_words.proofs.KeptValues.{RowPasses, RowsPass}
 use Rattle.rc_words.proofs.Numbers.{accepted_number}
@@ -87,6 +87,29 @@ number_in bits c o low high t rows d i h kind is passes small =
     go : (x : Option Row) → look (option_name o) rows ≡ x → HasNumber bits (or_default (rule_for o) (look (option_name o) rows)) low high
     go None e = rw e (default_number bits o low high t kind is passes small)
     go (Some r) e = let (p, same) = found_passes c (option_name o) rows r h e in rw e (given_number bits c o low high r i kind small p same)
+
+-- the number of routers is in its range
+given_count : (c : List Rule) (r : Row) → arg_by_id c (codes "N") ≡ Some count_rule → RowPasses c r → bytes_eq r.id (codes "N") ≡ true → HasNumber 32 (Some r) 4 512
+given_count c r here h same =
+    let found : Some h.rule ≡ Some count_rule = sym (own_rule c (codes "N") r h same) ∙ here in
+    let this : h.rule ≡ count_rule = cc in
+    let passes : value_passes count_rule h.value ≡ true = subst (λ (a : Rule). value_passes a h.value ≡ true) this h.passes in
+    let (n, read, least, most) = accepted_number 32 4 512 h.value (lit< tt) passes in
+    let this_row : r ≡ row_for count_rule h.value = h.is ∙ ap (λ (a : Rule). row_for a h.value) this in
+    let text_is : row_text r ≡ Some h.value = ap row_text this_row in
+    (n, ap (option_and_then (number_read 32)) text_is ∙ read, least, most)
+
+pub count_in : (c : List Rule) (rows : List Row) → arg_by_id c (codes "N") ≡ Some count_rule → look (codes "N") (after c rows) ≡ or_default count_rule (look (codes "N") rows) → RowsPass c rows
+    → is_given (codes "N") (after c rows) ≡ true → Numbered 32 (codes "N") (after c rows) 4 512
+count_in c rows here is h given =
+    let (n, read, least, most) = go (look (codes "N") rows) refl in
+    (n, ap (λ x. option_and_then (number_read 32) (option_and_then row_text x)) is ∙ read, least, most)
+  where
+    go : (x : Option Row) → look (codes "N") rows ≡ x → HasNumber 32 (or_default count_rule (look (codes "N") rows)) 4 512
+    go None e =
+        let nothing : look (codes "N") (after c rows) ≡ None = is ∙ ap (or_default count_rule) e in
+        let bad = rw nothing at given in absurd (true≢false (sym bad))
+    go (Some r) e = let (p, same) = found_passes c (codes "N") rows r h e in rw e (given_count c r here p same)
 
 -- ---- texts
 

@@ -22,6 +22,10 @@ default_option name default = record (text_option name) { defaults = default ∷
 abbrev pub dir_argument : Rule
 dir_argument = record (new_rule (codes "DIR")) { required = true }
 
+-- N: how many routers a made network has
+abbrev pub count_argument : Rule
+count_argument = record (new_rule (codes "N")) { parser = Some (vp.Unsigned 4 512); required = true }
+
 -- the options of every command, behind its own
 abbrev pub with_limits : App → App
 with_limits a = with_rule (with_rule (with_rule a
@@ -42,6 +46,13 @@ with_protocol a = with_rule (with_rule (with_rule a
     (number_option (codes "sport") 0 65535 (codes "0")))
     (number_option (codes "dport") 0 65535 (codes "0"))
 
+-- which packets are asked about: those from a place to an ending
+abbrev pub with_reach : App → App
+with_reach a = with_rule (with_rule (with_rule a
+    (wanted_option (codes "from")))
+    (text_option (codes "end")))
+    (number_option (codes "examples") 0 1000 (codes "0"))
+
 -- a command whose first argument is DIR
 abbrev pub on_folder : Text → App
 on_folder name = with_rule (new_app name) dir_argument
@@ -54,9 +65,21 @@ routes_app = with_limits (with_rule (on_folder (codes "routes")) (text_option (c
 abbrev pub trace_app : App
 trace_app = with_limits (with_protocol (with_addresses (with_rule (on_folder (codes "trace")) (wanted_option (codes "from")))))
 
+-- reach DIR --from PLACE [--end KIND] [--examples N]
+abbrev pub reach_app : App
+reach_app = with_limits (with_reach (on_folder (codes "reach")))
+
+-- sample N
+abbrev pub sample_app : App
+sample_app = with_limits (with_rule (new_app (codes "sample")) count_argument)
+
 -- the words begin with a command's name, one is wanted, and neither `--help`, `-h` nor `help` is one
 abbrev pub with_settings : App → App
 with_settings a = record a { top = record a.top { no_binary_name = true; disable_help_flag = true; disable_help_subcommand = true; subcommand_required = true } }
 
+-- the commands that ask about tables and walks
+abbrev pub tables_app : App
+tables_app = with_subcommand (with_subcommand (with_settings (new_app (codes "netcheck"))) routes_app.top) trace_app.top
+
 abbrev pub netcheck_app : App
-netcheck_app = with_subcommand (with_subcommand (with_settings (new_app (codes "netcheck"))) routes_app.top) trace_app.top
+netcheck_app = with_subcommand (with_subcommand tables_app reach_app.top) sample_app.top

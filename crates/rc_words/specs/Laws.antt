@@ -6,7 +6,7 @@ use Rattle.rc_words.specs.Plain.{CommandName, Use, ArePlain, command_word, plain
 use Rattle.rc_words.specs.Request.{request_of, texts_are_read, AreInRange, IsAskInRange}
 use Rattle.rc_words.specs.declared.request.Request.{Request}
 
--- words make no request where clap refuses them or a place or address text that it found isn't read, and only there
+-- words make no request where clap refuses them or the text of a place, an address or an ending that it found isn't read, and only there
 pub record RefusesAsClap : Type 0 where
   pub refused : (words : List Text) → fault_of netcheck_app words ≢ [] → request_of words ≡ None
   pub unread : (words : List Text) → texts_are_read (subcommand_of netcheck_app words) ≡ false → request_of words ≡ None
@@ -15,7 +15,7 @@ pub record RefusesAsClap : Type 0 where
 abbrev pub KeepsRanges : Type 0
 KeepsRanges = (words : List Text) (r : Request) → request_of words ≡ Some r → AreInRange r.limits × IsAskInRange r.ask
 
--- plain words whose place and addresses are read make the request that they say, and other plain words make none
+-- plain words whose place, addresses and ending are read make the request that they say, and other plain words make none
 abbrev pub TakesPlainWords : Type 0
 TakesPlainWords = (command : CommandName) (dir : Text) (uses : List Use) → ArePlain command dir uses → request_of (plain_words command dir uses) ≡ plain_request command dir uses
 

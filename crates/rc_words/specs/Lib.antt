@@ -3,3 +3,4 @@ pub mod Request
 pub mod Plain
 pub mod Laws
 pub mod Rows
+pub mod Endings

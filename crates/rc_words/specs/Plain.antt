@@ -1,4 +1,4 @@
--- Plain words: a command and its DIR, then options, each with its value as the next word. clap plays no part here.
+-- Plain words: a command and its DIR (or N), then options, each with its value as the next word. clap plays no part here.
 use Rattle.std.specs.Prelude.{◌≡◌, ℕ, ◌<◌, ◌≤◌, Bool, true, false, ◌==◌, not, if◌then◌else◌, List, [], ◌∷◌, ◌++◌, codes, length, Option, Some, None, option_and_then, option_map}
 use Rattle.std.specs.List.{list_all, list_any}
 use Rattle.std.specs.Option.{option_map_or}
@@ -6,9 +6,10 @@ use Rattle.std.specs.Str.{all_ascii_digits, bytes_eq}
 use Rattle.std.specs.Str.Parse.{digits_value}
 use Rattle.rc_base.specs.declared.header.Header.{Header}
 use Rattle.rc_openings.specs.Values.{address_of}
+use Rattle.rc_words.specs.Endings.{endings_of}
 use Rattle.rc_words.specs.Request.{place_of}
 use Rattle.rc_words.specs.declared.request.Ask.{Ask}
-use Rattle.rc_words.specs.declared.request.Ask.TheVariants.{Routes, Trace}
+use Rattle.rc_words.specs.declared.request.Ask.TheVariants.{Routes, Trace, Reach, Sample}
 use Rattle.rc_words.specs.declared.request.Limits.{Limits}
 use Rattle.rc_words.specs.declared.request.Request.{Request}
 
@@ -17,11 +18,15 @@ use Rattle.rc_words.specs.declared.request.Request.{Request}
 pub data CommandName : Type 0 where
   routes : CommandName
   trace : CommandName
+  reach : CommandName
+  sample : CommandName
 
 -- the word that names a command
 abbrev pub command_word : CommandName → List ℕ
 command_word routes = codes "routes"
 command_word trace = codes "trace"
+command_word reach = codes "reach"
+command_word sample = codes "sample"
 
 pub data OptionName : Type 0 where
   router : OptionName
@@ -31,6 +36,8 @@ pub data OptionName : Type 0 where
   proto : OptionName
   sport : OptionName
   dport : OptionName
+  end : OptionName
+  examples : OptionName
   rounds : OptionName
   workers : OptionName
   nodes : OptionName
@@ -44,6 +51,8 @@ option_name src = codes "src"
 option_name proto = codes "proto"
 option_name sport = codes "sport"
 option_name dport = codes "dport"
+option_name end = codes "end"
+option_name examples = codes "examples"
 option_name rounds = codes "rounds"
 option_name workers = codes "workers"
 option_name nodes = codes "nodes"
@@ -64,6 +73,8 @@ kind_of src = text
 kind_of proto = number 0 255
 kind_of sport = number 0 65535
 kind_of dport = number 0 65535
+kind_of end = text
+kind_of examples = number 0 1000
 kind_of rounds = number 1 100000
 kind_of workers = number 1 64
 kind_of nodes = number 16 16777216
@@ -77,6 +88,8 @@ default src = Some (codes "0.0.0.0")
 default proto = Some (codes "0")
 default sport = Some (codes "0")
 default dport = Some (codes "0")
+default end = None
+default examples = Some (codes "0")
 default rounds = Some (codes "1000")
 default workers = Some (codes "4")
 default nodes = Some (codes "1048576")
@@ -88,11 +101,22 @@ limit_options = rounds ∷ workers ∷ nodes ∷ []
 abbrev pub options_of : CommandName → List OptionName
 options_of routes = router ∷ limit_options
 options_of trace = from ∷ dst ∷ src ∷ proto ∷ sport ∷ dport ∷ limit_options
+options_of reach = from ∷ end ∷ examples ∷ limit_options
+options_of sample = limit_options
 
 -- those that have to be given
 abbrev pub required_of : CommandName → List OptionName
 required_of routes = []
 required_of trace = from ∷ dst ∷ []
+required_of reach = from ∷ []
+required_of sample = []
+
+-- what the word behind the command is: a folder, or for `sample` a number of routers
+abbrev pub argument_of : CommandName → ValueKind
+argument_of routes = text
+argument_of trace = text
+argument_of reach = text
+argument_of sample = number 4 512
 
 abbrev pub has_option : OptionName → List OptionName → Bool
 has_option o os = list_any (λ a. same_option a o) os
@@ -129,7 +153,7 @@ ArePlainUses command [] = Unit {0}
 ArePlainUses command (u ∷ us) = (has_option u.option (options_of command) ≡ true) × IsPlainValue (kind_of u.option) u.value × (is_given u.option us ≡ false) × ArePlainUses command us
 
 pub record ArePlain (command : CommandName) (dir : List ℕ) (uses : List Use) : Type 0 where
-  pub folder : is_plain_text dir ≡ true
+  pub argument : IsPlainValue (argument_of command) dir
   pub options : ArePlainUses command uses
   pub required : list_all (λ o. is_given o uses) (required_of command) ≡ true
 
@@ -137,7 +161,7 @@ abbrev pub option_words : List Use → List (List ℕ)
 option_words [] = []
 option_words (u ∷ us) = (codes "--" ++ option_name u.option) ∷ u.value ∷ option_words us
 
--- the command, DIR and the options
+-- the command, its DIR or N, and the options
 abbrev pub plain_words : CommandName → List ℕ → List Use → List (List ℕ)
 plain_words command dir uses = command_word command ∷ dir ∷ option_words uses
 
@@ -163,7 +187,9 @@ plain_header uses = option_and_then (λ to. option_map (λ by. record { dst = to
 abbrev pub plain_ask : CommandName → List ℕ → List Use → Option Ask
 plain_ask routes dir uses = Some (Routes dir (text_for router uses))
 plain_ask trace dir uses = option_and_then (λ place. option_map (λ header. Trace dir place header) (plain_header uses)) (option_and_then place_of (text_for from uses))
+plain_ask reach dir uses = option_and_then (λ place. option_map (λ ends. Reach dir place ends (number_for examples uses)) (endings_of (text_for end uses))) (option_and_then place_of (text_for from uses))
+plain_ask sample dir uses = Some (Sample (digits_value 10 dir))
 
--- what plain words ask for, and nothing where a place or address text isn't read
+-- what plain words ask for, and nothing where the text of a place, an address or an ending isn't read
 abbrev pub plain_request : CommandName → List ℕ → List Use → Option Request
 plain_request command dir uses = option_map (λ ask. record { ask = ask; limits = plain_limits uses }) (plain_ask command dir uses)

@@ -9,9 +9,11 @@ use Rattle.clap.specs.Words.{Kinds, Row, Text, fault_of, subcommand_of, first_of
 use Rattle.rc_base.specs.Name.{name_of}
 use Rattle.rc_base.specs.declared.header.Header.{Header}
 use Rattle.rc_openings.specs.Values.{address_of}
+use Rattle.rc_base.specs.declared.ending.Ends.{Ends}
 use Rattle.rc_words.specs.App.{netcheck_app}
+use Rattle.rc_words.specs.Endings.{ending_named, endings_of}
 use Rattle.rc_words.specs.declared.request.Ask.{Ask}
-use Rattle.rc_words.specs.declared.request.Ask.TheVariants.{Routes, Trace}
+use Rattle.rc_words.specs.declared.request.Ask.TheVariants.{Routes, Trace, Reach, Sample}
 use Rattle.rc_words.specs.declared.request.Limits.{Limits}
 use Rattle.rc_words.specs.declared.request.PlaceName.{PlaceName}
 use Rattle.rc_words.specs.declared.request.Request.{Request}
@@ -64,9 +66,26 @@ routes_at rows = option_map (λ dir. Routes dir (first_of (codes "router") rows)
 abbrev pub trace_at : List Row → Option Ask
 trace_at rows = option_and_then (λ dir. option_and_then (λ place. option_map (λ header. Trace dir place header) (header_at rows)) (place_at (codes "from") rows)) (first_of (codes "DIR") rows)
 
+abbrev pub ends_at : List Row → Option Ends
+ends_at rows = endings_of (first_of (codes "end") rows)
+
+-- what is asked by `reach`
+abbrev pub reach_at : List Row → Option Ask
+reach_at rows = option_and_then (λ dir. option_and_then (λ place. option_and_then (λ ends. option_map (λ examples. Reach dir place ends examples)
+    (number_at 32 (codes "examples") rows)) (ends_at rows)) (place_at (codes "from") rows)) (first_of (codes "DIR") rows)
+
+-- what is asked by `sample`
+abbrev pub sample_at : List Row → Option Ask
+sample_at rows = option_map Sample (number_at 32 (codes "N") rows)
+
 -- what is asked by the command of this name
 abbrev pub ask_at : Text → List Row → Option Ask
-ask_at name rows = if bytes_eq name (codes "routes") then routes_at rows else if bytes_eq name (codes "trace") then trace_at rows else None
+ask_at name rows =
+    if bytes_eq name (codes "routes") then routes_at rows
+    else if bytes_eq name (codes "trace") then trace_at rows
+    else if bytes_eq name (codes "reach") then reach_at rows
+    else if bytes_eq name (codes "sample") then sample_at rows
+    else None
 
 -- the request of a command's name and what clap found for it
 abbrev pub request_at : Option (Text × List Row) → Option Request
@@ -78,7 +97,7 @@ abbrev pub without_fault : Kinds → Option Request → Option Request
 without_fault [] found = found
 without_fault (kind ∷ kinds) found = None
 
--- the request of the values that clap finds in the words, and none where it refuses them or a place or address text isn't read
+-- the request of the values that clap finds in the words, and none where it refuses them or the text of a place, an address or an ending isn't read
 unfoldable pub request_of : List Text → Option Request
 request_of words = without_fault (fault_of netcheck_app words) (request_at (subcommand_of netcheck_app words))
 
@@ -88,10 +107,11 @@ request_of words = without_fault (fault_of netcheck_app words) (request_at (subc
 abbrev pub is_read : {A : Type 0} → (Text → Option A) → Option Text → Bool
 is_read read found = option_map_or (λ text. is_some (read text)) found true
 
--- the place and address texts that clap found are read
+-- the texts of places, addresses and endings that clap found are read
 abbrev pub texts_are_read : Option (Text × List Row) → Bool
 texts_are_read None = true
 texts_are_read (Some (name, rows)) = is_read place_of (first_of (codes "from") rows) && is_read address_of (first_of (codes "dst") rows) && is_read address_of (first_of (codes "src") rows)
+    && is_read ending_named (first_of (codes "end") rows)
 
 -- every number that bounds a run is in its option's range
 pub record AreInRange (limits : Limits) : Type 0 where
@@ -111,3 +131,5 @@ pub record IsHeaderInRange (header : Header) : Type 0 where
 abbrev pub IsAskInRange : Ask → Type 0
 IsAskInRange (Routes dir router) = Unit {0}
 IsAskInRange (Trace dir place header) = IsHeaderInRange header
+IsAskInRange (Reach dir place ends examples) = examples ≤ 1000
+IsAskInRange (Sample routers) = (4 ≤ routers) × (routers ≤ 512)

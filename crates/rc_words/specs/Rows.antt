@@ -57,7 +57,7 @@ routes_uses = record { option = nodes; value = codes "16" } ∷ record { option 
 
 pub whole_routes : ArePlain routes (codes "d") routes_uses
 whole_routes = record {
-  folder = refl;
+  argument = refl;
   options = (
     refl,
     record { some = lit< tt; digits = refl; least = lit≤ tt; most = lit≤ tt },
@@ -96,7 +96,7 @@ abbrev trace_uses : List Use
 trace_uses = record { option = src; value = codes "0.0.1.0" } ∷ record { option = dst; value = codes "0.0.0.9" } ∷ record { option = from; value = codes "R1:e0" } ∷ []
 
 pub some_trace : ArePlain trace (codes "d") trace_uses
-some_trace = record { folder = refl; options = (refl, refl, refl, (refl, refl, refl, (refl, refl, refl, tt))); required = refl }
+some_trace = record { argument = refl; options = (refl, refl, refl, (refl, refl, refl, (refl, refl, refl, tt))); required = refl }
 
 pub numbers_of_trace : list_all (λ o. has_option o (options_of trace)) (proto ∷ sport ∷ dport ∷ rounds ∷ workers ∷ nodes ∷ []) ≡ true
 numbers_of_trace = refl

@@ -2,7 +2,7 @@
 ghost use Rattle.std.specs.Prelude.{◌≡◌, false, codes, IfOk};
 ghost use Rattle.clap.specs.Words.{app_of, rule_of, new_app, with_subcommand};
 ghost use Rattle.clap.specs.declared.builder.command.Command.TheViews.{out-Command};
-ghost use Rattle.rc_words.specs.App.{number_option, text_option, wanted_option, default_option, dir_argument, with_limits, with_addresses, with_protocol, on_folder, routes_app, trace_app, with_settings, netcheck_app};
+ghost use Rattle.rc_words.specs.App.{number_option, text_option, wanted_option, default_option, dir_argument, count_argument, with_limits, with_addresses, with_protocol, with_reach, on_folder, routes_app, trace_app, reach_app, sample_app, with_settings, tables_app, netcheck_app};
 
 use clap::builder::ValueParser;
 use clap::{Arg, Command};
@@ -50,6 +50,15 @@ fn folder_argument<'a>(alloc: Global) -> Arg<'a>
     ensures local { result.global ≡ false }
 {
     Arg::new(alloc, "DIR").required(true)
+}
+
+fn count_of_routers<'a>(alloc: Global) -> Arg<'a>
+    ensures rule { rule_of result ≡ count_argument }
+    ensures local { result.global ≡ false }
+{
+    Arg::new(alloc, "N")
+        .value_parser(ValueParser::Unsigned(4, 512))
+        .required(true)
 }
 
 // The options of every command, behind its own.
@@ -111,6 +120,34 @@ fn trace_command<'a>(alloc: Global) -> Result<Command<'a>, AllocError>
     limited(alloc, command)
 }
 
+// Which packets are asked about: those from a place to an ending.
+fn reaching<'a>(alloc: Global, command: Command<'a>) -> Result<Command<'a>, AllocError>
+    requires { (out-Command command).has_globals ≡ false }
+    ensures app { IfOk result (λ c. app_of c ≡ with_reach (app_of command.entry)) }
+    ensures local { IfOk result (λ c. (out-Command c).has_globals ≡ false) }
+{
+    command
+        .arg(required_option(alloc, "from"))?
+        .arg(plain_option(alloc, "end"))?
+        .arg(limit_option(alloc, "examples", 0, 1000, "0"))
+}
+
+fn reach_command<'a>(alloc: Global) -> Result<Command<'a>, AllocError>
+    ensures app { IfOk result (λ c. app_of c ≡ reach_app) }
+    ensures local { IfOk result (λ c. (out-Command c).has_globals ≡ false) }
+{
+    let command = reaching(alloc, folder_command(alloc, "reach")?)?;
+    limited(alloc, command)
+}
+
+fn sample_command<'a>(alloc: Global) -> Result<Command<'a>, AllocError>
+    ensures app { IfOk result (λ c. app_of c ≡ sample_app) }
+    ensures local { IfOk result (λ c. (out-Command c).has_globals ≡ false) }
+{
+    let command = Command::new(alloc, "sample").arg(count_of_routers(alloc))?;
+    limited(alloc, command)
+}
+
 // The words begin with a command's name, and there is no help to ask for.
 fn settings<'a>(alloc: Global) -> Command<'a>
     ensures app { app_of result ≡ with_settings (new_app (codes "netcheck")) }
@@ -133,10 +170,20 @@ fn with_command<'a>(command: Command<'a>, below: Command<'a>) -> Result<Command<
     command.subcommand(below)
 }
 
+// The commands that ask about tables and walks.
+fn table_commands<'a>(alloc: Global) -> Result<Command<'a>, AllocError>
+    ensures app { IfOk result (λ c. app_of c ≡ tables_app) }
+    ensures local { IfOk result (λ c. (out-Command c).has_globals ≡ false) }
+{
+    let command = with_command(settings(alloc), routes_command(alloc)?)?;
+    with_command(command, trace_command(alloc)?)
+}
+
 /// The whole command line.
 pub(crate) fn netcheck_command<'a>(alloc: Global) -> Result<Command<'a>, AllocError>
     ensures { IfOk result (λ c. app_of c ≡ netcheck_app) }
 {
-    let command = with_command(settings(alloc), routes_command(alloc)?)?;
-    with_command(command, trace_command(alloc)?)
+    let command = table_commands(alloc)?;
+    let command = with_command(command, reach_command(alloc)?)?;
+    with_command(command, sample_command(alloc)?)
 }

@@ -1,7 +1,8 @@
 //! Laws of the request that words make.
 ghost use Rattle.rc_words.specs.Laws.{RefusesAsClap, BeginsWithCommand, KeepsRanges, TakesPlainWords};
 
-/// Words make no request exactly where clap finds a fault in them, or a place or address text that it finds isn't read.
+/// Words make no request exactly where clap finds a fault in them, or the text of a place, an
+/// address or an ending that it finds isn't read.
 pub fn refused_as_by_clap()
     ensures { RefusesAsClap }
 {}
@@ -17,7 +18,7 @@ pub fn numbers_are_in_range()
 {}
 
 /// Plain words make the request that they say: each option that is given has its number or text, and each other its
-/// default. Where a place or address text isn't read they make none.
+/// default. Where the text of a place, an address or an ending isn't read they make none.
 pub fn plain_words_are_taken()
     ensures { TakesPlainWords }
 {}

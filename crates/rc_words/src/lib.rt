@@ -1,16 +1,18 @@
 //! The words of the command line: what is asked for, read by the kit's crate `clap`.
 //!
 //! It stands on `rc_base` and `rc_openings`. The layer above may know that words are usage exactly where clap refuses the
-//! public command `netcheck_app` or a place or address text isn't read, and else the request of its matches, with every
+//! public command `netcheck_app` or the text of a place, an address or an ending isn't read, and else the request of its matches, with every
 //! number in its option's range; and that plain words, which `plain_words` writes, make what they say, and else the
 //! defaults.
 #![tactic(auto)]
 
 mod app;
+mod endings;
 mod laws;
 mod reading;
 mod request;
 
+pub use endings::arrivals;
 pub use laws::{
     first_word_is_a_command, numbers_are_in_range, plain_words_are_taken, refused_as_by_clap,
 };

@@ -3,13 +3,14 @@ ghost use Rattle.std.specs.Prelude.{◌≡◌, ◌≢◌, ◌<◌, ◌==◌, [],
 ghost use Rattle.std.specs.List.{position};
 ghost use Rattle.clap.specs.Words.{fault_of, kind_of, subcommand_of, subcommand_rows_of, found_of, rows_of, first_of};
 ghost use Rattle.rc_words.specs.App.{netcheck_app};
-ghost use Rattle.rc_words.specs.Request.{place_cut, place_of, number_at, address_at, place_at, limits_at, header_at, routes_at, trace_at, ask_at, request_at, request_of, AreInRange};
+ghost use Rattle.rc_words.specs.Request.{place_cut, place_of, number_at, address_at, place_at, limits_at, header_at, ends_at, routes_at, trace_at, reach_at, sample_at, ask_at, request_at, request_of, AreInRange, IsAskInRange};
 
 use crate::app::netcheck_command;
+use crate::endings::endings_in;
 use crate::request::{Ask, Limits, PlaceName, Request, WordText, WordsFault};
 use clap::error::ErrorKind;
 use clap::{ArgMatches, Error};
-use rc_base::{Addr, Header, Name};
+use rc_base::{Addr, Ends, Header, Name};
 use rc_openings::word_addr;
 use std::alloc::Global;
 
@@ -92,6 +93,13 @@ fn place_given(found: &ArgMatches, name: &str) -> Option<PlaceName>
         Some(text) => place_in(text.as_bytes()),
         None => None,
     }
+}
+
+// The endings that are asked for.
+fn ends_given(found: &ArgMatches) -> Option<Ends>
+    ensures { result ≡ ends_at (rows_of (found_of found.now)) }
+{
+    endings_in(text_given(found, "end"))
 }
 
 fn limits_given(found: &ArgMatches) -> Option<Limits>
@@ -177,6 +185,41 @@ fn trace_given(alloc: Global, found: &ArgMatches) -> Result<Ask, WordsFault>
     Ok(Ask::Trace { dir, place, header })
 }
 
+fn reach_given(alloc: Global, found: &ArgMatches) -> Result<Ask, WordsFault>
+    ensures taken { IfOk result (λ ask. reach_at (rows_of (found_of found.now)) ≡ Some ask) }
+    ensures usage { result ≡ Err WordsFault.Usage → reach_at (rows_of (found_of found.now)) ≡ None }
+{
+    let Some(dir) = text_given(found, "DIR") else {
+        return Err(WordsFault::Usage);
+    };
+    let Some(place) = place_given(found, "from") else {
+        return Err(WordsFault::Usage);
+    };
+    let Some(ends) = ends_given(found) else {
+        return Err(WordsFault::Usage);
+    };
+    let Some(examples) = number_given(found, "examples") else {
+        return Err(WordsFault::Usage);
+    };
+    let dir = kept(alloc, dir)?;
+    Ok(Ask::Reach {
+        dir,
+        place,
+        ends,
+        examples,
+    })
+}
+
+fn sample_given(found: &ArgMatches) -> Result<Ask, WordsFault>
+    ensures taken { IfOk result (λ ask. sample_at (rows_of (found_of found.now)) ≡ Some ask) }
+    ensures usage { result ≡ Err WordsFault.Usage → sample_at (rows_of (found_of found.now)) ≡ None }
+{
+    let Some(routers) = number_given(found, "N") else {
+        return Err(WordsFault::Usage);
+    };
+    Ok(Ask::Sample { routers })
+}
+
 // What the command of this name asks.
 fn ask_given(alloc: Global, name: &str, found: &ArgMatches) -> Result<Ask, WordsFault>
     ensures taken { IfOk result (λ ask. ask_at name.now (rows_of (found_of found.now)) ≡ Some ask) }
@@ -186,6 +229,10 @@ fn ask_given(alloc: Global, name: &str, found: &ArgMatches) -> Result<Ask, Words
         routes_given(alloc, found)
     } else if name == "trace" {
         trace_given(alloc, found)
+    } else if name == "reach" {
+        reach_given(alloc, found)
+    } else if name == "sample" {
+        sample_given(found)
     } else {
         Err(WordsFault::Usage)
     }
@@ -199,10 +246,10 @@ fn request_given(alloc: Global, matches: &ArgMatches) -> Result<Request, WordsFa
     let Some((name, found)) = matches.subcommand() else {
         return Err(WordsFault::Usage);
     };
+    let ask = ask_given(alloc, name, found)?;
     let Some(limits) = limits_given(found) else {
         return Err(WordsFault::Usage);
     };
-    let ask = ask_given(alloc, name, found)?;
     Ok(Request { ask, limits })
 }
 
@@ -238,6 +285,7 @@ pub fn request_of_words(alloc: Global, words: &[&str]) -> Result<Request, WordsF
     ensures taken { IfOk result (λ r. request_of (map (λ w. w.now) words.now) ≡ Some r) }
     ensures usage { result ≡ Err WordsFault.Usage → request_of (map (λ w. w.now) words.now) ≡ None }
     ensures in_range { IfOk result (λ r. AreInRange r.limits) }
+    ensures ask { IfOk result (λ r. IsAskInRange r.ask) }
 {
     match matches_of_words(alloc, words) {
         Ok(matches) => request_given(alloc, &matches),

@@ -1,7 +1,7 @@
 //! What is asked for.
 ghost use Rattle.std.specs.Prelude.{◌≡◌, IfOk, string_bytes};
 
-use rc_base::{Header, Name};
+use rc_base::{Ends, Header, Name};
 use std::alloc::{AllocError, Global};
 use std::marker::Model;
 
@@ -75,6 +75,22 @@ pub enum Ask {
         place: PlaceName,
         /// What the packet's header says.
         header: Header,
+    },
+    /// Which packets get from a place of a folder's network to an ending.
+    Reach {
+        /// Where the configurations stand.
+        dir: WordText,
+        /// Where the packets start.
+        place: PlaceName,
+        /// The endings that are asked for.
+        ends: Ends,
+        /// How many cubes get an example, from 0 to 1000; 0 where nothing is said.
+        examples: u32,
+    },
+    /// What a made network of so many routers gives. No folder is asked.
+    Sample {
+        /// How many routers it has, from 4 to 512.
+        routers: u32,
     },
 }
 

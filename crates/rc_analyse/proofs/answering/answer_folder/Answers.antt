@@ -12,5 +12,5 @@ returns-in-Ok-clause-complete g c =
     let told = files_asked c.args.request.now.ask (g.F.Folder.told c.args.folder.now) in
     complete_where_told told c.args.request.now c.answer_findings.result (g.S.Sink.told c.args.out.now) (g.S.Sink.told c.answer_findings.new.out)
     (answered told c.args.request.now c.in-Ok.found c.answer_findings.result (g.S.Sink.told c.args.out.now) (g.S.Sink.told c.answer_findings.new.out) c.in-Ok.ensures.findings c.answer_findings.ensures.put)
-    (λ e. absurd (never_source c.in-Ok.found c.answer_findings.ensures.put e))
+    (λ e. absurd (never_source c.args.request.now c.in-Ok.found c.answer_findings.ensures.put e))
     c.answer_findings.ensures.sink_only

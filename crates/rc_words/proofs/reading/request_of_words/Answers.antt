@@ -27,3 +27,8 @@ returns-in-Err-clause-usage c = λ e.
     let words : List Text = map {A = Bor Text} {B = Text} (λ w. w.now) c.args.words.now in
     let fault_is : c.in-Err.fault ≡ Usage = cc in
     when_refused words (c.matches_of_words.ensures.usage (c.in-Err.is ∙ ap Err fault_is))
+
+pub returns-in-Ok-clause-ask : goal.returns-in-Ok-clause-ask
+returns-in-Ok-clause-ask c =
+    let words : List Text = map {A = Bor Text} {B = Text} (λ w. w.now) c.args.words.now in
+    IfOk-weaker c.request_given.result _ _ (λ r h. (kept_in_range words r (when_taken words c.in-Ok.ensures.taken ∙ ap request_at (sym c.in-Ok.ensures.rows) ∙ h)).1) c.request_given.ensures.taken
