@@ -4,9 +4,21 @@
 //! the headers that have such a move, that a query's result holds exactly those that reach, and which trees a query makes.
 #![tactic(auto)]
 
+mod destinations;
+mod edges;
+mod endings;
+mod groups;
 mod laws;
+mod making;
+mod neighbors;
 mod preparing;
 mod query;
+mod router_sets;
+mod rows;
+mod sent;
+mod share;
+mod sharing;
+mod stops;
 
 pub use laws::{
     a_result_is_reduced, a_result_is_what_reaches, an_edge_is_a_move, an_ending_is_a_move,

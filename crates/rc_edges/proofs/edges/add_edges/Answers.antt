@@ -1,0 +1,24 @@
+use Rattle.std.proofs.Common.{◌≡◌, ap, sym, ◌∙◌, ◌≤◌, length, take, arith}
+use Rattle.rc_config.specs.Members.{positions}
+use Rattle.rc_edges.proofs.JoinLaws.{take-whole}
+use Rattle.rc_edges.proofs.RowLaws.{row_like}
+use Rattle.rc_edges.proofs.TargetLaws.{all_given}
+use Rattle.rc_edges.specs.Edges.{edge, union}
+use Rattle.rc_edges.specs.Given.{given_by, joined}
+use Rattle.rc_edges.specs.Sent.{hops_at}
+use Rattle.rc_places.specs.Places.{position_at}
+use Rattle.rc_trees.specs.Recipes.{tree}
+use Rattle.rc_edges.proofs.edges.add_edges.Goals as goal
+
+pub returns-clause-row : goal.returns-clause-row
+returns-clause-row g c =
+    let plane = c.args.site.now.plane.now in
+    let q = c.args.site.now.position in
+    let hops = hops_at plane q in
+    let a = c.len-index-end.ensures in
+    let b = ap length c.requires.made.hops in
+    let t = c.loop-index-test.false in
+    let end : length hops ≤ c.loop-index.index = omega arith in
+    row_like c.loop-index.work c.loop-index.row (length (positions c.args.places.now)) (joined (given_by plane q (take c.loop-index.index hops))) (λ t. tree (edge plane q (position_at c.args.places.now t)))
+    (λ t less. ap (λ hs. tree (union (given_by plane q hs t))) (take-whole c.loop-index.index hops end) ∙ all_given plane q t ∙ ap (λ n. tree (edge plane q (position_at n t))) (sym c.requires.places))
+    c.loop-index.invariant.row

@@ -1,0 +1,32 @@
+use Rattle.std.proofs.Common.{ap, sym, subst}
+use Rattle.rc_edges.proofs.JoinLaws.{known_like, may_like, may_and, operated, piece}
+use Rattle.rc_edges.proofs.MadeLaws.{made_kept, whenever}
+use Rattle.rc_edges.proofs.UseLaws.{sent_is}
+use Rattle.rc_edges.specs.Made.{IsMade}
+use Rattle.rc_edges.specs.Sent.{forwarded, sent}
+use Rattle.rc_sets.specs.Regions.{hop_set}
+use Rattle.rc_nodes.specs.Seats.{SeatKnows}
+use Rattle.rc_trees.proofs.PartLaws.{and-first, and-second}
+use Rattle.rc_trees.specs.Combine as trees
+use Rattle.rc_trees.specs.Recipes as recipes
+use Rattle.rc_trees.specs.Recipes.{parts, tree}
+use Rattle.rc_trees.specs.Trees.{HasNodes}
+use Rattle.rc_walk.specs.Moves.{fib_of, router_of}
+use Rattle.rc_edges.proofs.sent.sent_set.Goals as goal
+
+pub forwarded_set-requires-clause-may : goal.forwarded_set-requires-clause-may
+forwarded_set-requires-clause-may g c = (piece c.args.nodes.now.may (recipes.and (forwarded c.args.site.now.plane.now c.args.site.now.position) (hop_set (fib_of c.args.site.now.plane.now (router_of c.args.site.now.position)) c.args.hop.now)) (forwarded c.args.site.now.plane.now c.args.site.now.position) (and-first (forwarded c.args.site.now.plane.now c.args.site.now.position) (hop_set (fib_of c.args.site.now.plane.now (router_of c.args.site.now.position)) c.args.hop.now)) (may_like c.args.nodes.now.may (sent c.args.site.now.plane.now c.args.site.now.position c.args.hop.now) (recipes.and (forwarded c.args.site.now.plane.now c.args.site.now.position) (hop_set (fib_of c.args.site.now.plane.now (router_of c.args.site.now.position)) c.args.hop.now)) (sym (sent_is c.args.site.now.plane.now c.args.site.now.position c.args.hop.now)) c.requires.may))
+
+pub over_set-requires-clause-may : goal.over_set-requires-clause-may
+over_set-requires-clause-may g c = subst (λ r. HasNodes c.args.nodes.now.may (parts (hop_set (fib_of c.args.site.now.plane.now r) c.args.hop.now))) (sym c.router.ensures) (piece c.args.nodes.now.may (recipes.and (forwarded c.args.site.now.plane.now c.args.site.now.position) (hop_set (fib_of c.args.site.now.plane.now (router_of c.args.site.now.position)) c.args.hop.now)) (hop_set (fib_of c.args.site.now.plane.now (router_of c.args.site.now.position)) c.args.hop.now) (and-second (forwarded c.args.site.now.plane.now c.args.site.now.position) (hop_set (fib_of c.args.site.now.plane.now (router_of c.args.site.now.position)) c.args.hop.now)) (may_like c.args.nodes.now.may (sent c.args.site.now.plane.now c.args.site.now.position c.args.hop.now) (recipes.and (forwarded c.args.site.now.plane.now c.args.site.now.position) (hop_set (fib_of c.args.site.now.plane.now (router_of c.args.site.now.position)) c.args.hop.now)) (sym (sent_is c.args.site.now.plane.now c.args.site.now.position c.args.hop.now)) c.requires.may))
+
+pub and-requires-clause-may : goal.and-requires-clause-may
+and-requires-clause-may g c = may_and c.args.nodes.now c.over_set.new.work c.in_ok-forwarded.forwarded.index c.in_ok-over.over.index (forwarded c.args.site.now.plane.now c.args.site.now.position) (hop_set (fib_of c.args.site.now.plane.now (router_of c.args.site.now.position)) c.args.hop.now) (c.over_set.ensures.keeps c.in_ok-forwarded.forwarded.index (tree (forwarded c.args.site.now.plane.now c.args.site.now.position)) (c.in_ok-forwarded.ensures.set)) (subst (λ r. SeatKnows c.over_set.new.work c.in_ok-over.over.index (tree (hop_set (fib_of c.args.site.now.plane.now r) c.args.hop.now))) c.router.ensures c.in_ok-over.ensures.set) (may_like c.args.nodes.now.may (sent c.args.site.now.plane.now c.args.site.now.position c.args.hop.now) (recipes.and (forwarded c.args.site.now.plane.now c.args.site.now.position) (hop_set (fib_of c.args.site.now.plane.now (router_of c.args.site.now.position)) c.args.hop.now)) (sym (sent_is c.args.site.now.plane.now c.args.site.now.position c.args.hop.now)) c.requires.may)
+
+pub returns-clause-made : goal.returns-clause-made
+returns-clause-made g c = whenever c.and.result _ (made_kept c.args.nodes.now c.args.site.now.plane.now (router_of c.args.site.now.position) c.over_set.new.made c.over_set.new.work c.and.new.self (subst (λ r. IsMade c.args.nodes.now c.over_set.new.work c.args.site.now.plane.now r c.over_set.new.made) c.router.ensures c.in_ok-over.ensures.made) c.and.ensures.seat c.and.ensures.keeps)
+
+pub returns-clause-set : goal.returns-clause-set
+returns-clause-set g c =
+    known_like c.and.new.self c.and.result (recipes.and (forwarded c.args.site.now.plane.now c.args.site.now.position) (hop_set (fib_of c.args.site.now.plane.now (router_of c.args.site.now.position)) c.args.hop.now)) (sent c.args.site.now.plane.now c.args.site.now.position c.args.hop.now) (sent_is c.args.site.now.plane.now c.args.site.now.position c.args.hop.now)
+    (operated c.over_set.new.work c.and.new.self trees.and c.in_ok-forwarded.forwarded.index c.in_ok-over.over.index (tree (forwarded c.args.site.now.plane.now c.args.site.now.position)) (tree (hop_set (fib_of c.args.site.now.plane.now (router_of c.args.site.now.position)) c.args.hop.now)) (c.over_set.ensures.keeps c.in_ok-forwarded.forwarded.index (tree (forwarded c.args.site.now.plane.now c.args.site.now.position)) (c.in_ok-forwarded.ensures.set)) (subst (λ r. SeatKnows c.over_set.new.work c.in_ok-over.over.index (tree (hop_set (fib_of c.args.site.now.plane.now r) c.args.hop.now))) c.router.ensures c.in_ok-over.ensures.set) c.and.result c.and.ensures.and)

@@ -1,0 +1,132 @@
+-- What a position sends to others so far, and the flows of the positions before it.
+use Rattle.std.specs.Prelude.{◌≡◌, ℕ, ◌+◌, ◌-◌, ◌<◌, ◌==◌, ◌⊎◌, All, Bool, true, false, not, ◌&&◌, Some, None, List, [], ◌∷◌, ◌++◌, length, map, filter, flat_map, slice_index_or, if◌then◌else◌}
+use Rattle.std.specs.List.{list_any, range_with_len}
+use Rattle.rc_base.specs.Positions.{same_interface}
+use Rattle.rc_base.specs.declared.position.IfId.{IfId}
+use Rattle.rc_base.specs.declared.position.Pos.{Pos}
+use Rattle.rc_base.specs.declared.position.Pos.TheVariants.{Own, Entering}
+use Rattle.rc_edges.specs.Edges.{takes, towards, union}
+use Rattle.rc_edges.specs.declared.rows.Row.{Row}
+use Rattle.rc_jobs.specs.Flows.{edges_to, is_something}
+use Rattle.rc_jobs.specs.declared.flow.Flow.{Flow}
+use Rattle.rc_nodes.specs.Seats.{TableView, SeatView, SeatKnows}
+use Rattle.rc_nodes.specs.declared.words.Ref.{Ref}
+use Rattle.rc_places.specs.Places.{position_at}
+use Rattle.rc_route.specs.declared.route.Hop.{Hop}
+use Rattle.rc_route.specs.declared.route.Hop.TheVariants.{Null, Dev, Via}
+use Rattle.rc_topology.specs.Links.{are_linked, linked, port_is, takers}
+use Rattle.rc_topology.specs.Ports.{is_loopback}
+use Rattle.rc_topology.specs.Topology.{Topology}
+use Rattle.rc_trees.specs.Recipes.{Recipe, parts, tree}
+use Rattle.rc_trees.specs.Trees.{Tree, HasNodes}
+use Rattle.rc_walk.specs.Moves.{DataPlane}
+
+-- ---- what one position sends
+
+-- to each position these sets are known, and each that may hold some header is among the touched ones
+pub record IsRow (seat : SeatView) (row : Row) (count : ℕ) (sent : ℕ → Tree) : Type 0 where
+  pub as_many : length row.sets.items ≡ count
+  pub sets : (t : ℕ) (d : Ref) → t < count → SeatKnows seat (slice_index_or row.sets.items t d).index (sent t)
+  pub within : All (λ t. t < count) row.touched.items
+  pub touched : (t : ℕ) (d : Ref) → t < count → ((slice_index_or row.sets.items t d).index ≡ 0) ⊎ (list_any (λ u. t == u) row.touched.items ≡ true)
+
+-- what some sets give to each position
+abbrev pub joined : (ℕ → List Recipe) → ℕ → Tree
+joined given t = tree (union (given t))
+
+-- nothing yet
+abbrev pub nothing : ℕ → List Recipe
+nothing t = []
+
+-- and these sets to one position
+abbrev pub with_sets : (ℕ → List Recipe) → ℕ → List Recipe → ℕ → List Recipe
+with_sets given n sets t = if t == n then given t ++ sets else given t
+
+-- after the step one position has got these sets too
+pub record Gives (before after : SeatView) (row next : Row) (onto : ℕ) (sets : List Recipe) : Type 0 where
+  pub as_many : length next.sets.items ≡ length row.sets.items
+  pub gives : (given : ℕ → List Recipe) → IsRow before row (length row.sets.items) (joined given) → IsRow after next (length row.sets.items) (joined (with_sets given onto sets))
+
+-- one position may get these sets too
+pub record MayGet (nodes : TableView) (seat : SeatView) (row : Row) (onto : ℕ) (sets : List Recipe) : Type 0 where
+  pub given : ℕ → List Recipe
+  pub is_row : IsRow seat row (length row.sets.items) (joined given)
+  pub allowed : HasNodes nodes.may (parts (union (given onto ++ sets)))
+
+-- a known set may be given to one position
+pub record MayGive (nodes : TableView) (seat : SeatView) (row : Row) (onto set : ℕ) : Type 0 where
+  pub more : Recipe
+  pub knows : SeatKnows seat set (tree more)
+  pub may : MayGet nodes seat row onto (more ∷ [])
+
+-- ---- hop by hop
+
+-- what one hop gives towards a position
+abbrev pub sets_to : DataPlane → Pos → Pos → Hop → List Recipe
+sets_to plane q (Own r) x = []
+sets_to plane q (Entering t) x = towards plane q t x
+
+-- the interfaces onto which a hop leads
+abbrev pub hop_targets : Topology → Hop → List IfId
+hop_targets links Null = []
+hop_targets links (Dev i) = if port_is links is_loopback i then [] else linked links i
+hop_targets links (Via g None) = []
+hop_targets links (Via g (Some i)) = if port_is links is_loopback i then [] else takers links i g
+
+-- a hop leads onto an interface
+abbrev pub leads_onto : Topology → Hop → IfId → Bool
+leads_onto links Null t = false
+leads_onto links (Dev i) t = not (port_is links is_loopback i) && are_linked links i t
+leads_onto links (Via g None) t = false
+leads_onto links (Via g (Some i)) t = not (port_is links is_loopback i) && takes links i g t
+
+-- a position is one where a packet enters by one of these interfaces
+abbrev pub is_entry : List IfId → Pos → Bool
+is_entry ts (Own r) = false
+is_entry ts (Entering t) = list_any (same_interface t) ts
+
+-- what some hops give to each position, and one hop more onto some interfaces
+abbrev pub given_by : DataPlane → Pos → List Hop → ℕ → List Recipe
+given_by plane q xs t = flat_map (sets_to plane q (position_at plane.network t)) xs
+
+abbrev pub given_onto : DataPlane → Pos → List Hop → Hop → List IfId → ℕ → List Recipe
+given_onto plane q xs x ts t =
+    given_by plane q xs t ++ (if is_entry ts (position_at plane.network t) then sets_to plane q (position_at plane.network t) x else [])
+
+-- ---- flows
+
+-- each flow is known as what is sent from a position, in order
+abbrev pub AreFlows : SeatView → List Flow → List (ℕ × Tree) → Type 0
+AreFlows seat [] [] = Unit {0}
+AreFlows seat [] (p ∷ ps) = ⊥
+AreFlows seat (f ∷ fs) [] = ⊥
+AreFlows seat (f ∷ fs) (p ∷ ps) = (f.from ≡ p.0) × SeatKnows seat f.set.index p.1 × AreFlows seat fs ps
+
+abbrev pub no_header : Ref
+no_header = record { index = 0 }
+
+-- a set that may hold some header stands behind the others
+abbrev pub with_flow : List Flow → ℕ → Ref → List Flow
+with_flow flows from set = if set.index == 0 then flows else flows ++ record { from = from; set = set } ∷ []
+
+-- those that let some header pass
+abbrev pub real : List (ℕ × Tree) → List (ℕ × Tree)
+real sent = filter (λ f. is_something f.1) sent
+
+-- the numbers from one up to another
+abbrev pub numbers : ℕ → ℕ → List ℕ
+numbers start end = range_with_len start (end - start)
+
+-- to each position the edges from the positions of some numbers are known, where they let some header pass
+pub record AreRows (seat : SeatView) (into : List (List Flow)) (edge : ℕ → ℕ → Tree) (start end : ℕ) : Type 0 where
+  pub each : (t : ℕ) (d : List Flow) → t < length into → AreFlows seat (slice_index_or into t d) (real (edges_to edge (numbers start end) t))
+
+-- At a position: what is sent there is known and not yet among the flows, and where it may hold some header the position is still to
+-- come; or it is among the flows, and the row has no header there.
+abbrev pub IsSentAt : SeatView → Ref → List Flow → (ℕ → ℕ → Tree) → ℕ → ℕ → ℕ → List ℕ → Type 0
+IsSentAt seat set flows edge start from t left =
+    (SeatKnows seat set.index (edge from t) × AreFlows seat flows (real (edges_to edge (numbers start from) t)) × ((set.index ≡ 0) ⊎ (list_any (λ u. t == u) left ≡ true)))
+    ⊎ ((set.index ≡ 0) × AreFlows seat flows (real (edges_to edge (numbers start (from + 1)) t)))
+
+pub record AreSent (seat : SeatView) (sets : List Ref) (into : List (List Flow)) (edge : ℕ → ℕ → Tree) (start from : ℕ) (left : List ℕ) : Type 0 where
+  pub each : (t : ℕ) (d : Ref) (e : List Flow) → t < length into → IsSentAt seat (slice_index_or sets t d) (slice_index_or into t e) edge start from t left

@@ -1,0 +1,35 @@
+-- What is made of a router, and what a seat knows of it.
+use Rattle.std.specs.Prelude.{◌≡◌, ℕ, List, [], map, Option, Some, None, IfSome, slice_get, unwrap_or}
+use Rattle.rc_base.specs.Prefix.{Cidr, prefix_at}
+use Rattle.std.specs.Option.{option_map_or}
+use Rattle.rc_base.specs.declared.position.IfId.{IfId}
+use Rattle.rc_edges.specs.Sent.{to_router}
+use Rattle.rc_edges.specs.declared.router_sets.RouterSets.{RouterSets}
+use Rattle.rc_nodes.specs.Seats.{TableView, SeatView, IsSeatOf, SeatKnows}
+use Rattle.rc_nodes.specs.declared.words.Ref.{Ref}
+use Rattle.rc_route.specs.declared.route.Hop.{Hop}
+use Rattle.rc_sets.specs.Regions.{hop_set, hops_in}
+use Rattle.rc_topology.specs.Links.{port_at}
+use Rattle.rc_topology.specs.declared.port.Port.{Port}
+use Rattle.rc_topology.specs.declared.port.PortAddr.{PortAddr}
+use Rattle.rc_trees.specs.Recipes.{Recipe, tree}
+use Rattle.rc_walk.specs.Moves.{DataPlane, fib_of}
+
+-- the addresses of an interface with their prefixes
+abbrev pub owned_at : DataPlane → IfId → List PortAddr
+owned_at plane i = option_map_or (λ (p : Port). p.addresses) (port_at plane.links i) []
+
+-- and of an interface, each as a prefix of its own
+abbrev pub hosts_by_port : Port → List Cidr
+hosts_by_port p = map (λ (a : PortAddr). prefix_at a.addr 32) p.addresses
+
+-- a set that is made is known as that of a recipe
+abbrev pub IsKnownIfMade : SeatView → Option Ref → Recipe → Type 0
+IsKnownIfMade seat set r = IfSome set (λ s. SeatKnows seat s.index (tree r))
+
+-- the seat is the table's, and knows what was made of a router as its sets
+pub record IsMade (nodes : TableView) (seat : SeatView) (plane : DataPlane) (r : ℕ) (made : RouterSets) : Type 0 where
+  pub table : IsSeatOf nodes seat
+  pub hops : made.hops ≡ hops_in (fib_of plane r)
+  pub over : (k : ℕ) (x : Hop) → slice_get made.hops k ≡ Some x → IsKnownIfMade seat (unwrap_or (slice_get made.over.items k) None) (hop_set (fib_of plane r) x)
+  pub owned : IsKnownIfMade seat made.owned (to_router plane r)

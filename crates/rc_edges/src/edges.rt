@@ -1,0 +1,371 @@
+//! What a position sends to the next ones, hop by hop.
+ghost use Rattle.std.specs.Prelude.{◌≡◌, ◌<◌, ◌∷◌, ◌+◌, ℕ, List, [], IfOk, IfErr, Some, length, slice_get, take, true};
+ghost use Rattle.rc_bdd.specs.Work.{IsCause};
+ghost use Rattle.rc_edges.specs.Edges as spec;
+ghost use Rattle.rc_config.specs.Members.{positions};
+ghost use Rattle.rc_edges.specs.Given.{Gives, IsRow, MayGet, given_by, hop_targets, joined, leads_onto, nothing};
+ghost use Rattle.rc_edges.specs.Made.{IsMade};
+ghost use Rattle.rc_edges.specs.Prepare.{MaySend};
+ghost use Rattle.rc_edges.specs.Sent.{hops_at, leaving, to_interface, to_subnets, untaken};
+ghost use Rattle.rc_nodes.specs.Seats.{IsSeatOf, Keeps, SeatKnows};
+ghost use Rattle.rc_places.specs.Places.{position_at};
+ghost use Rattle.rc_topology.specs.Ports.{links_of};
+ghost use Rattle.rc_route.specs.declared.route.Hop.TheVariants.{Dev as Over};
+ghost use Rattle.rc_trees.specs.Recipes.{Recipe, and, minus, parts, tree};
+ghost use Rattle.rc_trees.specs.Trees.{HasNodes};
+ghost use Rattle.rc_walk.specs.Moves.{router_of};
+
+use crate::destinations::{interface_set, subnets_set};
+use crate::neighbors::{linked_of, takers_of};
+use crate::router_sets::RouterSets;
+use crate::rows::Row;
+use crate::sent::{Site, leaving_set, untaken_set};
+use rc_base::{IfId, Pos};
+use rc_bdd::{SetError, Work};
+use rc_nodes::{May, Nodes, Ref};
+use rc_places::Places;
+use rc_route::Hop;
+use std::alloc::{AllocError, Global};
+
+/// Of what leaves over a hop without a gateway what an interface on a link owns.
+fn owned_there<M: May>(
+    alloc: Global,
+    work: &mut Work<M>,
+    nodes: &Nodes<M>,
+    site: &Site<'_>,
+    made: &mut RouterSets,
+    index: usize,
+    hop: &Hop,
+    interface: &IfId,
+    next: &IfId,
+) -> Result<Ref, SetError>
+    requires made { IsMade nodes.now work.old site.now.plane.now (router_of site.now.position) made.old }
+    requires hop { slice_get (hops_at site.now.plane.now site.now.position) index ≡ Some hop.now }
+    requires may { HasNodes nodes.now.may (parts (and (leaving site.now.plane.now site.now.position hop.now interface.now) (to_interface site.now.plane.now next.now))) }
+    ensures seat { IsSeatOf nodes.now work.new }
+    ensures made { IfOk result (λ _. IsMade nodes.now work.new site.now.plane.now (router_of site.now.position) made.new) }
+    ensures keeps { Keeps work.old work.new }
+    ensures set { IfOk result (λ r. SeatKnows work.new r.index (tree (and (leaving site.now.plane.now site.now.position hop.now interface.now) (to_interface site.now.plane.now next.now)))) }
+    ensures cause { IfErr result (IsCause nodes.now work.new) }
+{
+    let leaving = leaving_set(alloc, work, nodes, site, made, index, hop, interface)?;
+    let there = interface_set(alloc, work, nodes, site.plane, next)?;
+    work.and(nodes, leaving, there)
+}
+
+/// What leaves over an interface to destinations that nobody owns and no subnet of the interface holds.
+pub(crate) fn rest_set<M: May>(
+    alloc: Global,
+    work: &mut Work<M>,
+    nodes: &Nodes<M>,
+    site: &Site<'_>,
+    made: &mut RouterSets,
+    index: usize,
+    hop: &Hop,
+    interface: &IfId,
+) -> Result<Ref, SetError>
+    requires made { IsMade nodes.now work.old site.now.plane.now (router_of site.now.position) made.old }
+    requires hop { (slice_get (hops_at site.now.plane.now site.now.position) index ≡ Some hop.now) × (hop.now ≡ Over interface.now) }
+    requires may { HasNodes nodes.now.may (parts (minus (untaken site.now.plane.now site.now.position interface.now) (to_subnets site.now.plane.now interface.now))) }
+    ensures seat { IsSeatOf nodes.now work.new }
+    ensures made { IfOk result (λ _. IsMade nodes.now work.new site.now.plane.now (router_of site.now.position) made.new) }
+    ensures keeps { Keeps work.old work.new }
+    ensures set { IfOk result (λ r. SeatKnows work.new r.index (tree (minus (untaken site.now.plane.now site.now.position interface.now) (to_subnets site.now.plane.now interface.now)))) }
+    ensures cause { IfErr result (IsCause nodes.now work.new) }
+{
+    let untaken = untaken_set(alloc, work, nodes, site, made, index, hop, interface)?;
+    let subnets = subnets_set(alloc, work, nodes, site.plane, interface)?;
+    work.minus(nodes, untaken, subnets)
+}
+
+/// Gives what an interface on a link owns of what leaves over a hop without a gateway.
+fn add_owned<M: May>(
+    alloc: Global,
+    work: &mut Work<M>,
+    nodes: &Nodes<M>,
+    site: &Site<'_>,
+    made: &mut RouterSets,
+    row: &mut Row,
+    index: usize,
+    hop: &Hop,
+    interface: &IfId,
+    next: &IfId,
+    onto: usize,
+) -> Result<(), SetError>
+    requires made { IsMade nodes.now work.old site.now.plane.now (router_of site.now.position) made.old }
+    requires hop { slice_get (hops_at site.now.plane.now site.now.position) index ≡ Some hop.now }
+    requires onto { onto < length row.old.sets.items }
+    requires may { MayGet nodes.now work.old row.old onto (and (leaving site.now.plane.now site.now.position hop.now interface.now) (to_interface site.now.plane.now next.now) ∷ []) }
+    ensures seat { IsSeatOf nodes.now work.new }
+    ensures made { IfOk result (λ _. IsMade nodes.now work.new site.now.plane.now (router_of site.now.position) made.new) }
+    ensures keeps { Keeps work.old work.new }
+    ensures given { IfOk result (λ _. Gives work.old work.new row.old row.new onto (and (leaving site.now.plane.now site.now.position hop.now interface.now) (to_interface site.now.plane.now next.now) ∷ [])) }
+    ensures cause { IfErr result (IsCause nodes.now work.new) }
+{
+    let owned = owned_there(alloc, work, nodes, site, made, index, hop, interface, next)?;
+    row.add(work, nodes, onto, owned)
+}
+
+/// Gives what leaves over a hop without a gateway to destinations that nobody owns and no subnet holds.
+fn add_rest<M: May>(
+    alloc: Global,
+    work: &mut Work<M>,
+    nodes: &Nodes<M>,
+    site: &Site<'_>,
+    made: &mut RouterSets,
+    row: &mut Row,
+    index: usize,
+    hop: &Hop,
+    interface: &IfId,
+    onto: usize,
+) -> Result<(), SetError>
+    requires made { IsMade nodes.now work.old site.now.plane.now (router_of site.now.position) made.old }
+    requires hop { (slice_get (hops_at site.now.plane.now site.now.position) index ≡ Some hop.now) × (hop.now ≡ Over interface.now) }
+    requires onto { onto < length row.old.sets.items }
+    requires may { MayGet nodes.now work.old row.old onto (minus (untaken site.now.plane.now site.now.position interface.now) (to_subnets site.now.plane.now interface.now) ∷ []) }
+    ensures seat { IsSeatOf nodes.now work.new }
+    ensures made { IfOk result (λ _. IsMade nodes.now work.new site.now.plane.now (router_of site.now.position) made.new) }
+    ensures keeps { Keeps work.old work.new }
+    ensures given { IfOk result (λ _. Gives work.old work.new row.old row.new onto (minus (untaken site.now.plane.now site.now.position interface.now) (to_subnets site.now.plane.now interface.now) ∷ [])) }
+    ensures cause { IfErr result (IsCause nodes.now work.new) }
+{
+    let rest = rest_set(alloc, work, nodes, site, made, index, hop, interface)?;
+    row.add(work, nodes, onto, rest)
+}
+
+/// Gives what leaves over a hop without a gateway towards an interface on a link: what that one owns, and on a serial line also what
+/// nobody there owns.
+fn add_on_link<M: May>(
+    alloc: Global,
+    work: &mut Work<M>,
+    nodes: &Nodes<M>,
+    site: &Site<'_>,
+    made: &mut RouterSets,
+    row: &mut Row,
+    index: usize,
+    hop: &Hop,
+    interface: &IfId,
+    next: &IfId,
+    onto: usize,
+) -> Result<(), SetError>
+    requires made { IsMade nodes.now work.old site.now.plane.now (router_of site.now.position) made.old }
+    requires hop { (slice_get (hops_at site.now.plane.now site.now.position) index ≡ Some hop.now) × (hop.now ≡ Over interface.now) }
+    requires onto { onto < length row.old.sets.items }
+    requires may { MayGet nodes.now work.old row.old onto (spec.onto_link site.now.plane.now site.now.position next.now interface.now) }
+    ensures seat { IsSeatOf nodes.now work.new }
+    ensures made { IfOk result (λ _. IsMade nodes.now work.new site.now.plane.now (router_of site.now.position) made.new) }
+    ensures keeps { Keeps work.old work.new }
+    ensures given { IfOk result (λ _. Gives work.old work.new row.old row.new onto (spec.onto_link site.now.plane.now site.now.position next.now interface.now)) }
+    ensures cause { IfErr result (IsCause nodes.now work.new) }
+{
+    add_owned(
+        alloc, work, nodes, site, made, row, index, hop, interface, next, onto,
+    )?;
+    if !site.plane.links().is_serial(*interface) {
+        return Ok(());
+    }
+    add_rest(
+        alloc, work, nodes, site, made, row, index, hop, interface, onto,
+    )
+}
+
+/// Gives what leaves over a hop to a gateway.
+fn add_to_gateway<M: May>(
+    alloc: Global,
+    work: &mut Work<M>,
+    nodes: &Nodes<M>,
+    site: &Site<'_>,
+    made: &mut RouterSets,
+    row: &mut Row,
+    index: usize,
+    hop: &Hop,
+    interface: &IfId,
+    onto: usize,
+) -> Result<(), SetError>
+    requires made { IsMade nodes.now work.old site.now.plane.now (router_of site.now.position) made.old }
+    requires hop { slice_get (hops_at site.now.plane.now site.now.position) index ≡ Some hop.now }
+    requires onto { onto < length row.old.sets.items }
+    requires may { MayGet nodes.now work.old row.old onto (leaving site.now.plane.now site.now.position hop.now interface.now ∷ []) }
+    ensures seat { IsSeatOf nodes.now work.new }
+    ensures made { IfOk result (λ _. IsMade nodes.now work.new site.now.plane.now (router_of site.now.position) made.new) }
+    ensures keeps { Keeps work.old work.new }
+    ensures given { IfOk result (λ _. Gives work.old work.new row.old row.new onto (leaving site.now.plane.now site.now.position hop.now interface.now ∷ [])) }
+    ensures cause { IfErr result (IsCause nodes.now work.new) }
+{
+    let leaving = leaving_set(alloc, work, nodes, site, made, index, hop, interface)?;
+    row.add(work, nodes, onto, leaving)
+}
+
+/// Gives what a hop sends towards an interface onto which it leads.
+fn add_towards<M: May>(
+    alloc: Global,
+    work: &mut Work<M>,
+    nodes: &Nodes<M>,
+    site: &Site<'_>,
+    made: &mut RouterSets,
+    row: &mut Row,
+    index: usize,
+    hop: &Hop,
+    next: &IfId,
+    onto: usize,
+) -> Result<(), SetError>
+    requires made { IsMade nodes.now work.old site.now.plane.now (router_of site.now.position) made.old }
+    requires hop { slice_get (hops_at site.now.plane.now site.now.position) index ≡ Some hop.now }
+    requires leads { leads_onto site.now.plane.now.links hop.now next.now ≡ true }
+    requires onto { onto < length row.old.sets.items }
+    requires may { MayGet nodes.now work.old row.old onto (spec.towards site.now.plane.now site.now.position next.now hop.now) }
+    ensures seat { IsSeatOf nodes.now work.new }
+    ensures made { IfOk result (λ _. IsMade nodes.now work.new site.now.plane.now (router_of site.now.position) made.new) }
+    ensures keeps { Keeps work.old work.new }
+    ensures given { IfOk result (λ _. Gives work.old work.new row.old row.new onto (spec.towards site.now.plane.now site.now.position next.now hop.now)) }
+    ensures cause { IfErr result (IsCause nodes.now work.new) }
+{
+    match hop {
+        Hop::Null => Ok(()),
+        Hop::Dev(interface) => add_on_link(
+            alloc, work, nodes, site, made, row, index, hop, interface, next, onto,
+        ),
+        Hop::Via(_, through) => match through {
+            Some(interface) => {
+                add_to_gateway(
+                    alloc, work, nodes, site, made, row, index, hop, interface, onto,
+                )
+            }
+            None => Ok(()),
+        },
+    }
+}
+
+/// The interfaces onto which a hop leads.
+fn targets_of(alloc: Global, site: &Site<'_>, hop: &Hop) -> Result<Vec<IfId>, AllocError>
+    ensures { IfOk result (λ targets. targets.items ≡ hop_targets site.now.plane.now.links hop.now) }
+{
+    match hop {
+        Hop::Null => Ok(Vec::new(alloc)),
+        Hop::Dev(interface) => {
+            if site.plane.links().is_loopback(*interface) {
+                return Ok(Vec::new(alloc));
+            }
+            linked_of(alloc, site.plane, interface)
+        }
+        Hop::Via(gateway, through) => match through {
+            Some(interface) => {
+                if site.plane.links().is_loopback(*interface) {
+                    return Ok(Vec::new(alloc));
+                }
+                takers_of(alloc, site.plane, interface, *gateway)
+            }
+            None => Ok(Vec::new(alloc)),
+        },
+    }
+}
+
+/// Gives what one hop sends to each of its targets.
+fn add_targets<M: May>(
+    alloc: Global,
+    work: &mut Work<M>,
+    nodes: &Nodes<M>,
+    site: &Site<'_>,
+    places: &Places<'_>,
+    made: &mut RouterSets,
+    row: &mut Row,
+    index: usize,
+    hop: &Hop,
+    targets: &[IfId],
+) -> Result<(), SetError>
+    requires places { places.now ≡ site.now.plane.now.network }
+    requires links { site.now.plane.now.links ≡ links_of site.now.plane.now.network }
+    requires made { IsMade nodes.now work.old site.now.plane.now (router_of site.now.position) made.old }
+    requires hop { slice_get (hops_at site.now.plane.now site.now.position) index ≡ Some hop.now }
+    requires targets { targets.now ≡ hop_targets site.now.plane.now.links hop.now }
+    requires row { IsRow work.old row.old (length (positions places.now)) (joined (given_by site.now.plane.now site.now.position (take index (hops_at site.now.plane.now site.now.position)))) }
+    requires may { MaySend nodes.now.may site.now.plane.now site.now.position }
+    ensures seat { IsSeatOf nodes.now work.new }
+    ensures made { IfOk result (λ _. IsMade nodes.now work.new site.now.plane.now (router_of site.now.position) made.new) }
+    ensures keeps { Keeps work.old work.new }
+    ensures row { IfOk result (λ _. IsRow work.new row.new (length (positions places.now)) (joined (given_by site.now.plane.now site.now.position (take (index + 1) (hops_at site.now.plane.now site.now.position))))) }
+    ensures cause { IfErr result (IsCause nodes.now work.new) }
+{
+    for next in targets {
+        let onto = places.number(&Pos::Entering(*next));
+        add_towards(alloc, work, nodes, site, made, row, index, hop, next, onto)?;
+    }
+    Ok(())
+}
+
+/// Gives what one hop sends to each position.
+fn add_hop<M: May>(
+    alloc: Global,
+    work: &mut Work<M>,
+    nodes: &Nodes<M>,
+    site: &Site<'_>,
+    places: &Places<'_>,
+    made: &mut RouterSets,
+    row: &mut Row,
+    index: usize,
+    hop: &Hop,
+) -> Result<(), SetError>
+    requires places { places.now ≡ site.now.plane.now.network }
+    requires links { site.now.plane.now.links ≡ links_of site.now.plane.now.network }
+    requires made { IsMade nodes.now work.old site.now.plane.now (router_of site.now.position) made.old }
+    requires hop { slice_get (hops_at site.now.plane.now site.now.position) index ≡ Some hop.now }
+    requires row { IsRow work.old row.old (length (positions places.now)) (joined (given_by site.now.plane.now site.now.position (take index (hops_at site.now.plane.now site.now.position)))) }
+    requires may { MaySend nodes.now.may site.now.plane.now site.now.position }
+    ensures seat { IsSeatOf nodes.now work.new }
+    ensures made { IfOk result (λ _. IsMade nodes.now work.new site.now.plane.now (router_of site.now.position) made.new) }
+    ensures keeps { Keeps work.old work.new }
+    ensures row { IfOk result (λ _. IsRow work.new row.new (length (positions places.now)) (joined (given_by site.now.plane.now site.now.position (take (index + 1) (hops_at site.now.plane.now site.now.position))))) }
+    ensures cause { IfErr result (IsCause nodes.now work.new) }
+{
+    let Ok(targets) = targets_of(alloc, site, hop) else {
+        return Err(SetError::Memory);
+    };
+    add_targets(
+        alloc,
+        work,
+        nodes,
+        site,
+        places,
+        made,
+        row,
+        index,
+        hop,
+        targets.as_slice(),
+    )
+}
+
+/// The hop of an index.
+pub(crate) fn hop_at(hops: &[Hop], index: usize) -> Hop
+    requires { index < length hops.now }
+    ensures { slice_get hops.now index ≡ Some result }
+{
+    hops[index]
+}
+
+/// Gives what a position sends to each other one.
+pub(crate) fn add_edges<M: May>(
+    alloc: Global,
+    work: &mut Work<M>,
+    nodes: &Nodes<M>,
+    site: &Site<'_>,
+    places: &Places<'_>,
+    made: &mut RouterSets,
+    row: &mut Row,
+) -> Result<(), SetError>
+    requires places { places.now ≡ site.now.plane.now.network }
+    requires links { site.now.plane.now.links ≡ links_of site.now.plane.now.network }
+    requires made { IsMade nodes.now work.old site.now.plane.now (router_of site.now.position) made.old }
+    requires row { IsRow work.old row.old (length (positions places.now)) (joined nothing) }
+    requires may { MaySend nodes.now.may site.now.plane.now site.now.position }
+    ensures seat { IsSeatOf nodes.now work.new }
+    ensures made { IfOk result (λ _. IsMade nodes.now work.new site.now.plane.now (router_of site.now.position) made.new) }
+    ensures keeps { Keeps work.old work.new }
+    ensures row { IfOk result (λ _. IsRow work.new row.new (length (positions places.now)) (λ t. tree (spec.edge site.now.plane.now site.now.position (position_at places.now t)))) }
+    ensures cause { IfErr result (IsCause nodes.now work.new) }
+{
+    for index in 0..made.hops.len() {
+        let hop = hop_at(made.hops.as_slice(), index);
+        add_hop(alloc, work, nodes, site, places, made, row, index, &hop)?;
+    }
+    Ok(())
+}

@@ -1,0 +1,102 @@
+//! The endings asked for at a position.
+ghost use Rattle.std.specs.Prelude.{◌≡◌, ℕ, ◌<◌, ◌++◌, ◌∷◌, [], List, IfOk, IfErr, OnOk, Some, slice_get};
+ghost use Rattle.rc_bdd.specs.Work.{IsCause};
+ghost use Rattle.rc_edges.specs.Given.{AreFlows, real, with_flow};
+ghost use Rattle.rc_edges.specs.Made.{IsMade};
+ghost use Rattle.rc_edges.specs.Prepare.{MayEnd, ends_at};
+ghost use Rattle.rc_edges.specs.Query.{all_kinds};
+ghost use Rattle.rc_edges.specs.Stops.{asked, asked_of};
+ghost use Rattle.rc_nodes.specs.Seats.{IsSeatOf, Keeps};
+ghost use Rattle.rc_trees.specs.Trees.{Tree};
+ghost use Rattle.rc_walk.specs.Moves.{router_of};
+
+use crate::endings::end_set;
+use crate::router_sets::RouterSets;
+use crate::rows::push_flow;
+use crate::sent::Site;
+use rc_base::{Ends, Items, Kind};
+use rc_bdd::{SetError, Work};
+use rc_jobs::Flow;
+use rc_nodes::{May, Nodes, Ref};
+use std::alloc::Global;
+
+/// The ending of an index.
+fn kind_at(index: usize) -> Kind
+    requires { index < 8 }
+    ensures { slice_get all_kinds index ≡ Some result }
+{
+    match index {
+        0 => Kind::DeniedIn,
+        1 => Kind::Accepted,
+        2 => Kind::NoRoute,
+        3 => Kind::NullRouted,
+        4 => Kind::DeniedOut,
+        5 => Kind::Unreachable,
+        6 => Kind::Exits,
+        _ => Kind::Delivered,
+    }
+}
+
+/// Puts a set behind the flows, where it holds some header.
+fn put_flow(flows: &mut Items<Flow>, from: usize, set: Ref) -> Result<(), SetError>
+    ensures put { OnOk result (flows.new ≡ with_flow flows.old from set) }
+    ensures memory { IfErr result (λ e. e ≡ SetError.Memory) }
+{
+    match push_flow(flows, from, set) {
+        Ok(_) => Ok(()),
+        Err(_) => Err(SetError::Memory),
+    }
+}
+
+/// Puts what may end so at the position behind the flows, where that is asked for.
+fn add_ending<M: May>(
+    alloc: Global,
+    work: &mut Work<M>,
+    nodes: &Nodes<M>,
+    site: &Site<'_>,
+    made: &mut RouterSets,
+    ends: Ends,
+    kind: Kind,
+    from: usize,
+    flows: &mut Items<Flow>,
+) -> Result<(), SetError>
+    requires made { IsMade nodes.now work.old site.now.plane.now (router_of site.now.position) made.old }
+    requires may { MayEnd nodes.now.may site.now.plane.now ends site.now.position }
+    ensures seat { IsSeatOf nodes.now work.new }
+    ensures made { IfOk result (λ _. IsMade nodes.now work.new site.now.plane.now (router_of site.now.position) made.new) }
+    ensures keeps { Keeps work.old work.new }
+    ensures flows { OnOk result ((done : List (ℕ × Tree)) → AreFlows work.old flows.old (real done) → AreFlows work.new flows.new (real (done ++ asked site.now.plane.now site.now.position ends from kind))) }
+    ensures cause { IfErr result (IsCause nodes.now work.new) }
+{
+    if !ends.has(kind) {
+        return Ok(());
+    }
+    let set = end_set(alloc, work, nodes, site, made, kind)?;
+    put_flow(flows, from, set)
+}
+
+/// Puts what may end at the position, ending by ending of those asked for, behind the flows.
+pub(crate) fn add_endings<M: May>(
+    alloc: Global,
+    work: &mut Work<M>,
+    nodes: &Nodes<M>,
+    site: &Site<'_>,
+    made: &mut RouterSets,
+    ends: Ends,
+    from: usize,
+    flows: &mut Items<Flow>,
+) -> Result<(), SetError>
+    requires made { IsMade nodes.now work.old site.now.plane.now (router_of site.now.position) made.old }
+    requires may { MayEnd nodes.now.may site.now.plane.now ends site.now.position }
+    ensures seat { IsSeatOf nodes.now work.new }
+    ensures made { IfOk result (λ _. IsMade nodes.now work.new site.now.plane.now (router_of site.now.position) made.new) }
+    ensures keeps { Keeps work.old work.new }
+    ensures flows { OnOk result ((done : List (ℕ × Tree)) → AreFlows work.old flows.old (real done) → AreFlows work.new flows.new (real (done ++ asked_of site.now.plane.now site.now.position ends from all_kinds))) }
+    ensures cause { IfErr result (IsCause nodes.now work.new) }
+{
+    for index in 0..8 {
+        let kind = kind_at(index);
+        add_ending(alloc, work, nodes, site, made, ends, kind, from, flows)?;
+    }
+    Ok(())
+}
