@@ -4,14 +4,12 @@ use Rattle.std.specs.List.{cons_option, filter, filter_map, range_with_len, slic
 use Rattle.std.specs.Option.{option_map, option_map_or}
 use Rattle.std.proofs.lemmas.Option.{same_Some, slice_get-map, slice_get-get_or, slice_get_within, get_or_from_slice_get}
 use Rattle.std.proofs.lemmas.List.FromFn.{length-range_with_len, get_or-range_with_len}
-use Rattle.rc_base.specs.Prefix.{Cidr}
 use Rattle.rc_bgp.specs.Candidates.{all_best, best_paths}
 use Rattle.rc_bgp.specs.Known.{table_of}
-use Rattle.rc_bgp.specs.Originating.{by_networks, networks_of}
+use Rattle.rc_bgp.specs.Own.{own_paths, paths_of_process}
 use Rattle.rc_bgp.specs.Sessions.{is_up, sessions, sessions_of}
 use Rattle.rc_bgp.specs.declared.session.Session.{Session}
 use Rattle.rc_config.specs.Members.{router_at, router_ids}
-use Rattle.rc_config.specs.declared.bgp.BgpProcess.{BgpProcess}
 use Rattle.rc_config.specs.declared.network.Network.{Network}
 use Rattle.rc_config.specs.declared.router_text.RouterText.{RouterText}
 use Rattle.rc_config.specs.declared.static_route.StaticRoute.{StaticRoute}
@@ -51,20 +49,17 @@ nothing_outside (row ∷ rows) = ap (λ o. cons_option o (routes_over [] rows)) 
 
 -- ---- without a process, and without a session, there is no path
 
-no_networks : (net : Network) (r : ℕ) (found : Option RouterText) → router_at net r ≡ found → IfSome found (λ (file : RouterText). file.bgp ≡ None) → networks_of net r ≡ []
-no_networks net r found is none = ap networks_in is ∙ by found none
+none_originated : (net : Network) (r : ℕ) (table : List Route) → IfSome (router_at net r) (λ (file : RouterText). file.bgp ≡ None) → own_paths net table r ≡ []
+none_originated net r table none = by (router_at net r) none
   where
-    networks_in : Option RouterText → List Cidr
-    networks_in o = option_map_or (λ (file : RouterText). option_map_or (λ (process : BgpProcess). process.networks) file.bgp []) o []
-
-    by : (o : Option RouterText) → IfSome o (λ (file : RouterText). file.bgp ≡ None) → networks_in o ≡ []
+    by : (o : Option RouterText) → IfSome o (λ (file : RouterText). file.bgp ≡ None) → option_map_or (λ (file : RouterText). option_map_or (paths_of_process net r file table) file.bgp []) o [] ≡ []
     by None none = refl
-    by (Some file) none = ap (λ b. option_map_or (λ (process : BgpProcess). process.networks) b []) none
+    by (Some file) none = ap (λ b. option_map_or (paths_of_process net r file table) b []) none
 
-no_paths : (net : Network) (all : List (List Session)) (old : List RouterState) (r : ℕ) → networks_of net r ≡ [] → sessions_of all r ≡ [] → best_paths net all old r ≡ []
+no_paths : (net : Network) (all : List (List Session)) (old : List RouterState) (r : ℕ) → IfSome (router_at net r) (λ (file : RouterText). file.bgp ≡ None) → sessions_of all r ≡ [] → best_paths net all old r ≡ []
 unfolding best_paths
 no_paths net all old r none silent =
-    ap (λ networks. all_best net old (table_of old r) (by_networks r (table_of old r) networks) (filter (is_up old) (sessions_of all r))) none
+    ap (λ own. all_best net old (table_of old r) own (filter (is_up old) (sessions_of all r))) (none_originated net r (table_of old r) none)
     ∙ ap (λ ss. all_best net old (table_of old r) [] (filter (is_up old) ss)) silent
 
 module _ (net : Network) (internal : Internal) (all : List (List Session)) (r : ℕ) (here : r < length net.routers) where
@@ -91,7 +86,7 @@ module _ (net : Network) (internal : Internal) (all : List (List Session)) (r : 
   unfolding after
   alone file these others old =
       ap (λ paths. after file (table_of old r) paths (external_routes internal (externals net old) r))
-      (ap (λ ss. best_paths net ss old r) (sym these) ∙ no_paths net all old r (no_networks net r (router_at net r) refl others.no_process) others.no_sessions)
+      (ap (λ ss. best_paths net ss old r) (sym these) ∙ no_paths net all old r others.no_process others.no_sessions)
       ∙ ap (after file (table_of old r) []) (ap (λ bs. routes_over bs (externals net old)) others.no_boundaries ∙ nothing_outside (externals net old))
 
   -- without a line `ip route` it comes from the file alone
