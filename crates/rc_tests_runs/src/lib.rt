@@ -11,6 +11,8 @@ mod answers;
 #[cfg(test)]
 mod bgp;
 #[cfg(test)]
+mod endings;
+#[cfg(test)]
 mod externals;
 #[cfg(test)]
 mod faults;
