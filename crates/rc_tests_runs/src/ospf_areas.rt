@@ -3,12 +3,17 @@ use crate::answers::{Host, check_line};
 use rc_analyse::Status;
 use std::test::Fail;
 
-/// The first three of them, but for the third one's last lines.
-const FRONT: [&str; 3] = [
-    "hostname R1\ninterface GigabitEthernet0/0\n ip address 10.0.12.1 255.255.255.0\ninterface Loopback0\n ip address 1.1.1.1 255.255.255.255\nrouter ospf 1\n network 0.0.0.0 255.255.255.255 area 1\n",
-    "hostname R2\ninterface GigabitEthernet0/0\n ip address 10.0.12.2 255.255.255.0\ninterface GigabitEthernet0/1\n ip address 10.0.23.2 255.255.255.0\nrouter ospf 1\n network 10.0.12.0 0.0.0.255 area 1\n network 10.0.23.0 0.0.0.255 area 0\n",
-    "hostname R3\ninterface GigabitEthernet0/0\n ip address 10.0.23.3 255.255.255.0\ninterface GigabitEthernet0/1\n ip address 10.0.34.3 255.255.255.0\nrouter ospf 1\n network 10.0.34.0 0.0.0.255 area 2\n network 10.0.23.0 0.0.0.255 area 0\n",
-];
+/// The first of them.
+const FIRST: &str =
+    "hostname R1\ninterface GigabitEthernet0/0\n ip address 10.0.12.1 255.255.255.0\ninterface Loopback0\n ip address 1.1.1.1 255.255.255.255\nrouter ospf 1\n network 0.0.0.0 255.255.255.255 area 1\n";
+
+/// The second one.
+const SECOND: &str =
+    "hostname R2\ninterface GigabitEthernet0/0\n ip address 10.0.12.2 255.255.255.0\ninterface GigabitEthernet0/1\n ip address 10.0.23.2 255.255.255.0\nrouter ospf 1\n network 10.0.12.0 0.0.0.255 area 1\n network 10.0.23.0 0.0.0.255 area 0\n";
+
+/// The third one, but for its last lines.
+const THIRD: &str =
+    "hostname R3\ninterface GigabitEthernet0/0\n ip address 10.0.23.3 255.255.255.0\ninterface GigabitEthernet0/1\n ip address 10.0.34.3 255.255.255.0\nrouter ospf 1\n network 10.0.34.0 0.0.0.255 area 2\n network 10.0.23.0 0.0.0.255 area 0\n";
 
 /// The last one, but for its last lines.
 const LAST: &str =
@@ -34,11 +39,10 @@ fn check_four(rt: &impl Host, texts: [&str; 4], line: &str, answer: &str) -> Res
 
 /// Asserts an answer where the last two routers have these lines more.
 fn check(rt: &impl Host, more: (&str, &str), line: &str, answer: &str) -> Result<(), Fail> {
-    let [first, second, front] = FRONT;
     let (third_more, last_more) = more;
-    let third = format!(in rt.alloc(); "{front}{third_more}")?;
+    let third = format!(in rt.alloc(); "{THIRD}{third_more}")?;
     let last = format!(in rt.alloc(); "{LAST}{last_more}")?;
-    let texts = [first, second, third.as_str(), last.as_str()];
+    let texts = [FIRST, SECOND, third.as_str(), last.as_str()];
     check_four(rt, texts, line, answer)
 }
 
