@@ -48,8 +48,8 @@ const REFUSED: [&str; 43] = [
     "routes d --workers 2 --workers=2",
     "routes d --nodes 15",
     "routes d --nodes 16777217",
-    "reach d --from R1",
-    "sample 4",
+    "reach d --from R1 --end nowhere",
+    "sample 3",
 ];
 
 /// Words of a trace that are refused.
