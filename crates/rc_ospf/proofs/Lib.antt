@@ -14,3 +14,4 @@ mod MemberLaws
 mod TableLaws
 mod SortedLaws
 pub mod OneAnswer
+mod ShareLaws

@@ -1,7 +1,8 @@
 -- The routers that the code keeps are those of the network.
-use Rattle.std.proofs.Common.{refl, ◌≡◌, ap, sym, ◌∙◌, subst, ℕ, suc, ◌+◌, ◌≤◌, Bool, true, false, cond, List, [], ◌∷◌, ◌++◌, length, map, Option, Some, MatchOption, All, arith, eq-eqb}
+use Rattle.std.proofs.Common.{refl, ◌≡◌, ap, sym, ◌∙◌, subst, ℕ, zero, suc, ◌+◌, ◌≤◌, Bool, true, false, cond, List, [], ◌∷◌, ◌++◌, length, map, Option, Some, MatchOption, All, arith, eq-eqb}
 use Rattle.std.specs.Prelude.{◌==◌}
 use Rattle.std.proofs.lemmas.List.Elements.{All-contains}
+use Rattle.std.specs.List.{range_with_len}
 use Rattle.std.specs.List.Sorted.{IsStrictlySortedBy}
 use Rattle.rc_config.specs.declared.network.Network.{Network}
 use Rattle.rc_route.specs.declared.route.Hop.{Hop}
@@ -9,6 +10,7 @@ use Rattle.rc_ospf.specs.Areas.{OspfRouter, AreOspfRouters, without_stubs}
 use Rattle.rc_ospf.specs.Edges.{IsFitStep, IsReachOfOthers}
 use Rattle.rc_ospf.specs.Members.{nowhere, reach_of, known, IsMember, AreMembers}
 use Rattle.rc_ospf.specs.Paths.{path_in}
+use Rattle.rc_ospf.specs.Shares.{AreMade}
 use Rattle.rc_ospf.specs.Walks.{LeastWalks, IsWalk, IsLeastWalk, AreLeastWalks, IsReach, walk_cost, first_hop}
 use Rattle.rc_ospf.specs.declared.adjacency.Step.{Step}
 use Rattle.rc_ospf.specs.declared.member.Member.{Member}
@@ -42,10 +44,14 @@ reach_all n steps m fit own others area s = by (s == m.router) refl
     by true is = let same : m.router ≡ s = grind (arith, is) in subst (AreLeastWalks steps area m.router s) (sym own) (staying n steps area m.router s fit same)
     by false is = others area s (λ e. let here : (s == m.router) ≡ true = eq-eqb s m.router e in cc)
 
-pub members_more : (net : Network) (steps : List Step) (r : ℕ) (done : List Member) (m : Member) → AreMembers net steps r done → IsMember net steps (r + length done) m →
-    AreMembers net steps r (done ++ m ∷ [])
-members_more net steps r [] m all last = (subst (λ k. IsMember net steps k m) (omega arith) last, tt)
-members_more net steps r (x ∷ xs) m all last = (all.0, members_more net steps (suc r) xs m all.1 (subst (λ k. IsMember net steps k m) (omega arith) last))
+-- those made of the numbers from one on
+pub members_from : (net : Network) (steps : List Step) (r n : ℕ) (ms : List Member) → AreMade (IsMember net steps) (range_with_len r n) ms → (length ms ≡ n) × AreMembers net steps r ms
+members_from net steps r zero [] all = (refl, tt)
+members_from net steps r zero (m ∷ ms) all = absurd all
+members_from net steps r (suc n) [] all = absurd all
+members_from net steps r (suc n) (m ∷ ms) all =
+    let (long, rest) = members_from net steps (r + 1) n ms all.1 in
+    let next : r + 1 ≡ suc r = omega arith in (ap suc long, (all.0, subst (λ k. AreMembers net steps k ms) next rest))
 
 pub ospf_routers : (net : Network) (steps : List Step) (r : ℕ) (ms : List Member) → AreMembers net steps r ms → AreOspfRouters net steps r (map (known Kept) ms)
 ospf_routers net steps r [] all = tt

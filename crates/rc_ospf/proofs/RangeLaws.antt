@@ -42,3 +42,8 @@ module _ (p : ℕ → Bool) (all all' done : List ℕ) (i n : ℕ) (lt : i < n) 
       ap (λ l. l ++ filter p (range_with_len (i + 1) (n - (i + 1)))) is
       ∙ ap (λ b. all ++ cond b (i ∷ filter p (range_with_len (i + 1) (n - (i + 1)))) (filter p (range_with_len (i + 1) (n - (i + 1))))) (sym here)
       ∙ ap (λ l. all ++ filter p l) (sym (range_rest i n lt)) ∙ rest
+
+pub range_more : (all all' done : List ℕ) (i n : ℕ) → i < n → all' ≡ all ++ i ∷ [] → all ++ range_with_len i (n - i) ≡ done → all' ++ range_with_len (i + 1) (n - (i + 1)) ≡ done
+range_more all all' done i n lt is rest =
+    ap (λ l. l ++ range_with_len (i + 1) (n - (i + 1))) is ∙ append_assoc all (i ∷ []) (range_with_len (i + 1) (n - (i + 1)))
+    ∙ ap (λ l. all ++ l) (sym (range_rest i n lt)) ∙ rest

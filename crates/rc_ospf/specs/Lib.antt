@@ -22,3 +22,4 @@ pub mod AreaRows
 pub mod SummaryRows
 pub mod BoundaryRows
 pub mod Edges
+pub mod Shares

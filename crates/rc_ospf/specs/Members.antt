@@ -1,11 +1,17 @@
 -- Routers as the code keeps them.
-use Rattle.std.specs.Prelude.{◌≡◌, ℕ, suc, ◌==◌, if◌then◌else◌, List, [], ◌∷◌, Some}
+use Rattle.std.specs.Prelude.{◌≡◌, ℕ, suc, ◌==◌, ◌<◌, ◌≤◌, if◌then◌else◌, List, [], ◌∷◌, Some, All}
+use Rattle.std.specs.List.{filter_map}
 use Rattle.rc_config.specs.declared.network.Network.{Network}
+use Rattle.rc_route.specs.declared.route.Route.{Route}
 use Rattle.rc_ospf.specs.Areas.{OspfRouter}
+use Rattle.rc_ospf.specs.ByPrefix.{route_of}
+use Rattle.rc_ospf.specs.Edges.{IsFitStep, AreAreaGraphs}
 use Rattle.rc_ospf.specs.Paths.{path_in}
 use Rattle.rc_ospf.specs.RouterAreas.{router_areas, open_areas}
 use Rattle.rc_ospf.specs.Walks.{LeastWalks, Reach, IsReach}
 use Rattle.rc_ospf.specs.declared.adjacency.Step.{Step}
+use Rattle.rc_ospf.specs.declared.destination.Destination.{Destination}
+use Rattle.rc_ospf.specs.declared.member.LinkStates.{LinkStates}
 use Rattle.rc_ospf.specs.declared.member.Member.{Member}
 use Rattle.rc_ospf.specs.declared.member.StubAreas.{StubAreas}
 use Rattle.rc_ospf.specs.declared.member.StubAreas.TheVariants.{Kept, LeftOut}
@@ -35,3 +41,14 @@ pub record IsMember (net : Network) (steps : List Step) (r : ℕ) (m : Member) :
 abbrev pub AreMembers : Network → List Step → ℕ → List Member → Type 0
 AreMembers net steps r [] = Unit {0}
 AreMembers net steps r (m ∷ ms) = IsMember net steps r m × AreMembers net steps (suc r) ms
+
+-- a router of a network whose areas the graphs are those of
+pub record IsRoot (s : LinkStates) (r : ℕ) : Type 0 where
+  pub steps : All (IsFitStep s.routers) s.steps.now
+  pub few : s.routers ≤ 512
+  pub graphs : AreAreaGraphs s.routers s.steps.now s.graphs.now
+  pub router : r < s.routers
+
+-- the routes of a router to some destinations
+abbrev pub table_of : List Destination → Member → List Route
+table_of destinations m = filter_map (route_of (known Kept m)) destinations

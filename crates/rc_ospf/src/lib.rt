@@ -7,7 +7,8 @@
 //!
 //! The crate goes one way: interfaces and the areas of routers (`interface`, `router_area`), steps and the least walks over them
 //! (`adjacency`, `area`, `path`), routers as the others have them (`member`), ways to what is offered (`way`), what border routers
-//! summarise of a destination (`summaries`), and what each router makes of it (`routes`, `boundary`).
+//! summarise of a destination (`summaries`), and what each router makes of it (`routes`, `boundary`). What is made of each router
+//! by itself is made by workers at once (`shares`).
 #![tactic(auto)]
 
 mod adjacency;
@@ -25,6 +26,7 @@ mod own;
 mod path;
 mod router_area;
 mod routes;
+mod shares;
 mod summaries;
 mod tables;
 mod way;

@@ -1,17 +1,21 @@
 //! Routers as OSPF has them: their areas, and the least walks from them.
 ghost use Rattle.std.specs.Prelude.{◌≡◌, ◌<◌, ◌≤◌, IfOk, All, length};
+ghost use Rattle.std.specs.List.{range_with_len};
 ghost use Rattle.std.specs.Option.{option_copied};
 ghost use Rattle.rc_ospf.specs.Edges.{IsFitStep, AreAreaGraphs};
 ghost use Rattle.rc_ospf.specs.Members.{nowhere, reach_of, areas_known, IsMember, AreMembers};
+ghost use Rattle.rc_ospf.specs.Shares.{AreMade};
 
 use crate::area::{AreaGraph, area_graphs, reach_from};
 use crate::path::path_at;
 use crate::router_area::{open_areas, router_areas};
+use crate::shares::{Makes, made_by};
 use crate::{AreaPaths, Path, RouterArea, Step};
 use rc_base::{Items, RouterId};
 use rc_config::Network;
 use rc_route::Hops;
 use std::alloc::{AllocError, Global};
+use std::thread::Threads;
 
 /// A router, as the others have it.
 pub(crate) struct Member {
@@ -103,34 +107,86 @@ fn member_of(
     })
 }
 
+/// What the least walks of routers are made from.
+#[derive(Drop)]
+struct LinkStates<'a> {
+    net: &'a Network,
+    routers: usize,
+    steps: &'a [Step],
+    graphs: &'a [AreaGraph],
+}
+
+impl<'a> Makes for LinkStates<'a> {
+    type Thing = RouterId;
+
+    type Made = Member;
+
+    ghost use Rattle.rc_ospf.specs.Members.{IsMember, IsRoot};
+
+    ghost fits = { IsRoot };
+
+    ghost made = { λ s r m. IsMember s.net.now s.steps.now r m };
+
+    fn make(&self, alloc: Global, router: &RouterId) -> Result<Member, AllocError>
+        requires { IsRoot self.now router.now }
+        ensures { IfOk result (IsMember self.now.net.now self.now.steps.now router.now) }
+    {
+        member_of(
+            alloc,
+            self.net,
+            self.routers,
+            self.steps,
+            self.graphs,
+            *router,
+        )
+    }
+}
+
+/// The routers below a number.
+pub(crate) fn routers_below(alloc: Global, routers: usize) -> Result<Items<RouterId>, AllocError>
+    ensures { IfOk result (λ ids. ids ≡ range_with_len 0 routers) }
+{
+    let mut ids = Items::new(alloc);
+    for index in 0..routers {
+        ids.push(RouterId::at(index))?;
+    }
+    Ok(ids)
+}
+
 /// All routers, from the graphs of all areas.
-fn members_over(
+fn members_over<R: Threads + Sync>(
+    rt: &R,
     alloc: Global,
     net: &Network,
     routers: usize,
     steps: &[Step],
     graphs: &[AreaGraph],
+    workers: u32,
 ) -> Result<Items<Member>, AllocError>
     requires steps { All (IsFitStep routers) steps.now }
     requires few { routers ≤ 512 }
     requires graphs { AreAreaGraphs routers steps.now graphs.now }
-    ensures as_many { IfOk result (λ members. length members ≡ routers) }
-    ensures each { IfOk result (AreMembers net.now steps.now 0) }
+    ensures { IfOk result (AreMade (IsMember net.now steps.now) (range_with_len 0 routers)) }
 {
-    let mut members = Items::new(alloc);
-    for index in 0..routers {
-        let router = RouterId::at(index);
-        members.push(member_of(alloc, net, routers, steps, graphs, router)?)?;
-    }
-    Ok(members)
+    let ids = routers_below(alloc, routers)?;
+    let states = LinkStates {
+        net,
+        routers,
+        steps,
+        graphs,
+    };
+    let made = made_by(rt, alloc, &states, ids.as_slice(), workers)?;
+    Ok(Items::from_vec(made))
 }
 
-/// All routers of a network with their least walks over its steps. It errs only where memory runs out.
-pub(crate) fn members(
+/// All routers of a network with their least walks over its steps, which the workers share. It errs only where memory runs out.
+pub(crate) fn members<R: Threads + Sync>(
+    rt: &R,
     alloc: Global,
     net: &Network,
     routers: usize,
     steps: &[Step],
+    workers: u32,
 ) -> Result<Items<Member>, AllocError>
     requires steps { All (IsFitStep routers) steps.now }
     requires few { routers ≤ 512 }
@@ -138,5 +194,5 @@ pub(crate) fn members(
     ensures each { IfOk result (AreMembers net.now steps.now 0) }
 {
     let graphs = area_graphs(alloc, routers, steps)?;
-    members_over(alloc, net, routers, steps, graphs.as_slice())
+    members_over(rt, alloc, net, routers, steps, graphs.as_slice(), workers)
 }

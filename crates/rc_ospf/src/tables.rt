@@ -1,39 +1,46 @@
 //! What OSPF gives without a state, for all routers.
 ghost use Rattle.std.specs.Prelude.{◌≡◌, ◌≤◌, IfOk, All, map, length};
-ghost use Rattle.std.specs.List.{filter_map};
 ghost use Rattle.rc_config.specs.Lawful.{IsLawful};
 ghost use Rattle.rc_config.specs.Members.{router_ids};
 ghost use Rattle.rc_route.specs.Tables.{IsTable};
-ghost use Rattle.rc_ospf.specs.BoundaryForms.{target_of, path_of_target};
+ghost use Rattle.rc_ospf.specs.BoundaryForms.{target_of, paths_of};
 ghost use Rattle.rc_ospf.specs.Boundaries.{boundary_routers};
-ghost use Rattle.rc_ospf.specs.ByPrefix.{destination_of, route_of};
+ghost use Rattle.rc_ospf.specs.ByPrefix.{destination_of};
 ghost use Rattle.rc_ospf.specs.BoundaryPaths.{IsNear};
 ghost use Rattle.rc_ospf.specs.Internal.{adverts_in, steps_of, IsInternal, HasOneInternal, HasSmallSums};
-ghost use Rattle.rc_ospf.specs.Members.{known, AreMembers};
+ghost use Rattle.rc_ospf.specs.Members.{known, table_of, AreMembers};
 ghost use Rattle.rc_ospf.specs.Routes as spec;
 ghost use Rattle.rc_ospf.specs.declared.member.StubAreas.TheVariants.{Kept, LeftOut};
 
 use crate::boundary::{Target, paths_to, targets};
 use crate::destination::{Destination, destinations};
-use crate::member::{Member, members};
+use crate::member::{Member, members, routers_below};
 use crate::own::own_prefixes;
 use crate::routes::routes_of;
+use crate::shares::{Makes, made_by};
 use crate::{Boundary, Internal, adjacencies, adverts, offers_by_prefix, ospf_interfaces};
 use rc_base::{Items, Prefix, RouterId};
 use rc_config::Network;
 use rc_route::Table;
 use rc_topology::Links;
 use std::alloc::{AllocError, Global};
+use std::thread::Threads;
 
 /// The routers of a network, with their least walks.
-fn members_of(alloc: Global, net: &Network, links: &Links) -> Result<Items<Member>, AllocError>
+fn members_of<R: Threads + Sync>(
+    rt: &R,
+    alloc: Global,
+    net: &Network,
+    links: &Links,
+    workers: u32,
+) -> Result<Items<Member>, AllocError>
     requires { length net.now.routers ≤ 512 }
     ensures as_many { IfOk result (λ members. length members ≡ length net.now.routers) }
     ensures each { IfOk result (AreMembers net.now (steps_of net.now links.now) 0) }
 {
     let interfaces = ospf_interfaces(alloc, net)?;
     let steps = adjacencies(alloc, links, interfaces.as_slice())?;
-    members(alloc, net, net.routers.len(), steps.as_slice())
+    members(rt, alloc, net, net.routers.len(), steps.as_slice(), workers)
 }
 
 /// Each prefix that is advertised, and the default route, with all that is offered of it.
@@ -50,85 +57,182 @@ fn destinations_of(
     destinations(alloc, members, rows.as_slice())
 }
 
+/// The destinations to which the routes of a router lead.
+#[derive(Drop)]
+struct RoutesTo<'a> {
+    destinations: &'a [Destination],
+}
+
+impl<'a> Makes for RoutesTo<'a> {
+    type Thing = Member;
+
+    type Made = Table;
+
+    ghost use Rattle.std.specs.Prelude.{All};
+    ghost use Rattle.rc_ospf.specs.Members.{table_of};
+    ghost use Rattle.rc_ospf.specs.Routes.{IsShortRoute};
+    ghost use Rattle.rc_ospf.specs.Shares.{IsGiven};
+
+    ghost fits = { λ s m. Unit {0} };
+
+    ghost made = { λ s m t. IsGiven (table_of s.destinations.now) (All IsShortRoute) m t };
+
+    fn make(&self, alloc: Global, member: &Member) -> Result<Table, AllocError>
+        ensures { IfOk result (IsGiven (table_of self.now.destinations.now) (All IsShortRoute) member.now) }
+    {
+        routes_of(alloc, member, self.destinations)
+    }
+}
+
 /// The routes of each router to some destinations.
-fn tables_over(
+fn tables_over<R: Threads + Sync>(
+    rt: &R,
     alloc: Global,
     members: &[Member],
     destinations: &[Destination],
+    workers: u32,
 ) -> Result<Items<Table>, AllocError>
-    ensures value { IfOk result (λ tables. tables ≡ map (λ m. filter_map (route_of (known Kept m)) destinations.now) members.now) }
+    ensures value { IfOk result (λ tables. tables ≡ map (table_of destinations.now) members.now) }
     ensures short { IfOk result (All (All spec.IsShortRoute)) }
 {
-    let mut tables = Items::new(alloc);
-    for member in members {
-        tables.push(routes_of(alloc, member, destinations)?)?;
-    }
-    Ok(tables)
+    let routes = RoutesTo { destinations };
+    let made = made_by(rt, alloc, &routes, members, workers)?;
+    Ok(Items::from_vec(made))
 }
 
 /// The routes of each router.
-fn tables(alloc: Global, net: &Network, members: &[Member]) -> Result<Items<Table>, AllocError>
+fn tables<R: Threads + Sync>(
+    rt: &R,
+    alloc: Global,
+    net: &Network,
+    members: &[Member],
+    workers: u32,
+) -> Result<Items<Table>, AllocError>
     ensures short { IfOk result (All (All spec.IsShortRoute)) }
     ensures value { IfOk result (λ tables. tables ≡ map (spec.internal_routes (map (known Kept) members.now) (adverts_in net.now)) (map (known Kept) members.now)) }
 {
     let destinations = destinations_of(alloc, net, members)?;
-    tables_over(alloc, members, destinations.as_slice())
+    tables_over(rt, alloc, members, destinations.as_slice(), workers)
+}
+
+/// The AS boundary routers to which the paths of a router lead.
+#[derive(Drop)]
+struct PathsTo<'a> {
+    targets: &'a [Target],
+}
+
+impl<'a> Makes for PathsTo<'a> {
+    type Thing = Member;
+
+    type Made = Items<Boundary>;
+
+    ghost use Rattle.std.specs.Prelude.{All};
+    ghost use Rattle.rc_ospf.specs.BoundaryForms.{paths_of};
+    ghost use Rattle.rc_ospf.specs.BoundaryPaths.{IsNear};
+    ghost use Rattle.rc_ospf.specs.Shares.{IsGiven};
+
+    ghost fits = { λ s m. Unit {0} };
+
+    ghost made = { λ s m p. IsGiven (paths_of s.targets.now) (All IsNear) m p };
+
+    fn make(&self, alloc: Global, member: &Member) -> Result<Items<Boundary>, AllocError>
+        ensures { IfOk result (IsGiven (paths_of self.now.targets.now) (All IsNear) member.now) }
+    {
+        paths_to(alloc, member, self.targets)
+    }
 }
 
 /// The paths of each router to some others.
-fn paths_over(
+fn paths_over<R: Threads + Sync>(
+    rt: &R,
     alloc: Global,
     members: &[Member],
     targets: &[Target],
+    workers: u32,
 ) -> Result<Items<Items<Boundary>>, AllocError>
-    ensures value { IfOk result (λ paths. paths ≡ map (λ m. filter_map (path_of_target (known LeftOut m)) targets.now) members.now) }
+    ensures value { IfOk result (λ paths. paths ≡ map (paths_of targets.now) members.now) }
     ensures near { IfOk result (All (All IsNear)) }
 {
-    let mut paths = Items::new(alloc);
-    for member in members {
-        paths.push(paths_to(alloc, member, targets)?)?;
-    }
-    Ok(paths)
+    let paths = PathsTo { targets };
+    let made = made_by(rt, alloc, &paths, members, workers)?;
+    Ok(Items::from_vec(made))
 }
 
 /// The paths of each router to the AS boundary routers.
-fn boundaries(
+fn boundaries<R: Threads + Sync>(
+    rt: &R,
     alloc: Global,
     net: &Network,
     members: &[Member],
+    workers: u32,
 ) -> Result<Items<Items<Boundary>>, AllocError>
     ensures near { IfOk result (All (All IsNear)) }
-    ensures value { IfOk result (λ paths. paths ≡ map (λ m. filter_map (path_of_target (known LeftOut m)) (map (target_of net.now (map (known LeftOut) members.now)) (boundary_routers net.now))) members.now) }
+    ensures value { IfOk result (λ paths. paths ≡ map (paths_of (map (target_of net.now (map (known LeftOut) members.now)) (boundary_routers net.now))) members.now) }
 {
     let targets = targets(alloc, net, members)?;
-    paths_over(alloc, members, targets.as_slice())
+    paths_over(rt, alloc, members, targets.as_slice(), workers)
+}
+
+/// The network whose routers advertise prefixes themselves.
+#[derive(Drop)]
+struct PrefixesIn<'a> {
+    net: &'a Network,
+}
+
+impl<'a> Makes for PrefixesIn<'a> {
+    type Thing = RouterId;
+
+    type Made = Items<Prefix>;
+
+    ghost use Rattle.rc_ospf.specs.Routes.{own_prefixes};
+    ghost use Rattle.rc_ospf.specs.Shares.{IsGiven};
+
+    ghost fits = { λ s r. Unit {0} };
+
+    ghost made = { λ s r p. IsGiven (own_prefixes s.net.now) (λ _. Unit {0}) r p };
+
+    fn make(&self, alloc: Global, router: &RouterId) -> Result<Items<Prefix>, AllocError>
+        ensures { IfOk result (IsGiven (own_prefixes self.now.net.now) (λ _. Unit {0}) router.now) }
+    {
+        own_prefixes(alloc, self.net, *router)
+    }
 }
 
 /// The prefixes that each router advertises itself.
-fn own(alloc: Global, net: &Network) -> Result<Items<Items<Prefix>>, AllocError>
+fn own<R: Threads + Sync>(
+    rt: &R,
+    alloc: Global,
+    net: &Network,
+    workers: u32,
+) -> Result<Items<Items<Prefix>>, AllocError>
     ensures { IfOk result (λ own. own ≡ map (spec.own_prefixes net.now) (router_ids net.now)) }
 {
-    let mut own = Items::new(alloc);
-    for index in 0..net.routers.len() {
-        own.push(own_prefixes(alloc, net, RouterId::at(index))?)?;
-    }
-    Ok(own)
+    let ids = routers_below(alloc, net.routers.len())?;
+    let prefixes = PrefixesIn { net };
+    let made = made_by(rt, alloc, &prefixes, ids.as_slice(), workers)?;
+    Ok(Items::from_vec(made))
 }
 
 /// What OSPF gives without a state in a network with these links (RFC 2328, sections 16.1, 16.2 and 16.4): the routes of each
-/// router inside and between areas, its paths to AS boundary routers, and the prefixes that it advertises itself. It errs only
-/// where memory runs out.
-pub fn internal(alloc: Global, net: &Network, links: Links) -> Result<Internal, AllocError>
+/// router inside and between areas, its paths to AS boundary routers, and the prefixes that it advertises itself. So many workers
+/// share the work; what they make doesn't depend on their number. It errs only where memory runs out.
+pub fn internal<R: Threads + Sync>(
+    rt: &R,
+    alloc: Global,
+    net: &Network,
+    links: Links,
+    workers: u32,
+) -> Result<Internal, AllocError>
     requires { IsLawful net.now }
     ensures links { IfOk result (λ i. i.links ≡ links) }
     ensures internal { IfOk result (IsInternal net.now) }
     ensures in_order { IfOk result (λ i. All IsTable i.routes) }
     ensures small { IfOk result HasSmallSums }
 {
-    let members = members_of(alloc, net, &links)?;
-    let routes = tables(alloc, net, members.as_slice())?;
-    let boundaries = boundaries(alloc, net, members.as_slice())?;
-    let own = own(alloc, net)?;
+    let members = members_of(rt, alloc, net, &links, workers)?;
+    let routes = tables(rt, alloc, net, members.as_slice(), workers)?;
+    let boundaries = boundaries(rt, alloc, net, members.as_slice(), workers)?;
+    let own = own(rt, alloc, net, workers)?;
     Ok(Internal {
         links,
         routes,

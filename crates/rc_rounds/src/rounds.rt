@@ -19,8 +19,8 @@ use std::thread::Threads;
 
 /// How the rounds of a network end, of which at most so many are made.
 ///
-/// What OSPF gives by the configurations alone, and the sessions of BGP, are made once, before the first round; what AS boundary
-/// routers send is made once in each round. `limit` is from 1 to 100,000 and `workers` from 1 to 64. Each worker passes the gate in each round, whose number is the phase. At a
+/// What OSPF gives by the configurations alone, by all workers at once, and the sessions of BGP are made once, before the first round;
+/// what AS boundary routers send is made once in each round. `limit` is from 1 to 100,000 and `workers` from 1 to 64. Each worker passes the gate in each round, whose number is the phase. At a
 /// fixed point each router's table is in order. It errs only where memory runs out.
 pub fn run_rounds<R: Threads + Sync + AllocGlobal, G: Gate>(
     rt: &R,
@@ -37,7 +37,7 @@ pub fn run_rounds<R: Threads + Sync + AllocGlobal, G: Gate>(
     ensures outcome { IfOk result (IsOutcome net.now limit) }
     ensures in_order { IfOk result (IsInOrder (length net.now.routers)) }
 {
-    let internal = internal_of(rt.alloc(), net)?;
+    let internal = internal_of(rt, rt.alloc(), net, workers)?;
     let sessions = sessions(rt.alloc(), net, &internal.links)?;
     rounds_within(
         rt,
@@ -51,15 +51,20 @@ pub fn run_rounds<R: Threads + Sync + AllocGlobal, G: Gate>(
     )
 }
 
-/// What OSPF gives without a state.
-fn internal_of(alloc: Global, net: &Network) -> Result<Internal, AllocError>
+/// What OSPF gives without a state, which the workers share.
+fn internal_of<R: Threads + Sync>(
+    rt: &R,
+    alloc: Global,
+    net: &Network,
+    workers: u32,
+) -> Result<Internal, AllocError>
     requires { IsLawful net.now }
     ensures links { IfOk result (λ i. i.links ≡ links_of net.now) }
     ensures internal { IfOk result (IsInternal net.now) }
     ensures in_order { IfOk result (λ i. All IsTable i.routes) }
 {
     let links = Links::of(alloc, net)?;
-    internal(alloc, net, links)
+    internal(rt, alloc, net, links, workers)
 }
 
 /// How the rounds of a network end beside what no round changes, where at most so many are made.

@@ -15,7 +15,7 @@ use Rattle.rc_ospf.proofs.TableLaws.{boundaries_are}
 use Rattle.rc_ospf.proofs.tables.internal.Goals as goal
 
 pub returns-clause-internal : goal.returns-clause-internal
-returns-clause-internal c =
+returns-clause-internal g c =
     let net = c.args.net.now in
     let ms = c.in_ok-members.members in
     let steps = steps_of net c.args.links in
@@ -32,4 +32,4 @@ returns-clause-internal c =
     }
 
 pub returns-clause-in_order : goal.returns-clause-in_order
-returns-clause-in_order c = subst (All IsTable) (sym c.in_ok-routes.ensures.value) (all_tables _ _ _)
+returns-clause-in_order g c = subst (All IsTable) (sym c.in_ok-routes.ensures.value) (all_tables _ _ _)

@@ -1,24 +1,14 @@
-use Rattle.std.proofs.Common.{rules, ◌≡◌, ◌+◌, ◌++◌, ◌∷◌, [], drop, ap, sym, ◌∙◌, All}
-use Rattle.std.specs.List.{filter_map}
-use Rattle.std.proofs.lemmas.List.{drop_more}
-use Rattle.rc_ospf.specs.BoundaryForms.{path_of_target}
-use Rattle.rc_ospf.specs.Members.{known}
+use Rattle.std.proofs.Common.{◌∙◌, All}
+use Rattle.rc_ospf.specs.BoundaryForms.{paths_of}
 use Rattle.rc_ospf.specs.BoundaryPaths.{IsNear}
-use Rattle.rc_ospf.specs.declared.member.Member.{Member}
-use Rattle.rc_ospf.specs.declared.member.StubAreas.TheVariants.{LeftOut}
-use Rattle.rc_ospf.proofs.ListLaws.{all_more, mapped_more}
+use Rattle.rc_ospf.proofs.ShareLaws.{all_given, all_of_kind}
 use Rattle.rc_ospf.proofs.tables.paths_over.Goals as goal
 
-pub loop-member-preserved : goal.loop-member-preserved
-loop-member-preserved c =
-    let ms = c.args.members.now in
-    let i = c.loop-member.member-index in
-    let m = c.member-item.result in
-    let made = c.in_ok-paths_to.field-0 in
-    let next : drop i ms ≡ m ∷ drop (i + 1) ms = drop_more ms i m c.loop-member-test.true ∙ ap (λ x. x ∷ drop (i + 1) ms) (sym c.member-item.is) in
-    let pushed : c.push.new.self ≡ c.loop-member.paths ++ made ∷ [] = search rules in
-    record {
-      value = mapped_more (λ (m : Member). filter_map (path_of_target (known LeftOut m)) c.args.targets.now) c.loop-member.paths c.push.new.self m (drop (i + 1) ms) (drop i ms) _ next
-          (pushed ∙ ap (λ t. c.loop-member.paths ++ t ∷ []) c.in_ok-paths_to.ensures.value) c.loop-member.invariant.value;
-      near = all_more (All IsNear) c.loop-member.paths c.push.new.self made pushed c.loop-member.invariant.near c.in_ok-paths_to.ensures.near;
-    }
+pub made_by-requires-clause-fits : goal.made_by-requires-clause-fits
+made_by-requires-clause-fits g c κs within = λ k d lt. tt
+
+pub returns-clause-value : goal.returns-clause-value
+returns-clause-value g c = c.from_vec.ensures ∙ all_given (paths_of c.args.targets.now) (All IsNear) c.args.members.now c.in_ok-made.made.items c.in_ok-made.ensures
+
+pub returns-clause-near : goal.returns-clause-near
+returns-clause-near g c = rw c.from_vec.ensures (all_of_kind (paths_of c.args.targets.now) (All IsNear) c.args.members.now c.in_ok-made.made.items c.in_ok-made.ensures)

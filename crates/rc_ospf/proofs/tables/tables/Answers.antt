@@ -12,7 +12,7 @@ use Rattle.rc_ospf.proofs.TableLaws.{routes_are}
 use Rattle.rc_ospf.proofs.tables.tables.Goals as goal
 
 pub returns-clause-value : goal.returns-clause-value
-returns-clause-value c =
+returns-clause-value g c =
     let ms = c.args.members.now in
     let adverts = adverts_in c.args.net.now in
     IfOk-weaker _ _ (λ tables. tables ≡ map (internal_routes (map (known Kept) ms) adverts) (map (known Kept) ms))
