@@ -1,7 +1,6 @@
 mod IndexLaws
 mod RowLaws
 mod WayLaws
-mod CostLaws
 mod Members
 mod Bridge
 mod KeptLaws

@@ -1,5 +1,5 @@
 -- The routers that the code keeps are those of the network.
-use Rattle.std.proofs.Common.{refl, ◌≡◌, ap, sym, ◌∙◌, subst, ℕ, zero, suc, ◌+◌, ◌≤◌, Bool, true, false, cond, List, [], ◌∷◌, ◌++◌, length, map, Option, Some, MatchOption, All, arith, eq-eqb}
+use Rattle.std.proofs.Common.{refl, ◌≡◌, ap, sym, ◌∙◌, subst, ℕ, zero, suc, ◌+◌, ◌≤◌, Bool, true, false, cond, List, [], ◌∷◌, length, map, Option, Some, MatchOption, All, arith, eq-eqb}
 use Rattle.std.specs.Prelude.{◌==◌}
 use Rattle.std.proofs.lemmas.List.Elements.{All-contains}
 use Rattle.std.specs.List.{range_with_len}
@@ -52,6 +52,10 @@ members_from net steps r (suc n) [] all = absurd all
 members_from net steps r (suc n) (m ∷ ms) all =
     let (long, rest) = members_from net steps (r + 1) n ms all.1 in
     let next : r + 1 ≡ suc r = omega arith in (ap suc long, (all.0, subst (λ k. AreMembers net steps k ms) next rest))
+
+pub members_of_range : (net : Network) (steps : List Step) (n : ℕ) (ids : List ℕ) (ms : List Member) → ids ≡ range_with_len 0 n → AreMade (IsMember net steps) ids ms →
+    (length ms ≡ n) × AreMembers net steps 0 ms
+members_of_range net steps n ids ms are all = members_from net steps 0 n ms (subst (λ rs. AreMade (IsMember net steps) rs ms) are all)
 
 pub ospf_routers : (net : Network) (steps : List Step) (r : ℕ) (ms : List Member) → AreMembers net steps r ms → AreOspfRouters net steps r (map (known Kept) ms)
 ospf_routers net steps r [] all = tt

@@ -1,5 +1,5 @@
 -- What is made of each of some things, list by list.
-use Rattle.std.proofs.Common.{refl, ◌≡◌, ap, sym, ◌∙◌, subst, ℕ, suc, ◌+◌, ◌*◌, ◌/◌, ◌<◌, ◌≤◌, List, [], ◌∷◌, ◌++◌, length, get_or, map, take, drop, All, arith}
+use Rattle.std.proofs.Common.{refl, ◌≡◌, ap, sym, ◌∙◌, subst, ℕ, ◌+◌, ◌*◌, ◌/◌, ◌<◌, ◌≤◌, List, [], ◌∷◌, ◌++◌, length, get_or, map, take, drop, All, arith}
 use Rattle.std.specs.Prelude.{Result, Ok, Err, IfOk}
 use Rattle.std.specs.List.{range_with_len}
 use Rattle.std.specs.declared.alloc.AllocError.{AllocError}
@@ -23,9 +23,10 @@ module _ {X Y : Type 0} (made : X → Y → Type 0) where
   append (x ∷ xs) xs' (y ∷ ys) ys' l r = (l.0, append xs xs' ys ys' l.1 r)
 
   -- of two parts, one behind the other
-  pub put_together : (xs : List X) (k : ℕ) (left right all : List Y) → AreMade made (take k xs) left → AreMade made (drop k xs) right → all ≡ left ++ right → AreMade made xs all
-  put_together xs k left right all l r is =
-      subst (AreMade made xs) (sym is) (subst (λ zs. AreMade made zs (left ++ right)) (take-append-drop k xs) (append (take k xs) (drop k xs) left right l r))
+  pub put_together : (xs front back : List X) (k : ℕ) (left right all : List Y) → front ≡ take k xs → back ≡ drop k xs → AreMade made front left → AreMade made back right → all ≡ left ++ right → AreMade made xs all
+  put_together xs front back k left right all f b l r is =
+      subst (AreMade made xs) (sym is) (subst (λ zs. AreMade made zs (left ++ right)) (take-append-drop k xs)
+      (append (take k xs) (drop k xs) left right (subst (λ zs. AreMade made zs left) f l) (subst (λ zs. AreMade made zs right) b r)))
 
   pub nothing_made : (xs : List X) (ys : List Y) → ys ≡ [] → AreMade made (take 0 xs) ys
   nothing_made xs ys is = subst (AreMade made (take 0 xs)) (sym is) tt

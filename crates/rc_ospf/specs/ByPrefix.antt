@@ -1,9 +1,11 @@
 -- Offers put under their prefixes, and ways taken one after another, as the code does it.
-use Rattle.std.specs.Prelude.{ℕ, ◌+◌, ◌==◌, nat_lt, if◌then◌else◌, List, [], ◌∷◌, ◌++◌, Option, Some, None}
-use Rattle.std.specs.Option.{option_map_or}
+use Rattle.std.specs.Prelude.{ℕ, ◌+◌, ◌==◌, min, Bool, true, false, ◌&&◌, if◌then◌else◌, List, [], ◌∷◌, ◌++◌, Option, Some, None}
+use Rattle.std.specs.List.{filter_map}
+use Rattle.std.specs.Option.{option_map, option_map_or}
 use Rattle.rc_base.specs.Prefix.{Cidr}
+use Rattle.rc_route.specs.declared.route.Hop.{Hop}
 use Rattle.rc_route.specs.declared.route.Route.{Route}
-use Rattle.rc_ospf.specs.Areas.{OspfRouter, summaries_of}
+use Rattle.rc_ospf.specs.Areas.{OspfRouter, is_own, summaries_of}
 use Rattle.rc_ospf.specs.Offered.{Offered}
 use Rattle.rc_ospf.specs.Routes.{is_default, route_to}
 use Rattle.rc_ospf.specs.Walks.{LeastWalks, Reach}
@@ -11,6 +13,7 @@ use Rattle.rc_ospf.specs.Ways.{Way, way_over}
 use Rattle.rc_ospf.specs.declared.destination.Destination.{Destination}
 use Rattle.rc_ospf.specs.declared.grouping.Row.{Row}
 use Rattle.rc_ospf.specs.declared.offer.Advert.{Advert}
+use Rattle.rc_ospf.specs.declared.summaries.Summaries.{Summaries}
 
 abbrev pub with_offer : Option (List Offered) → Advert → List Offered
 with_offer None a = a.offer ∷ []
@@ -19,21 +22,37 @@ with_offer (Some offers) a = offers ++ a.offer ∷ []
 abbrev pub row_of : Cidr × List Offered → Row
 row_of e = record { prefix = e.0; offers = e.1 }
 
--- the better of two ways, or both
-abbrev pub with_way : Option Way → Way → Way
-with_way None w = w
-with_way (Some v) w = if nat_lt w.cost v.cost then w else (if w.cost == v.cost then record { cost = v.cost; hops = v.hops ++ w.hops } else v)
+-- the least walks to the router of an offer; those of router r itself may be left out
+abbrev pub path_for : Reach → Bool → ℕ → Offered → Option LeastWalks
+path_for reach others r o = if others && is_own r o then None else reach o.area o.router
 
-abbrev pub then_way : Reach → Option Way → Offered → Option Way
-then_way reach best o = option_map_or (λ (e : LeastWalks). Some (with_way best (way_over (e.cost + o.cost) e))) (reach o.area o.router) best
+abbrev pub way_for : Reach → Bool → ℕ → Offered → Option Way
+way_for reach others r o = option_map (λ (e : LeastWalks). way_over (e.cost + o.cost) e) (path_for reach others r o)
 
--- the lower of two costs
-abbrev pub lower : Option ℕ → ℕ → ℕ
-lower None c = c
-lower (Some k) c = if nat_lt c k then c else k
+-- the ways to some offers
+abbrev pub ways_of : Reach → Bool → ℕ → List Offered → List Way
+ways_of reach others r offers = filter_map (way_for reach others r) offers
 
-abbrev pub then_cost : Reach → Option ℕ → Offered → Option ℕ
-then_cost reach best o = option_map_or (λ (e : LeastWalks). Some (lower best (e.cost + o.cost))) (reach o.area o.router) best
+abbrev pub cost_to : Reach → Bool → ℕ → Offered → Option ℕ
+cost_to reach others r o = option_map (λ (e : LeastWalks). e.cost + o.cost) (path_for reach others r o)
+
+-- the lower of two costs, or the one that is there
+abbrev pub lower : Option ℕ → Option ℕ → Option ℕ
+lower None cost = cost
+lower (Some k) None = Some k
+lower (Some k) (Some c) = Some (min k c)
+
+abbrev pub then_cost : Reach → Bool → ℕ → Option ℕ → Offered → Option ℕ
+then_cost reach others r best o = lower best (cost_to reach others r o)
+
+-- the hops of the way to an offer, where it costs so much
+abbrev pub hops_for : Reach → Bool → ℕ → ℕ → Offered → List Hop
+hops_for reach others r cost o = option_map_or (λ (e : LeastWalks). if e.cost + o.cost == cost then e.hops else []) (path_for reach others r o) []
+
+-- what is heard of border routers: in the backbone that of its summaries, and outside of it that of the others
+abbrev pub heard : Bool → Summaries → List Offered
+heard true s = s.backbone
+heard false s = s.outward
 
 -- a prefix with its summaries
 abbrev pub destination_of : List OspfRouter → Row → Destination

@@ -13,6 +13,7 @@ ghost use Rattle.rc_ospf.specs.declared.adjacency.Step as declared;
 
 use crate::hops::hops_in_order;
 use crate::router_area::insert_area;
+use crate::shares::with_room;
 use crate::{AreaPaths, Path, Step};
 use rc_base::{Items, RouterId};
 use rc_route::{Hop, Hops};
@@ -188,7 +189,7 @@ fn paths_of(alloc: Global, steps: &[Step], tree: &Tree) -> Result<Items<Option<P
     ensures len { IfOk result (λ paths. length paths ≡ length tree.now.costs.items) }
     ensures kept { IfOk result (AreKept steps.now tree.now.costs.items tree.now.firsts.items 0) }
 {
-    let mut paths = Items::new(alloc);
+    let mut paths = with_room(alloc, tree.costs.len())?;
     for node in 0..tree.costs.len() {
         paths.push(path_to(alloc, steps, tree, node)?)?;
     }

@@ -1,25 +1,28 @@
 //! Paths to AS boundary routers (RFC 2328, sections 3.3 and 16.4).
 ghost use Rattle.std.specs.Prelude.{◌≡◌, IfOk, IfSome, All, map};
 ghost use Rattle.std.specs.List.{filter_map};
-ghost use Rattle.std.specs.Option.{option_or};
+ghost use Rattle.std.specs.Option.{option_map};
 ghost use Rattle.rc_ospf.specs.Areas as area;
 ghost use Rattle.rc_ospf.specs.Boundaries as spec;
 ghost use Rattle.rc_ospf.specs.BoundaryPaths.{IsNear};
 ghost use Rattle.rc_ospf.specs.BoundaryForms.{target_of, path_of_target};
 ghost use Rattle.rc_ospf.specs.Members.{reach_of, known};
-ghost use Rattle.rc_ospf.specs.Ways.{best_way as best_way_of};
+ghost use Rattle.rc_ospf.specs.ByPrefix.{ways_of};
+ghost use Rattle.rc_ospf.specs.RouterAreas.{open_areas};
+ghost use Rattle.rc_ospf.specs.Ways.{best_of};
 ghost use Rattle.rc_ospf.specs.declared.member.StubAreas.TheVariants.{LeftOut};
 
-use crate::hops::hops_in_order;
 use crate::member::{Member, StubAreas};
-use crate::router_area::{open_areas, router_areas};
-use crate::routes::inter;
+use crate::router_area::{is_in_backbone, router_areas};
+use crate::routes::heard;
+use crate::shares::{Makes, made_by};
 use crate::summaries::{Summaries, summaries_of};
-use crate::way::{Way, best_way};
+use crate::way::{best_cost, hops_at};
 use crate::{Boundary, Offer, RouterArea};
 use rc_base::{Items, RouterId};
 use rc_config::{Network, OspfProcess, Redistribution, RouterText};
 use std::alloc::{AllocError, Global};
+use std::thread::Threads;
 
 /// An AS boundary router with all that is offered of it.
 pub(crate) struct Target {
@@ -91,17 +94,19 @@ fn boundary_routers(alloc: Global, net: &Network) -> Result<Items<RouterId>, All
     Ok(found)
 }
 
-/// The offers of a router at the cost 0 in some areas.
-fn offers_in(
+/// The offers of a router at the cost 0 in each of some areas that isn't a stub area.
+fn open_offers(
     alloc: Global,
     router: RouterId,
     areas: &[RouterArea],
 ) -> Result<Items<Offer>, AllocError>
-    ensures { IfOk result (λ offers. offers ≡ map (λ a. area.offer router a.area 0) areas.now) }
+    ensures { IfOk result (λ offers. offers ≡ map (λ a. area.offer router a.area 0) (open_areas areas.now)) }
 {
     let mut offers = Items::new(alloc);
     for area in areas {
-        offers.push(Offer::new(router, area.area, 0))?;
+        if !area.is_stub {
+            offers.push(Offer::new(router, area.area, 0))?;
+        }
     }
     Ok(offers)
 }
@@ -115,8 +120,7 @@ fn boundary_offers(
     ensures { IfOk result (λ offers. offers ≡ spec.boundary_offers net.now router) }
 {
     let areas = router_areas(alloc, net, router)?;
-    let open = open_areas(alloc, areas.as_slice())?;
-    offers_in(alloc, router, open.as_slice())
+    open_offers(alloc, router, areas.as_slice())
 }
 
 /// An AS boundary router with all that is offered of it.
@@ -137,54 +141,88 @@ fn target_of(
     })
 }
 
-/// Some AS boundary routers with all that is offered of them.
-fn targets_of(
-    alloc: Global,
-    net: &Network,
-    members: &[Member],
-    routers: &[RouterId],
-) -> Result<Items<Target>, AllocError>
-    ensures { IfOk result (λ targets. targets ≡ map (target_of net.now (map (known LeftOut) members.now)) routers.now) }
-{
-    let mut targets = Items::new(alloc);
-    for router in routers {
-        targets.push(target_of(alloc, net, members, *router)?)?;
-    }
-    Ok(targets)
+/// A network with its routers, some of which are AS boundary routers.
+#[derive(Drop)]
+struct Bounded<'a> {
+    net: &'a Network,
+    members: &'a [Member],
 }
 
-/// The AS boundary routers of a network with all that is offered of them. It errs only where memory runs out.
-pub(crate) fn targets(
+impl<'a> Makes for Bounded<'a> {
+    type Thing = RouterId;
+
+    type Made = Target;
+
+    ghost use Rattle.std.specs.Prelude.{map};
+    ghost use Rattle.rc_ospf.specs.BoundaryForms.{target_of};
+    ghost use Rattle.rc_ospf.specs.Members.{known};
+    ghost use Rattle.rc_ospf.specs.Shares.{IsGiven};
+    ghost use Rattle.rc_ospf.specs.declared.member.StubAreas.TheVariants.{LeftOut};
+
+    ghost fits = { λ s r. Unit {0} };
+
+    ghost made = { λ s r t. IsGiven (target_of s.net.now (map (known LeftOut) s.members.now)) (λ _. Unit {0}) r t };
+
+    fn make(&self, alloc: Global, router: &RouterId) -> Result<Target, AllocError>
+        ensures { IfOk result (IsGiven (target_of self.now.net.now (map (known LeftOut) self.now.members.now)) (λ _. Unit {0}) router.now) }
+    {
+        target_of(alloc, self.net, self.members, *router)
+    }
+}
+
+/// The AS boundary routers of a network with all that is offered of them, which the workers share. It errs only where memory runs
+/// out.
+pub(crate) fn targets<R: Threads + Sync>(
+    rt: &R,
     alloc: Global,
     net: &Network,
     members: &[Member],
+    workers: u32,
 ) -> Result<Items<Target>, AllocError>
     ensures { IfOk result (λ targets. targets ≡ map (target_of net.now (map (known LeftOut) members.now)) (spec.boundary_routers net.now)) }
 {
     let routers = boundary_routers(alloc, net)?;
-    targets_of(alloc, net, members, routers.as_slice())
+    let bounded = Bounded { net, members };
+    made_by(rt, alloc, &bounded, routers.as_slice(), workers)
 }
 
-/// The path over a way.
-fn path_over(alloc: Global, router: RouterId, way: &Way) -> Result<Boundary, AllocError>
-    ensures value { IfOk result (λ path. path ≡ spec.path_over router way.now) }
-    ensures near { IfOk result IsNear }
+/// The path over the best ways to some offers of a router; where only those of others count, over the best to these.
+fn best_path(
+    alloc: Global,
+    router: RouterId,
+    member: &Member,
+    others: bool,
+    offers: &[Offer],
+) -> Result<Option<Boundary>, AllocError>
+    ensures value { IfOk result (λ path. path ≡ option_map (spec.path_over router) (best_of (ways_of (reach_of member.now) others member.now.router offers.now))) }
+    ensures near { IfOk result (λ path. IfSome path IsNear) }
 {
-    let hops = hops_in_order(alloc, way.hops().as_slice())?;
-    Ok(Boundary::new(router, way.cost(), hops))
-}
-
-/// The best way of a router to another one: inside an area where there is one, and else between areas.
-fn way_to(alloc: Global, member: &Member, target: &Target) -> Result<Option<Way>, AllocError>
-    ensures { IfOk result (λ way. way ≡ option_or (best_way_of (reach_of member.now) target.now.inside) (area.inter (known LeftOut member.now) target.now.summaries)) }
-{
-    match best_way(alloc, member, target.inside.as_slice())? {
-        Some(way) => Ok(Some(way)),
-        None => inter(alloc, member, StubAreas::LeftOut, &target.summaries),
+    let best = best_cost(member, others, offers);
+    match best {
+        Some(cost) => {
+            let hops = hops_at(alloc, member, others, cost, offers)?;
+            Ok(Some(Boundary::new(router, cost, hops)))
+        }
+        None => Ok(None),
     }
 }
 
-/// The path of a router to another one, where there is one.
+/// The path of a router to another one between areas.
+fn inter_path(
+    alloc: Global,
+    member: &Member,
+    target: &Target,
+) -> Result<Option<Boundary>, AllocError>
+    ensures value { IfOk result (λ path. path ≡ option_map (spec.path_over target.now.router) (area.inter (known LeftOut member.now) target.now.summaries)) }
+    ensures near { IfOk result (λ path. IfSome path IsNear) }
+{
+    let in_backbone = is_in_backbone(member.areas(StubAreas::LeftOut));
+    let offers = heard(in_backbone, &target.summaries);
+    best_path(alloc, target.router, member, in_backbone, offers)
+}
+
+/// The path of a router to another one, where there is one: inside an area where there is one, and else between areas.
+#[tactic(auto, using(crate::proofs::WayLaws::over_either))]
 fn path_to(alloc: Global, member: &Member, target: &Target) -> Result<Option<Boundary>, AllocError>
     ensures value { IfOk result (λ path. path ≡ path_of_target (known LeftOut member.now) target.now) }
     ensures near { IfOk result (λ path. IfSome path IsNear) }
@@ -192,9 +230,10 @@ fn path_to(alloc: Global, member: &Member, target: &Target) -> Result<Option<Bou
     if member.router == target.router {
         return Ok(None);
     }
-    match way_to(alloc, member, target)? {
-        Some(way) => Ok(Some(path_over(alloc, target.router, &way)?)),
-        None => Ok(None),
+    let inside = target.inside.as_slice();
+    match best_path(alloc, target.router, member, false, inside)? {
+        Some(path) => Ok(Some(path)),
+        None => inter_path(alloc, member, target),
     }
 }
 

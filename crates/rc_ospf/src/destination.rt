@@ -1,15 +1,17 @@
 //! Prefixes with all that is offered of them.
-ghost use Rattle.std.specs.Prelude.{◌≡◌, ◌++◌, IfOk, OnOk, map};
+ghost use Rattle.std.specs.Prelude.{◌≡◌, IfOk, map};
 ghost use Rattle.rc_ospf.specs.ByPrefix.{destination_of};
 ghost use Rattle.rc_ospf.specs.Members.{known};
 ghost use Rattle.rc_ospf.specs.Routes as spec;
 ghost use Rattle.rc_ospf.specs.declared.member.StubAreas.TheVariants.{Kept};
 
 use crate::member::{Member, StubAreas};
+use crate::shares::{Makes, made_by};
 use crate::summaries::{Summaries, summaries_of};
 use crate::{Offer, Row};
 use rc_base::{Addr, Items, Prefix};
 use std::alloc::{AllocError, Global};
+use std::thread::Threads;
 
 /// A prefix with all that is offered of it: by interfaces inside their areas, and by border routers as summaries.
 pub struct Destination {
@@ -82,34 +84,58 @@ fn destination_of(alloc: Global, members: &[Member], row: &Row) -> Result<Destin
     })
 }
 
-/// Puts the prefixes of rows at the end, with all that is offered of them.
-fn add_destinations(
-    alloc: Global,
-    all: &mut Items<Destination>,
-    members: &[Member],
-    rows: &[Row],
-) -> Result<(), AllocError>
-    ensures { OnOk result (all.new ≡ all.old ++ map (destination_of (map (known Kept) members.now)) rows.now) }
+/// The rows, and that of the default route in front where there is none.
+fn with_default(alloc: Global, rows: Items<Row>) -> Result<Items<Row>, AllocError>
+    ensures { IfOk result (λ all. all ≡ spec.with_default rows) }
 {
-    for row in rows {
-        all.push(destination_of(alloc, members, row)?)?;
+    if starts_with_default(rows.as_slice()) {
+        return Ok(rows);
     }
-    Ok(())
+    let mut rows = rows.into_vec();
+    rows.insert(0, default_row(alloc))?;
+    Ok(Items::from_vec(rows))
+}
+
+/// The routers that may summarise what is offered.
+#[derive(Drop)]
+struct Summarising<'a> {
+    members: &'a [Member],
+}
+
+impl<'a> Makes for Summarising<'a> {
+    type Thing = Row;
+
+    type Made = Destination;
+
+    ghost use Rattle.std.specs.Prelude.{map};
+    ghost use Rattle.rc_ospf.specs.ByPrefix.{destination_of};
+    ghost use Rattle.rc_ospf.specs.Members.{known};
+    ghost use Rattle.rc_ospf.specs.Shares.{IsGiven};
+    ghost use Rattle.rc_ospf.specs.declared.member.StubAreas.TheVariants.{Kept};
+
+    ghost fits = { λ s row. Unit {0} };
+
+    ghost made = { λ s row d. IsGiven (destination_of (map (known Kept) s.members.now)) (λ _. Unit {0}) row d };
+
+    fn make(&self, alloc: Global, row: &Row) -> Result<Destination, AllocError>
+        ensures { IfOk result (IsGiven (destination_of (map (known Kept) self.now.members.now)) (λ _. Unit {0}) row.now) }
+    {
+        destination_of(alloc, self.members, row)
+    }
 }
 
 /// The prefixes of rows with all that is offered of them, and the default route in front where it has no row. It errs only
 /// where memory runs out.
-pub(crate) fn destinations(
+pub(crate) fn destinations<R: Threads + Sync>(
+    rt: &R,
     alloc: Global,
     members: &[Member],
-    rows: &[Row],
+    rows: Items<Row>,
+    workers: u32,
 ) -> Result<Items<Destination>, AllocError>
-    ensures { IfOk result (λ all. all ≡ map (destination_of (map (known Kept) members.now)) (spec.with_default rows.now)) }
+    ensures { IfOk result (λ all. all ≡ map (destination_of (map (known Kept) members.now)) (spec.with_default rows)) }
 {
-    let mut all = Items::new(alloc);
-    if !starts_with_default(rows) {
-        all.push(destination_of(alloc, members, &default_row(alloc))?)?;
-    }
-    add_destinations(alloc, &mut all, members, rows)?;
-    Ok(all)
+    let rows = with_default(alloc, rows)?;
+    let summarising = Summarising { members };
+    made_by(rt, alloc, &summarising, rows.as_slice(), workers)
 }

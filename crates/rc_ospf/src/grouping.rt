@@ -9,19 +9,10 @@ use rc_base::{Items, Prefix, PrefixMap};
 use std::alloc::{AllocError, Global};
 
 /// A prefix with all its offers.
+#[derive(Drop)]
 pub struct Row {
     pub prefix: Prefix,
     pub offers: Items<Offer>,
-}
-
-/// By a function of its own, so that what holds rows drops each by one call.
-impl Drop for Row {
-    fn drop(self) {
-        let Row {
-            prefix: _,
-            offers: _,
-        } = self;
-    }
 }
 
 /// The offers with one more.

@@ -46,12 +46,12 @@ fn is_matched(address: Addr, line: &OspfNetwork) -> bool
 fn area_by_line(process: &OspfProcess, address: Addr) -> Option<u32>
     ensures { result ≡ spec.area_by_line process.now address }
 {
-    let lines = process.networks.as_slice();
-    let found = lines.iter().find(|line| is_matched(address, line));
-    match found {
-        Some(line) => Some(line.area),
-        None => None,
+    for line in process.networks.as_slice() {
+        if is_matched(address, line) {
+            return Some(line.area);
+        }
     }
+    None
 }
 
 /// The area that `ip ospf P area N` gives in this process.
@@ -151,14 +151,6 @@ fn dead_of(settings: &OspfSettings) -> u32
     }
 }
 
-/// Whether a process has an area as a stub area.
-fn is_stub(process: &OspfProcess, area: u32) -> bool
-    ensures { result ≡ is_some (spec.stub_of process.now area) }
-{
-    let found = process.stub_areas.get(area);
-    found.is_some()
-}
-
 /// The OSPF interface of an interface that is up, in an area.
 fn ospf_interface(
     process: &OspfProcess,
@@ -171,6 +163,7 @@ fn ospf_interface(
     ensures { result ≡ spec.ospf_interface process.now id name.now interface.now primary.now area }
 {
     let kind = type_of_name(name);
+    let stub = process.stub_areas.get(area);
     OspfInterface {
         id,
         area,
@@ -180,7 +173,7 @@ fn ospf_interface(
         network: network_of(kind, &interface.ospf),
         hello: hello_of(&interface.ospf),
         dead: dead_of(&interface.ospf),
-        is_stub: is_stub(process, area),
+        is_stub: stub.is_some(),
         is_passive: process.is_passive(name),
     }
 }

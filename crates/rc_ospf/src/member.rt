@@ -1,10 +1,9 @@
 //! Routers as OSPF has them: their areas, and the least walks from them.
-ghost use Rattle.std.specs.Prelude.{◌≡◌, ◌<◌, ◌≤◌, IfOk, All, length};
+ghost use Rattle.std.specs.Prelude.{◌≡◌, ◌≤◌, IfOk, All, length};
 ghost use Rattle.std.specs.List.{range_with_len};
 ghost use Rattle.std.specs.Option.{option_copied};
-ghost use Rattle.rc_ospf.specs.Edges.{IsFitStep, AreAreaGraphs};
+ghost use Rattle.rc_ospf.specs.Edges.{IsFitStep};
 ghost use Rattle.rc_ospf.specs.Members.{nowhere, reach_of, areas_known, IsMember, AreMembers};
-ghost use Rattle.rc_ospf.specs.Shares.{AreMade};
 
 use crate::area::{AreaGraph, area_graphs, reach_from};
 use crate::path::path_at;
@@ -80,33 +79,6 @@ fn no_step() -> Path
     Path::new(0, Hops::none())
 }
 
-/// A router with its least walks, from the graphs of all areas.
-fn member_of(
-    alloc: Global,
-    net: &Network,
-    routers: usize,
-    steps: &[Step],
-    graphs: &[AreaGraph],
-    router: RouterId,
-) -> Result<Member, AllocError>
-    requires steps { All (IsFitStep routers) steps.now }
-    requires few { routers ≤ 512 }
-    requires graphs { AreAreaGraphs routers steps.now graphs.now }
-    requires router { router < routers }
-    ensures { IfOk result (IsMember net.now steps.now router) }
-{
-    let areas = router_areas(alloc, net, router)?;
-    let non_stub = open_areas(alloc, areas.as_slice())?;
-    let found = reach_from(alloc, routers, steps, graphs, router)?;
-    Ok(Member {
-        router,
-        areas,
-        non_stub,
-        own: no_step(),
-        found,
-    })
-}
-
 /// What the least walks of routers are made from.
 #[derive(Drop)]
 struct LinkStates<'a> {
@@ -127,18 +99,21 @@ impl<'a> Makes for LinkStates<'a> {
 
     ghost made = { λ s r m. IsMember s.net.now s.steps.now r m };
 
+    /// A router with its least walks.
     fn make(&self, alloc: Global, router: &RouterId) -> Result<Member, AllocError>
         requires { IsRoot self.now router.now }
         ensures { IfOk result (IsMember self.now.net.now self.now.steps.now router.now) }
     {
-        member_of(
-            alloc,
-            self.net,
-            self.routers,
-            self.steps,
-            self.graphs,
-            *router,
-        )
+        let areas = router_areas(alloc, self.net, *router)?;
+        let non_stub = open_areas(alloc, areas.as_slice())?;
+        let found = reach_from(alloc, self.routers, self.steps, self.graphs, *router)?;
+        Ok(Member {
+            router: *router,
+            areas,
+            non_stub,
+            own: no_step(),
+            found,
+        })
     }
 }
 
@@ -151,32 +126,6 @@ pub(crate) fn routers_below(alloc: Global, routers: usize) -> Result<Items<Route
         ids.push(RouterId::at(index))?;
     }
     Ok(ids)
-}
-
-/// All routers, from the graphs of all areas.
-fn members_over<R: Threads + Sync>(
-    rt: &R,
-    alloc: Global,
-    net: &Network,
-    routers: usize,
-    steps: &[Step],
-    graphs: &[AreaGraph],
-    workers: u32,
-) -> Result<Items<Member>, AllocError>
-    requires steps { All (IsFitStep routers) steps.now }
-    requires few { routers ≤ 512 }
-    requires graphs { AreAreaGraphs routers steps.now graphs.now }
-    ensures { IfOk result (AreMade (IsMember net.now steps.now) (range_with_len 0 routers)) }
-{
-    let ids = routers_below(alloc, routers)?;
-    let states = LinkStates {
-        net,
-        routers,
-        steps,
-        graphs,
-    };
-    let made = made_by(rt, alloc, &states, ids.as_slice(), workers)?;
-    Ok(Items::from_vec(made))
 }
 
 /// All routers of a network with their least walks over its steps, which the workers share. It errs only where memory runs out.
@@ -194,5 +143,12 @@ pub(crate) fn members<R: Threads + Sync>(
     ensures each { IfOk result (AreMembers net.now steps.now 0) }
 {
     let graphs = area_graphs(alloc, routers, steps)?;
-    members_over(rt, alloc, net, routers, steps, graphs.as_slice(), workers)
+    let ids = routers_below(alloc, routers)?;
+    let states = LinkStates {
+        net,
+        routers,
+        steps,
+        graphs: graphs.as_slice(),
+    };
+    made_by(rt, alloc, &states, ids.as_slice(), workers)
 }

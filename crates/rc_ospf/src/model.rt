@@ -8,21 +8,11 @@ use std::marker::Model;
 
 /// The path of a router to an AS boundary router (RFC 2328, section 16.4): its cost, which is below 2^27, and the hops of all
 /// least walks, in order.
+#[derive(Drop)]
 pub struct Boundary {
     router: RouterId,
     cost: u32,
     hops: Hops,
-}
-
-/// By a function of its own, so that what holds such paths drops each by one call.
-impl Drop for Boundary {
-    fn drop(self) {
-        let Boundary {
-            router: _,
-            cost: _,
-            hops: _,
-        } = self;
-    }
 }
 
 impl Model for Boundary {

@@ -1,11 +1,8 @@
 //! The prefixes that a router advertises itself.
 ghost use Rattle.std.specs.Prelude.{◌≡◌, IfOk, OnOk, map};
 ghost use Rattle.std.specs.BTreeSet.{keys, insert_key};
-ghost use Rattle.std.specs.List.{flat_map};
 ghost use Rattle.rc_base.specs.Lists.{in_order};
 ghost use Rattle.rc_base.specs.Prefix.{prefix_cmp};
-ghost use Rattle.rc_ospf.specs.Adverts.{adverts_of};
-ghost use Rattle.rc_ospf.specs.Interfaces.{interfaces_at};
 ghost use Rattle.rc_ospf.specs.Routes as spec;
 
 use crate::Advert;
@@ -47,15 +44,6 @@ fn prefixes_of(alloc: Global, adverts: &[Advert]) -> Result<Items<Prefix>, Alloc
     Ok(prefixes)
 }
 
-/// What a router advertises.
-fn adverts_at(alloc: Global, net: &Network, router: RouterId) -> Result<Items<Advert>, AllocError>
-    ensures { IfOk result (λ all. all ≡ flat_map (adverts_of net.now) (interfaces_at net.now router)) }
-{
-    let mut interfaces = Items::new(alloc);
-    add_router(&mut interfaces, net, router)?;
-    adverts(alloc, net, interfaces.as_slice())
-}
-
 /// The prefixes that a router advertises itself, by address, then length. It errs only where memory runs out.
 pub(crate) fn own_prefixes(
     alloc: Global,
@@ -64,6 +52,8 @@ pub(crate) fn own_prefixes(
 ) -> Result<Items<Prefix>, AllocError>
     ensures { IfOk result (λ prefixes. prefixes ≡ spec.own_prefixes net.now router) }
 {
-    let adverts = adverts_at(alloc, net, router)?;
+    let mut interfaces = Items::new(alloc);
+    add_router(&mut interfaces, net, router)?;
+    let adverts = adverts(alloc, net, interfaces.as_slice())?;
     prefixes_of(alloc, adverts.as_slice())
 }

@@ -1,23 +1,17 @@
 //! The least walks from one router.
 ghost use Rattle.std.specs.Prelude.{◌≡◌, ◌<◌, ◌^◌};
 ghost use Rattle.std.specs.Option.{option_copied};
-ghost use Rattle.rc_ospf.specs.Paths.{path_in, path_of, paths_inside};
+ghost use Rattle.rc_ospf.specs.Paths.{path_in, path_of};
 
 use rc_base::{Items, RouterId};
 use rc_route::Hops;
 use std::marker::Model;
 
 /// The least walks to a router: their cost, which is below 2^26, and the first hops of all of them, in order.
+#[derive(Drop)]
 pub struct Path {
     cost: u32,
     hops: Hops,
-}
-
-/// By a function of its own, so that what holds paths drops each by one call.
-impl Drop for Path {
-    fn drop(self) {
-        let Path { cost: _, hops: _ } = self;
-    }
 }
 
 impl Model for Path {
@@ -55,17 +49,11 @@ impl Path {
 }
 
 /// The least walks from a router inside an area.
+#[derive(Drop)]
 pub struct AreaPaths {
     pub area: u32,
     /// By router, in the network's order; `None` where no walk leads there.
     pub paths: Items<Option<Path>>,
-}
-
-/// By a function of its own, so that what holds such paths drops them by one call.
-impl Drop for AreaPaths {
-    fn drop(self) {
-        let AreaPaths { area: _, paths: _ } = self;
-    }
 }
 
 /// The least walks to a router, where there are any.
@@ -78,20 +66,14 @@ fn path_of(paths: &AreaPaths, router: RouterId) -> Option<&Path>
     }
 }
 
-/// The least walks inside an area, where there are any.
-fn paths_inside(found: &[AreaPaths], area: u32) -> Option<&AreaPaths>
-    ensures { option_copied result ≡ paths_inside found.now area }
-{
-    found.iter().find(|paths| paths.area == area)
-}
-
 /// The least walks to a router inside an area, where there are any.
 pub(crate) fn path_at(found: &[AreaPaths], area: u32, router: RouterId) -> Option<&Path>
     ensures { option_copied result ≡ path_in found.now area router }
 {
-    let paths = paths_inside(found, area);
-    match paths {
-        Some(paths) => path_of(paths, router),
-        None => None,
+    for paths in found {
+        if paths.area == area {
+            return path_of(paths, router);
+        }
     }
+    None
 }

@@ -130,14 +130,24 @@ pub(crate) fn open_areas(
 pub(crate) fn is_in_backbone(areas: &[RouterArea]) -> bool
     ensures { result ≡ spec.is_in 0 areas.now }
 {
-    areas.iter().any(|area| area.area == 0)
+    for area in areas {
+        if area.area == 0 {
+            return true;
+        }
+    }
+    false
 }
 
 /// Whether some area is another one than the backbone.
 fn is_in_other(areas: &[RouterArea]) -> bool
     ensures { result ≡ list_any spec.is_outside areas.now }
 {
-    areas.iter().any(|area| area.area != 0)
+    for area in areas {
+        if area.area != 0 {
+            return true;
+        }
+    }
+    false
 }
 
 /// Whether a router of these areas is an area border router (RFC 2328, section 3.3).

@@ -3,37 +3,32 @@ ghost use Rattle.std.specs.Prelude.{◌≡◌, IfOk, IfSome, All};
 ghost use Rattle.std.specs.List.{filter_map, list_any};
 ghost use Rattle.std.specs.Option.{option_map};
 ghost use Rattle.rc_ospf.specs.Areas.{is_own, inter};
-ghost use Rattle.rc_ospf.specs.ByPrefix.{route_of};
+ghost use Rattle.rc_ospf.specs.ByPrefix.{heard, route_of, ways_of};
 ghost use Rattle.rc_ospf.specs.Members.{reach_of, known};
 ghost use Rattle.rc_ospf.specs.Routes.{route_over, IsShortRoute};
 ghost use Rattle.rc_route.specs.declared.route.Source.TheVariants.{Ospf, OspfIa};
-ghost use Rattle.rc_ospf.specs.Ways as ways;
+ghost use Rattle.rc_ospf.specs.Ways.{best_of};
 ghost use Rattle.rc_ospf.specs.declared.member.StubAreas.TheVariants.{Kept};
 
 use crate::Offer;
 use crate::destination::Destination;
-use crate::hops::hops_in_order;
 use crate::member::{Member, StubAreas};
 use crate::router_area::is_in_backbone;
+use crate::shares::with_room;
 use crate::summaries::Summaries;
-use crate::way::{Way, best_way, best_way_to_other};
-use rc_base::{Items, Prefix, RouterId};
+use crate::way::{best_cost, hops_at};
+use rc_base::{Prefix, RouterId};
 use rc_route::{Route, Source, Table};
 use std::alloc::{AllocError, Global};
 
-/// The way of a router between areas. It errs only where memory runs out.
-pub(crate) fn inter(
-    alloc: Global,
-    member: &Member,
-    stubs: StubAreas,
-    summaries: &Summaries,
-) -> Result<Option<Way>, AllocError>
-    ensures { IfOk result (λ way. way ≡ inter (known stubs member.now) summaries.now) }
+/// What a router hears of border routers. In the backbone only the summaries of others count.
+pub(crate) fn heard(in_backbone: bool, summaries: &Summaries) -> &[Offer]
+    ensures { result.now ≡ heard in_backbone summaries.now }
 {
-    if is_in_backbone(member.areas(stubs)) {
-        best_way_to_other(alloc, member, summaries.backbone.as_slice())
+    if in_backbone {
+        summaries.backbone.as_slice()
     } else {
-        best_way(alloc, member, summaries.outward.as_slice())
+        summaries.outward.as_slice()
     }
 }
 
@@ -41,35 +36,38 @@ pub(crate) fn inter(
 fn offers_itself(router: RouterId, offers: &[Offer]) -> bool
     ensures { result ≡ list_any (is_own router) offers.now }
 {
-    offers.iter().any(|offer| offer.router() == router)
+    for offer in offers {
+        if offer.router() == router {
+            return true;
+        }
+    }
+    false
 }
 
-/// The route over a way.
-fn route_by(alloc: Global, source: Source, prefix: Prefix, way: &Way) -> Result<Route, AllocError>
-    ensures value { IfOk result (λ route. route ≡ route_over source prefix way.now) }
-    ensures short { IfOk result IsShortRoute }
-{
-    let hops = hops_in_order(alloc, way.hops().as_slice())?;
-    Ok(Route {
-        prefix,
-        source,
-        distance: 110,
-        metric: way.cost(),
-        hops,
-    })
-}
-
-/// The route of a router inside areas.
-fn intra_route(
+/// The route over the best ways to some offers; where only those of others count, over the best to these.
+fn best_route(
     alloc: Global,
+    source: Source,
+    prefix: Prefix,
     member: &Member,
-    destination: &Destination,
+    others: bool,
+    offers: &[Offer],
 ) -> Result<Option<Route>, AllocError>
     ensures short { IfOk result (λ route. IfSome route IsShortRoute) }
-    ensures value { IfOk result (λ route. route ≡ option_map (route_over Ospf destination.now.prefix) (ways.best_way (reach_of member.now) destination.now.inside)) }
+    ensures value { IfOk result (λ route. route ≡ option_map (route_over source prefix) (best_of (ways_of (reach_of member.now) others member.now.router offers.now))) }
 {
-    match best_way(alloc, member, destination.inside.as_slice())? {
-        Some(way) => Ok(Some(route_by(alloc, Source::Ospf, destination.prefix, &way)?)),
+    let best = best_cost(member, others, offers);
+    match best {
+        Some(metric) => {
+            let hops = hops_at(alloc, member, others, metric, offers)?;
+            Ok(Some(Route {
+                prefix,
+                source,
+                distance: 110,
+                metric,
+                hops,
+            }))
+        }
         None => Ok(None),
     }
 }
@@ -83,10 +81,16 @@ fn inter_route(
     ensures short { IfOk result (λ route. IfSome route IsShortRoute) }
     ensures value { IfOk result (λ route. route ≡ option_map (route_over OspfIa destination.now.prefix) (inter (known Kept member.now) destination.now.summaries)) }
 {
-    match inter(alloc, member, StubAreas::Kept, &destination.summaries)? {
-        Some(way) => Ok(Some(route_by(alloc, Source::OspfIa, destination.prefix, &way)?)),
-        None => Ok(None),
-    }
+    let in_backbone = is_in_backbone(member.areas(StubAreas::Kept));
+    let offers = heard(in_backbone, &destination.summaries);
+    best_route(
+        alloc,
+        Source::OspfIa,
+        destination.prefix,
+        member,
+        in_backbone,
+        offers,
+    )
 }
 
 /// The route of a router: inside areas before between areas, and none to a prefix that it advertises itself.
@@ -98,10 +102,12 @@ fn route_of(
     ensures value { IfOk result (λ route. route ≡ route_of (known Kept member.now) destination.now) }
     ensures short { IfOk result (λ route. IfSome route IsShortRoute) }
 {
-    if offers_itself(member.router, destination.inside.as_slice()) {
+    let inside = destination.inside.as_slice();
+    if offers_itself(member.router, inside) {
         return Ok(None);
     }
-    match intra_route(alloc, member, destination)? {
+    let prefix = destination.prefix;
+    match best_route(alloc, Source::Ospf, prefix, member, false, inside)? {
         Some(route) => Ok(Some(route)),
         None => inter_route(alloc, member, destination),
     }
@@ -116,7 +122,7 @@ pub(crate) fn routes_of(
     ensures value { IfOk result (λ routes. routes ≡ filter_map (route_of (known Kept member.now)) destinations.now) }
     ensures short { IfOk result (All IsShortRoute) }
 {
-    let mut routes = Items::new(alloc);
+    let mut routes = with_room(alloc, destinations.len())?;
     for destination in destinations {
         if let Some(route) = route_of(alloc, member, destination)? {
             routes.push(route)?;

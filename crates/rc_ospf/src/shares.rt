@@ -3,10 +3,11 @@
 //! The things are shared by halves: the workers of one half and those of the other work side by side, until a worker stands alone
 //! or so few things are left that it takes longer to start a thread. All of them read what nobody changes, and each makes a list
 //! of its own, so nothing has to be locked; the lists are put together in order.
-ghost use Rattle.std.specs.Prelude.{◌≡◌, ◌++◌, ◌≤◌, ◌<◌, IfOk, All};
+ghost use Rattle.std.specs.Prelude.{◌≡◌, [], ◌++◌, ◌≤◌, ◌<◌, IfOk, All};
 ghost use Rattle.std.specs.Thread.{IsSync};
 ghost use Rattle.rc_ospf.specs.Shares.{AreMade};
 
+use rc_base::Items;
 use std::alloc::{AllocError, Global};
 use std::thread::{Threads, join};
 
@@ -33,16 +34,24 @@ pub(crate) trait Makes: Sync {
         ensures { IfOk result (made self.now thing.now) };
 }
 
+/// The empty list with room for so many elements, which then take no more memory.
+pub(crate) fn with_room<T: Drop>(alloc: Global, elements: usize) -> Result<Items<T>, AllocError>
+    ensures { IfOk result (λ items. items ≡ []) }
+{
+    let items = Vec::with_capacity(alloc, elements)?;
+    Ok(Items::from_vec(items))
+}
+
 /// What one worker makes of some things.
 fn in_turn<W: Makes>(
     alloc: Global,
     work: &W,
     things: &[W::Thing],
-) -> Result<Vec<W::Made>, AllocError>
+) -> Result<Items<W::Made>, AllocError>
     requires fits { All (W.fits work.now) things.now }
-    ensures { IfOk result (λ made. AreMade (W.made work.now) things.now made.items) }
+    ensures { IfOk result (AreMade (W.made work.now) things.now) }
 {
-    let mut made = Vec::with_capacity(alloc, things.len())?;
+    let mut made = with_room(alloc, things.len())?;
     for thing in things {
         made.push(work.make(alloc, thing)?)?;
     }
@@ -50,11 +59,13 @@ fn in_turn<W: Makes>(
 }
 
 /// Two lists, one behind the other.
-fn appended<T: Drop>(mut left: Vec<T>, mut right: Vec<T>) -> Result<Vec<T>, AllocError>
-    ensures { IfOk result (λ all. all.items ≡ left.items ++ right.items) }
+fn appended<T: Drop>(left: Items<T>, right: Items<T>) -> Result<Items<T>, AllocError>
+    ensures { IfOk result (λ all. all ≡ left ++ right) }
 {
-    left.append(&mut right)?;
-    Ok(left)
+    let mut all = left.into_vec();
+    let mut right = right.into_vec();
+    all.append(&mut right)?;
+    Ok(Items::from_vec(all))
 }
 
 /// How many of some things are for the first few of some workers.
@@ -74,9 +85,9 @@ pub(crate) fn made_by<R: Threads + Sync, W: Makes>(
     work: &W,
     things: &[W::Thing],
     workers: u32,
-) -> Result<Vec<W::Made>, AllocError>
+) -> Result<Items<W::Made>, AllocError>
     requires fits { All (W.fits work.now) things.now }
-    ensures { IfOk result (λ made. AreMade (W.made work.now) things.now made.items) }
+    ensures { IfOk result (AreMade (W.made work.now) things.now) }
 {
     if workers <= 1 || things.len() < FEW {
         return in_turn(alloc, work, things);
@@ -86,13 +97,13 @@ pub(crate) fn made_by<R: Threads + Sync, W: Makes>(
     let (front, back) = things.split_at(share_of(things.len(), few, workers));
     let (left, right) = join(
         rt,
-        || -> Result<Vec<W::Made>, AllocError>
+        || -> Result<Items<W::Made>, AllocError>
             requires { IsSync R.row × IsSync W.row × All (W.fits work.now) front.now }
-            ensures { IfOk result (λ made. AreMade (W.made work.entry.now) front.entry.now made.items) }
+            ensures { IfOk result (AreMade (W.made work.entry.now) front.entry.now) }
         { made_by(rt, alloc, work, front, few) },
-        || -> Result<Vec<W::Made>, AllocError>
+        || -> Result<Items<W::Made>, AllocError>
             requires { IsSync R.row × IsSync W.row × All (W.fits work.now) back.now }
-            ensures { IfOk result (λ made. AreMade (W.made work.entry.now) back.entry.now made.items) }
+            ensures { IfOk result (AreMade (W.made work.entry.now) back.entry.now) }
         { made_by(rt, alloc, work, back, others) },
     );
     let left = left?;

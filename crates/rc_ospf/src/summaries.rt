@@ -9,7 +9,7 @@ ghost use Rattle.rc_ospf.specs.RouterAreas.{is_outside};
 
 use crate::member::{Member, StubAreas};
 use crate::router_area::is_border;
-use crate::way::{best_cost, best_cost_to_other};
+use crate::way::best_cost;
 use crate::{Offer, RouterArea};
 use rc_base::{Items, RouterId};
 use std::alloc::{AllocError, Global};
@@ -80,7 +80,7 @@ fn backbone_summary(member: &Member, inside: &[Offer]) -> Option<u32>
     ensures value { result ≡ spec.backbone_summary (reach_of member.now) inside.now }
     ensures small { IfSome result (λ c. c < 2 ^ 26) }
 {
-    let cost = best_cost(member, inside);
+    let cost = best_cost(member, false, inside);
     match cost {
         Some(cost) => intra_summary(member, inside, 0, cost),
         None => None,
@@ -127,12 +127,13 @@ fn backbone_summaries(
 }
 
 /// What a router has between areas, where it has nothing inside areas.
+#[tactic(auto, using(crate::proofs::WayLaws::ways_to_others))]
 fn inter_cost(member: &Member, backbone: &[Offer], intra: Option<u32>) -> Option<u32>
     ensures { result ≡ spec.inter_cost (known Kept member.now) backbone.now intra }
 {
     match intra {
         Some(_) => None,
-        None => best_cost_to_other(member, backbone),
+        None => best_cost(member, true, backbone),
     }
 }
 
@@ -249,7 +250,7 @@ fn add_outward(
     if !is_border(areas) {
         return Ok(());
     }
-    let intra = best_cost(member, inside);
+    let intra = best_cost(member, false, inside);
     let inter = inter_cost(member, backbone, intra);
     add_offers_of(offers, member, areas, is_default, inside, intra, inter)
 }

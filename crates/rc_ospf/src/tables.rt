@@ -8,7 +8,7 @@ ghost use Rattle.rc_ospf.specs.Boundaries.{boundary_routers};
 ghost use Rattle.rc_ospf.specs.ByPrefix.{destination_of};
 ghost use Rattle.rc_ospf.specs.BoundaryPaths.{IsNear};
 ghost use Rattle.rc_ospf.specs.Internal.{adverts_in, steps_of, IsInternal, HasOneInternal, HasSmallSums};
-ghost use Rattle.rc_ospf.specs.Members.{known, table_of, AreMembers};
+ghost use Rattle.rc_ospf.specs.Members.{known, AreMembers};
 ghost use Rattle.rc_ospf.specs.Routes as spec;
 ghost use Rattle.rc_ospf.specs.declared.member.StubAreas.TheVariants.{Kept, LeftOut};
 
@@ -44,17 +44,19 @@ fn members_of<R: Threads + Sync>(
 }
 
 /// Each prefix that is advertised, and the default route, with all that is offered of it.
-fn destinations_of(
+fn destinations_of<R: Threads + Sync>(
+    rt: &R,
     alloc: Global,
     net: &Network,
     members: &[Member],
+    workers: u32,
 ) -> Result<Items<Destination>, AllocError>
     ensures { IfOk result (λ all. all ≡ map (destination_of (map (known Kept) members.now)) (spec.with_default (spec.offered_rows (adverts_in net.now)))) }
 {
     let interfaces = ospf_interfaces(alloc, net)?;
     let offered = adverts(alloc, net, interfaces.as_slice())?;
     let rows = offers_by_prefix(alloc, offered.as_slice())?;
-    destinations(alloc, members, rows.as_slice())
+    destinations(rt, alloc, members, rows, workers)
 }
 
 /// The destinations to which the routes of a router lead.
@@ -84,22 +86,6 @@ impl<'a> Makes for RoutesTo<'a> {
     }
 }
 
-/// The routes of each router to some destinations.
-fn tables_over<R: Threads + Sync>(
-    rt: &R,
-    alloc: Global,
-    members: &[Member],
-    destinations: &[Destination],
-    workers: u32,
-) -> Result<Items<Table>, AllocError>
-    ensures value { IfOk result (λ tables. tables ≡ map (table_of destinations.now) members.now) }
-    ensures short { IfOk result (All (All spec.IsShortRoute)) }
-{
-    let routes = RoutesTo { destinations };
-    let made = made_by(rt, alloc, &routes, members, workers)?;
-    Ok(Items::from_vec(made))
-}
-
 /// The routes of each router.
 fn tables<R: Threads + Sync>(
     rt: &R,
@@ -111,8 +97,11 @@ fn tables<R: Threads + Sync>(
     ensures short { IfOk result (All (All spec.IsShortRoute)) }
     ensures value { IfOk result (λ tables. tables ≡ map (spec.internal_routes (map (known Kept) members.now) (adverts_in net.now)) (map (known Kept) members.now)) }
 {
-    let destinations = destinations_of(alloc, net, members)?;
-    tables_over(rt, alloc, members, destinations.as_slice(), workers)
+    let destinations = destinations_of(rt, alloc, net, members, workers)?;
+    let routes = RoutesTo {
+        destinations: destinations.as_slice(),
+    };
+    made_by(rt, alloc, &routes, members, workers)
 }
 
 /// The AS boundary routers to which the paths of a router lead.
@@ -142,22 +131,6 @@ impl<'a> Makes for PathsTo<'a> {
     }
 }
 
-/// The paths of each router to some others.
-fn paths_over<R: Threads + Sync>(
-    rt: &R,
-    alloc: Global,
-    members: &[Member],
-    targets: &[Target],
-    workers: u32,
-) -> Result<Items<Items<Boundary>>, AllocError>
-    ensures value { IfOk result (λ paths. paths ≡ map (paths_of targets.now) members.now) }
-    ensures near { IfOk result (All (All IsNear)) }
-{
-    let paths = PathsTo { targets };
-    let made = made_by(rt, alloc, &paths, members, workers)?;
-    Ok(Items::from_vec(made))
-}
-
 /// The paths of each router to the AS boundary routers.
 fn boundaries<R: Threads + Sync>(
     rt: &R,
@@ -169,8 +142,11 @@ fn boundaries<R: Threads + Sync>(
     ensures near { IfOk result (All (All IsNear)) }
     ensures value { IfOk result (λ paths. paths ≡ map (paths_of (map (target_of net.now (map (known LeftOut) members.now)) (boundary_routers net.now))) members.now) }
 {
-    let targets = targets(alloc, net, members)?;
-    paths_over(rt, alloc, members, targets.as_slice(), workers)
+    let targets = targets(rt, alloc, net, members, workers)?;
+    let paths = PathsTo {
+        targets: targets.as_slice(),
+    };
+    made_by(rt, alloc, &paths, members, workers)
 }
 
 /// The network whose routers advertise prefixes themselves.
@@ -209,8 +185,7 @@ fn own<R: Threads + Sync>(
 {
     let ids = routers_below(alloc, net.routers.len())?;
     let prefixes = PrefixesIn { net };
-    let made = made_by(rt, alloc, &prefixes, ids.as_slice(), workers)?;
-    Ok(Items::from_vec(made))
+    made_by(rt, alloc, &prefixes, ids.as_slice(), workers)
 }
 
 /// What OSPF gives without a state in a network with these links (RFC 2328, sections 16.1, 16.2 and 16.4): the routes of each

@@ -1,4 +1,3 @@
-use Rattle.std.proofs.Common.{arith}
 use Rattle.rc_ospf.proofs.ShareLaws.{share_in}
 use Rattle.rc_ospf.proofs.shares.share_of.Goals as goal
 

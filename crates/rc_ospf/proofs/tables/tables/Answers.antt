@@ -1,20 +1,24 @@
-use Rattle.std.proofs.Common.{◌≡◌, ◌∙◌, ap, map, List}
-use Rattle.std.specs.List.{filter_map}
+use Rattle.std.proofs.Common.{◌≡◌, ◌∙◌, ap, map, List, All}
 use Rattle.std.proofs.lemmas.Result.{IfOk-weaker}
-use Rattle.rc_ospf.specs.ByPrefix.{route_of}
 use Rattle.rc_ospf.specs.Internal.{adverts_in}
-use Rattle.rc_ospf.specs.Members.{known}
-use Rattle.rc_ospf.specs.Routes.{internal_routes}
+use Rattle.rc_ospf.specs.Members.{known, table_of}
+use Rattle.rc_ospf.specs.Routes.{IsShortRoute, internal_routes}
 use Rattle.rc_ospf.specs.declared.destination.Destination.{Destination}
-use Rattle.rc_ospf.specs.declared.member.Member.{Member}
 use Rattle.rc_ospf.specs.declared.member.StubAreas.TheVariants.{Kept}
+use Rattle.rc_ospf.proofs.ShareLaws.{all_given, all_of_kind}
 use Rattle.rc_ospf.proofs.TableLaws.{routes_are}
 use Rattle.rc_ospf.proofs.tables.tables.Goals as goal
+
+pub made_by-requires-clause-fits : goal.made_by-requires-clause-fits
+made_by-requires-clause-fits g c κs within = λ k d lt. tt
+
+pub returns-clause-short : goal.returns-clause-short
+returns-clause-short g c = IfOk-weaker c.made_by.result _ (All (All IsShortRoute)) (λ ts made. all_of_kind (table_of c.as_slice.result.now) (All IsShortRoute) c.args.members.now ts made) c.made_by.ensures
 
 pub returns-clause-value : goal.returns-clause-value
 returns-clause-value g c =
     let ms = c.args.members.now in
     let adverts = adverts_in c.args.net.now in
-    IfOk-weaker _ _ (λ tables. tables ≡ map (internal_routes (map (known Kept) ms) adverts) (map (known Kept) ms))
-    (λ tables made. made ∙ ap (λ (ds : List Destination). map (λ (m : Member). filter_map (route_of (known Kept m)) ds) ms) (c.as_slice.ensures ∙ c.in_ok-destinations.ensures)
-    ∙ routes_are (map (known Kept) ms) adverts ms) c.tables_over.ensures.value
+    IfOk-weaker c.made_by.result _ (λ ts. ts ≡ map (internal_routes (map (known Kept) ms) adverts) (map (known Kept) ms))
+    (λ ts made. all_given (table_of c.as_slice.result.now) (All IsShortRoute) ms ts made
+    ∙ ap (λ (ds : List Destination). map (table_of ds) ms) (c.as_slice.ensures ∙ c.in_ok-destinations.ensures) ∙ routes_are (map (known Kept) ms) adverts ms) c.made_by.ensures

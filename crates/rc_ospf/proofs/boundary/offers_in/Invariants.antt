@@ -1,7 +1,0 @@
-use Rattle.std.proofs.Common.{◌≡◌, ◌++◌, drop, map}
-use Rattle.rc_ospf.specs.Areas.{offer}
-use Rattle.rc_ospf.specs.declared.router_area.RouterArea.{RouterArea}
-use Rattle.rc_ospf.proofs.boundary.offers_in.Given as goal
-
-abbrev pub invariant-loop-area : goal.invariant-loop-area
-invariant-loop-area l = l.offers ++ map (λ (a : RouterArea). offer l.router a.area 0) (drop l.area-index l.areas) ≡ map (λ (a : RouterArea). offer l.router a.area 0) l.areas
