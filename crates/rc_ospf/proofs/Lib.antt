@@ -14,3 +14,4 @@ mod TableLaws
 mod SortedLaws
 pub mod OneAnswer
 mod ShareLaws
+mod SummaryLaws

@@ -1,13 +1,14 @@
 -- Routers as the code keeps them.
-use Rattle.std.specs.Prelude.{◌≡◌, ℕ, suc, ◌==◌, ◌<◌, ◌≤◌, if◌then◌else◌, List, [], ◌∷◌, Some, All}
+use Rattle.std.specs.Prelude.{◌≡◌, ℕ, suc, ◌==◌, ◌<◌, ◌≤◌, if◌then◌else◌, Bool, List, [], ◌∷◌, map, Some, All}
 use Rattle.std.specs.List.{filter_map}
 use Rattle.rc_config.specs.declared.network.Network.{Network}
 use Rattle.rc_route.specs.declared.route.Route.{Route}
-use Rattle.rc_ospf.specs.Areas.{OspfRouter}
+use Rattle.rc_ospf.specs.Areas.{OspfRouter, summaries_of}
 use Rattle.rc_ospf.specs.ByPrefix.{route_of}
 use Rattle.rc_ospf.specs.Edges.{IsFitStep, AreAreaGraphs}
+use Rattle.rc_ospf.specs.Offered.{Offered}
 use Rattle.rc_ospf.specs.Paths.{path_in}
-use Rattle.rc_ospf.specs.RouterAreas.{router_areas, open_areas}
+use Rattle.rc_ospf.specs.RouterAreas.{router_areas, open_areas, is_border}
 use Rattle.rc_ospf.specs.Walks.{LeastWalks, Reach, IsReach}
 use Rattle.rc_ospf.specs.declared.adjacency.Step.{Step}
 use Rattle.rc_ospf.specs.declared.destination.Destination.{Destination}
@@ -52,3 +53,10 @@ pub record IsRoot (s : LinkStates) (r : ℕ) : Type 0 where
 -- the routes of a router to some destinations
 abbrev pub table_of : List Destination → Member → List Route
 table_of destinations m = filter_map (route_of (known Kept m)) destinations
+
+-- some routers give the same summaries as others, of all that is offered
+pub record SummariseAlike (stubs : StubAreas) (those these : List Member) : Type 0 where
+  pub alike : (is_default : Bool) (inside : List Offered) → summaries_of (map (known stubs) these) is_default inside ≡ summaries_of (map (known stubs) those) is_default inside
+
+abbrev pub is_border_at : StubAreas → Member → Bool
+is_border_at stubs m = is_border (areas_known stubs m)

@@ -16,7 +16,7 @@ use crate::member::{Member, StubAreas};
 use crate::router_area::{is_in_backbone, router_areas};
 use crate::routes::heard;
 use crate::shares::{Makes, made_by};
-use crate::summaries::{Summaries, summaries_of};
+use crate::summaries::{Summaries, summaries_of, to_be_asked};
 use crate::way::{best_cost, hops_at};
 use crate::{Boundary, Offer, RouterArea};
 use rc_base::{Items, RouterId};
@@ -182,7 +182,10 @@ pub(crate) fn targets<R: Threads + Sync>(
     ensures { IfOk result (λ targets. targets ≡ map (target_of net.now (map (known LeftOut) members.now)) (spec.boundary_routers net.now)) }
 {
     let routers = boundary_routers(alloc, net)?;
-    let bounded = Bounded { net, members };
+    let bounded = Bounded {
+        net,
+        members: to_be_asked(members, StubAreas::LeftOut),
+    };
     made_by(rt, alloc, &bounded, routers.as_slice(), workers)
 }
 

@@ -7,7 +7,7 @@ ghost use Rattle.rc_ospf.specs.declared.member.StubAreas.TheVariants.{Kept};
 
 use crate::member::{Member, StubAreas};
 use crate::shares::{Makes, made_by};
-use crate::summaries::{Summaries, summaries_of};
+use crate::summaries::{Summaries, summaries_of, to_be_asked};
 use crate::{Offer, Row};
 use rc_base::{Addr, Items, Prefix};
 use std::alloc::{AllocError, Global};
@@ -136,6 +136,8 @@ pub(crate) fn destinations<R: Threads + Sync>(
     ensures { IfOk result (λ all. all ≡ map (destination_of (map (known Kept) members.now)) (spec.with_default rows)) }
 {
     let rows = with_default(alloc, rows)?;
-    let summarising = Summarising { members };
+    let summarising = Summarising {
+        members: to_be_asked(members, StubAreas::Kept),
+    };
     made_by(rt, alloc, &summarising, rows.as_slice(), workers)
 }

@@ -77,8 +77,8 @@ fn share_of(things: usize, few: u32, workers: u32) -> usize
     things / workers as usize * few as usize
 }
 
-/// What is made of each of some things, in order. The workers, of which one or none is the caller alone, work side by side. It errs only where memory
-/// runs out.
+/// What is made of each of some things, in order. The workers work side by side; one, or none, is the caller alone. It errs only
+/// where memory runs out.
 pub(crate) fn made_by<R: Threads + Sync, W: Makes>(
     rt: &R,
     alloc: Global,

@@ -3,7 +3,7 @@ ghost use Rattle.std.specs.Prelude.{◌≡◌, ◌++◌, ◌<◌, ◌^◌, [], I
 ghost use Rattle.std.specs.List.{flat_map, list_any, cons_option};
 ghost use Rattle.std.specs.Option.{option_map};
 ghost use Rattle.rc_ospf.specs.Areas as spec;
-ghost use Rattle.rc_ospf.specs.Members.{reach_of, known};
+ghost use Rattle.rc_ospf.specs.Members.{reach_of, known, SummariseAlike};
 ghost use Rattle.rc_ospf.specs.declared.member.StubAreas.TheVariants.{Kept};
 ghost use Rattle.rc_ospf.specs.RouterAreas.{is_outside};
 
@@ -294,4 +294,17 @@ pub(crate) fn summaries_of(
         backbone.as_slice(),
     )?;
     Ok(Summaries { backbone, outward })
+}
+
+/// The routers to be asked for summaries: all of them, or none where none is a border router.
+#[tactic(auto, using(crate::proofs::SummaryLaws::everybody))]
+pub(crate) fn to_be_asked(members: &[Member], stubs: StubAreas) -> &[Member]
+    ensures { SummariseAlike stubs members.now result.now }
+{
+    for member in members {
+        if is_border(member.areas(stubs)) {
+            return members;
+        }
+    }
+    &[]
 }

@@ -5,6 +5,7 @@ use Rattle.rc_ospf.specs.Members.{known}
 use Rattle.rc_ospf.specs.Routes.{with_default}
 use Rattle.rc_ospf.specs.declared.member.StubAreas.TheVariants.{Kept}
 use Rattle.rc_ospf.proofs.ShareLaws.{all_given}
+use Rattle.rc_ospf.proofs.SummaryLaws.{destinations_alike}
 use Rattle.rc_ospf.proofs.destination.destinations.Goals as goal
 
 pub made_by-requires-clause-fits : goal.made_by-requires-clause-fits
@@ -14,4 +15,5 @@ pub returns : goal.returns
 returns g c =
     let f = destination_of (map (known Kept) c.args.members.now) in
     IfOk-weaker c.made_by.result _ (λ ds. ds ≡ map f (with_default c.args.rows))
-    (λ ds made. all_given f (λ _. Unit {0}) c.as_slice.result.now ds made ∙ ap (map f) (c.as_slice.ensures ∙ c.in_ok-rows.ensures)) c.made_by.ensures
+    (λ ds made. all_given (destination_of (map (known Kept) c.to_be_asked.result.now)) (λ _. Unit {0}) c.as_slice.result.now ds made
+    ∙ destinations_alike Kept c.args.members.now c.to_be_asked.result.now c.to_be_asked.ensures c.as_slice.result.now ∙ ap (map f) (c.as_slice.ensures ∙ c.in_ok-rows.ensures)) c.made_by.ensures
