@@ -14,4 +14,5 @@ mod TableLaws
 mod SortedLaws
 pub mod OneAnswer
 mod ShareLaws
+mod HopLaws
 mod SummaryLaws

@@ -11,7 +11,7 @@ ghost use Rattle.rc_ospf.specs.Edges.{edges_in, hop_at, hops_in, step_area, grap
 ghost use Rattle.rc_ospf.specs.Paths.{path_in};
 ghost use Rattle.rc_ospf.specs.declared.adjacency.Step as declared;
 
-use crate::hops::hops_in_order;
+use crate::hops::put_in_order;
 use crate::router_area::insert_area;
 use crate::shares::with_room;
 use crate::{AreaPaths, Path, Step};
@@ -156,7 +156,7 @@ fn hops_to(alloc: Global, steps: &[Step], tree: &Tree, node: usize) -> Result<Ho
 {
     let span = firsts_at(&tree.firsts, &tree.spans, node);
     let listed = hops_listed(alloc, steps, span, node)?;
-    hops_in_order(alloc, listed.as_slice())
+    put_in_order(alloc, listed)
 }
 
 /// What is kept of the least walks to a node.

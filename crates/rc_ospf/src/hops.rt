@@ -52,6 +52,17 @@ fn sorted_hops(alloc: Global, hops: &[Hop]) -> Result<Hops, AllocError>
     Ok(ordered)
 }
 
+/// Hops as they were found in their order, each once: one alone is in order already. It errs only where memory runs out.
+#[tactic(auto, using(crate::proofs::HopLaws::alone))]
+pub(crate) fn put_in_order(alloc: Global, hops: Hops) -> Result<Hops, AllocError>
+    ensures { IfOk result (λ ordered. ordered ≡ in_order hop_cmp hops) }
+{
+    if hops.len() == 1 {
+        return Ok(hops);
+    }
+    sorted_hops(alloc, hops.as_slice())
+}
+
 /// Hops in their order, each once. It errs only where memory runs out.
 ///
 /// Most ways have one hop, which is in order already.

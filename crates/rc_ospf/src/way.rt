@@ -7,7 +7,7 @@ ghost use Rattle.rc_ospf.specs.Members.{reach_of};
 ghost use Rattle.rc_ospf.specs.Ways as spec;
 ghost use Rattle.rc_route.specs.Hops.{hop_cmp};
 
-use crate::hops::{add_hops, hops_in_order};
+use crate::hops::{add_hops, put_in_order};
 use crate::member::Member;
 use crate::{Offer, Path};
 use rc_route::Hops;
@@ -102,5 +102,5 @@ pub(crate) fn hops_at(
     for offer in offers {
         add_hops_for(&mut hops, alloc, member, others, cost, offer)?;
     }
-    hops_in_order(alloc, hops.as_slice())
+    put_in_order(alloc, hops)
 }

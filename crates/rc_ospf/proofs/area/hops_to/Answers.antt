@@ -10,5 +10,5 @@ use Rattle.rc_ospf.proofs.area.hops_to.Goals as goal
 pub returns : goal.returns
 returns c =
     let span = subst (λ firsts. HasFirstsOf c.args.node firsts c.firsts_at-span.result.now) c.deref.ensures.value c.firsts_at-span.ensures in
-    let hops = ap (in_order hop_cmp) (c.as_slice.ensures ∙ c.in_ok-listed.ensures) in
-    IfOk-weaker _ _ (IsHopList c.args.steps.now c.args.tree.now.firsts.items c.args.node) (λ found made. listed c.args.steps.now _ _ c.args.node found span (made ∙ hops)) c.hops_in_order.ensures
+    let hops = ap (in_order hop_cmp) c.in_ok-listed.ensures in
+    IfOk-weaker _ _ (IsHopList c.args.steps.now c.args.tree.now.firsts.items c.args.node) (λ found made. listed c.args.steps.now _ _ c.args.node found span (made ∙ hops)) c.put_in_order.ensures

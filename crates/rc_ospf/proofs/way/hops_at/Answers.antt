@@ -17,4 +17,4 @@ returns c =
     let none : drop c.loop-offer.offer-index c.args.offers.now ≡ [] = drop_all c.loop-offer.offer-index c.args.offers.now (omega (arith, c.loop-offer-test.false)) in
     let all : c.loop-offer.hops ≡ flat_map f c.args.offers.now = sym (append-nil c.loop-offer.hops) ∙ sym (ap (λ os. c.loop-offer.hops ++ flat_map f os) none) ∙ c.loop-offer.invariant in
     IfOk-weaker _ _ (λ hops. hops ≡ in_order hop_cmp (spec.hops_at c.args.cost (ways_of (reach_of m) c.args.others m.router c.args.offers.now)))
-    (λ hops made. made ∙ ap (in_order hop_cmp) (c.as_slice.ensures ∙ all ∙ hops_are (reach_of m) c.args.others m.router c.args.cost c.args.offers.now)) c.hops_in_order.ensures
+    (λ hops made. made ∙ ap (in_order hop_cmp) (all ∙ hops_are (reach_of m) c.args.others m.router c.args.cost c.args.offers.now)) c.put_in_order.ensures
