@@ -15,7 +15,12 @@ use Rattle.rc_edges.specs.Given.{AreFlows, AreRows, IsRow, joined, nothing, numb
 use Rattle.rc_edges.specs.Made.{IsKnownIfMade, IsMade}
 use Rattle.rc_edges.specs.Prepare.{edge_at, ends_at}
 use Rattle.rc_edges.specs.Query.{all_kinds}
+use Rattle.rc_edges.specs.HopParts.{no_parts, part_in, parts_of}
 use Rattle.rc_edges.specs.Sent.{to_router}
+use Rattle.rc_edges.specs.Steps.{fixed}
+use Rattle.rc_edges.specs.declared.parts.Part.{Part}
+use Rattle.rc_edges.specs.declared.parts.Part.TheVariants.{Over, LetOut, Taken, Subnets}
+use Rattle.rc_edges.specs.declared.router_sets.HopParts.{HopParts}
 use Rattle.rc_edges.specs.Shares.{IsShare}
 use Rattle.rc_edges.specs.Stops.{asked_of}
 use Rattle.rc_edges.specs.declared.rows.Row.{Row}
@@ -30,26 +35,29 @@ use Rattle.rc_nodes.specs.Seats.{TableView, SeatView, IsSeatOf, Keeps, SeatKnows
 use Rattle.rc_nodes.specs.declared.words.Ref.{Ref}
 use Rattle.rc_places.specs.Places.{position_at}
 use Rattle.rc_route.specs.declared.route.Hop.{Hop}
-use Rattle.rc_sets.specs.Regions.{hop_set, hops_in}
+use Rattle.rc_sets.specs.Regions.{hops_in}
 use Rattle.rc_trees.specs.Recipes.{Recipe, tree}
 use Rattle.rc_trees.specs.Trees.{Tree}
 use Rattle.rc_walk.specs.Moves.{DataPlane, fib_of}
 
 -- ---- nothing is made yet
 
-abbrev pub no_set : Option Ref
-no_set = None
-
-unmade : (n k : ℕ) → unwrap_or (slice_get (replicate n no_set) k) None ≡ None
+unmade : (n k : ℕ) → unwrap_or (slice_get (replicate n no_parts) k) no_parts ≡ no_parts
 unmade zero k = refl
 unmade (suc n) zero = refl
 unmade (suc n) (suc k) = unmade n k
 
-pub nothing_made : (nodes : TableView) (seat : SeatView) (plane : DataPlane) (r : ℕ) (made : RouterSets) → IsSeatOf nodes seat → made.hops ≡ hops_in (fib_of plane r) → made.over.items ≡ replicate (length made.hops) None → made.owned ≡ None → IsMade nodes seat plane r made
-nothing_made nodes seat plane r made table hops over owned = record {
+no_part : (p : Part) → part_in no_parts p ≡ None
+no_part Over = refl
+no_part LetOut = refl
+no_part Taken = refl
+no_part Subnets = refl
+
+pub nothing_made : (nodes : TableView) (seat : SeatView) (plane : DataPlane) (r : ℕ) (made : RouterSets) → IsSeatOf nodes seat → made.hops ≡ hops_in (fib_of plane r) → made.parts.items ≡ replicate (length made.hops) no_parts → made.owned ≡ None → IsMade nodes seat plane r made
+nothing_made nodes seat plane r made table hops parts owned = record {
   table = table;
   hops = hops;
-  over = λ k x at. subst (λ o. IsKnownIfMade seat o (hop_set (fib_of plane r) x)) (sym (ap (λ xs. unwrap_or (slice_get xs k) None) over ∙ unmade (length made.hops) k)) tt;
+  parts = λ k x p at. subst (λ o. IsKnownIfMade seat o (fixed plane r p x)) (sym (ap (λ xs. part_in (parts_of xs k) p) parts ∙ ap (λ s. part_in s p) (unmade (length made.hops) k) ∙ no_part p)) tt;
   owned = subst (λ o. IsKnownIfMade seat o (to_router plane r)) (sym owned) tt;
 }
 

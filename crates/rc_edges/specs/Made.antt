@@ -1,14 +1,17 @@
 -- What is made of a router, and what a seat knows of it.
-use Rattle.std.specs.Prelude.{◌≡◌, ℕ, List, [], map, Option, Some, None, IfSome, slice_get, unwrap_or}
+use Rattle.std.specs.Prelude.{◌≡◌, ℕ, List, [], map, Option, Some, IfSome, slice_get}
 use Rattle.rc_base.specs.Prefix.{Cidr, prefix_at}
 use Rattle.std.specs.Option.{option_map_or}
 use Rattle.rc_base.specs.declared.position.IfId.{IfId}
+use Rattle.rc_edges.specs.HopParts.{part_in, parts_of}
 use Rattle.rc_edges.specs.Sent.{to_router}
+use Rattle.rc_edges.specs.Steps.{fixed}
+use Rattle.rc_edges.specs.declared.parts.Part.{Part}
 use Rattle.rc_edges.specs.declared.router_sets.RouterSets.{RouterSets}
 use Rattle.rc_nodes.specs.Seats.{TableView, SeatView, IsSeatOf, SeatKnows}
 use Rattle.rc_nodes.specs.declared.words.Ref.{Ref}
 use Rattle.rc_route.specs.declared.route.Hop.{Hop}
-use Rattle.rc_sets.specs.Regions.{hop_set, hops_in}
+use Rattle.rc_sets.specs.Regions.{hops_in}
 use Rattle.rc_topology.specs.Links.{port_at}
 use Rattle.rc_topology.specs.declared.port.Port.{Port}
 use Rattle.rc_topology.specs.declared.port.PortAddr.{PortAddr}
@@ -31,5 +34,5 @@ IsKnownIfMade seat set r = IfSome set (λ s. SeatKnows seat s.index (tree r))
 pub record IsMade (nodes : TableView) (seat : SeatView) (plane : DataPlane) (r : ℕ) (made : RouterSets) : Type 0 where
   pub table : IsSeatOf nodes seat
   pub hops : made.hops ≡ hops_in (fib_of plane r)
-  pub over : (k : ℕ) (x : Hop) → slice_get made.hops k ≡ Some x → IsKnownIfMade seat (unwrap_or (slice_get made.over.items k) None) (hop_set (fib_of plane r) x)
+  pub parts : (k : ℕ) (x : Hop) (p : Part) → slice_get made.hops k ≡ Some x → IsKnownIfMade seat (part_in (parts_of made.parts.items k) p) (fixed plane r p x)
   pub owned : IsKnownIfMade seat made.owned (to_router plane r)

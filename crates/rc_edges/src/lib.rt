@@ -11,6 +11,7 @@ mod groups;
 mod laws;
 mod making;
 mod neighbors;
+mod parts;
 mod preparing;
 mod query;
 mod router_sets;

@@ -12,5 +12,5 @@ abbrev pub invariant-loop-next : goal.invariant-loop-next
 invariant-loop-next g l = record {
   made : IsMade l.nodes l.work l.site.plane.now (router_of l.site.position) l.made;
   keeps : Keeps l.fn.work l.work;
-  row : IsRow l.work l.row (length (positions l.places)) (joined (given_onto l.site.plane.now l.site.position (take l.index (hops_at l.site.plane.now l.site.position)) l.hop (take l.next-index l.targets)));
+  row : IsRow l.work l.row (length (positions l.places)) (joined (given_onto l.site.plane.now l.site.position (take l.at.index (hops_at l.site.plane.now l.site.position)) l.at.hop (take l.next-index l.targets)));
 }
