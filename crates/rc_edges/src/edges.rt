@@ -14,7 +14,6 @@ ghost use Rattle.rc_places.specs.Places.{position_at};
 ghost use Rattle.rc_topology.specs.Ports.{links_of};
 ghost use Rattle.rc_route.specs.declared.route.Hop.TheVariants.{Dev as Over};
 ghost use Rattle.rc_trees.specs.Recipes.{and, tree};
-ghost use Rattle.rc_walk.specs.Moves.{router_of};
 
 use crate::destinations::interface_set;
 use crate::neighbors::{linked_of, takers_of};
@@ -41,12 +40,12 @@ fn add_owned<M: May>(
     next: &IfId,
     onto: usize,
 ) -> Result<(), SetError>
-    requires made { IsMade nodes.now work.old site.now.plane.now (router_of site.now.position) made.old }
+    requires made { IsMade nodes.now work.old site.now.plane.now site.now.position made.old }
     requires at { slice_get (hops_at site.now.plane.now site.now.position) at.now.index ≡ Some at.now.hop }
     requires onto { onto < length row.old.sets.items }
     requires may { MayGet nodes.now work.old row.old onto (and (step_at site.now.plane.now site.now.position Leaving at.now.hop) (to_interface site.now.plane.now next.now) ∷ []) }
     ensures seat { IsSeatOf nodes.now work.new }
-    ensures made { IfOk result (λ _. IsMade nodes.now work.new site.now.plane.now (router_of site.now.position) made.new) }
+    ensures made { IfOk result (λ _. IsMade nodes.now work.new site.now.plane.now site.now.position made.new) }
     ensures keeps { Keeps work.old work.new }
     ensures given { IfOk result (λ _. Gives work.old work.new row.old row.new onto (and (step_at site.now.plane.now site.now.position Leaving at.now.hop) (to_interface site.now.plane.now next.now) ∷ [])) }
     ensures cause { IfErr result (IsCause nodes.now work.new) }
@@ -69,12 +68,12 @@ fn add_step<M: May>(
     step: Step,
     onto: usize,
 ) -> Result<(), SetError>
-    requires made { IsMade nodes.now work.old site.now.plane.now (router_of site.now.position) made.old }
+    requires made { IsMade nodes.now work.old site.now.plane.now site.now.position made.old }
     requires at { slice_get (hops_at site.now.plane.now site.now.position) at.now.index ≡ Some at.now.hop }
     requires onto { onto < length row.old.sets.items }
     requires may { MayGet nodes.now work.old row.old onto (step_at site.now.plane.now site.now.position step at.now.hop ∷ []) }
     ensures seat { IsSeatOf nodes.now work.new }
-    ensures made { IfOk result (λ _. IsMade nodes.now work.new site.now.plane.now (router_of site.now.position) made.new) }
+    ensures made { IfOk result (λ _. IsMade nodes.now work.new site.now.plane.now site.now.position made.new) }
     ensures keeps { Keeps work.old work.new }
     ensures given { IfOk result (λ _. Gives work.old work.new row.old row.new onto (step_at site.now.plane.now site.now.position step at.now.hop ∷ [])) }
     ensures cause { IfErr result (IsCause nodes.now work.new) }
@@ -97,12 +96,12 @@ fn add_on_link<M: May>(
     next: &IfId,
     onto: usize,
 ) -> Result<(), SetError>
-    requires made { IsMade nodes.now work.old site.now.plane.now (router_of site.now.position) made.old }
+    requires made { IsMade nodes.now work.old site.now.plane.now site.now.position made.old }
     requires at { (slice_get (hops_at site.now.plane.now site.now.position) at.now.index ≡ Some at.now.hop) × (at.now.hop ≡ Over interface.now) }
     requires onto { onto < length row.old.sets.items }
     requires may { MayGet nodes.now work.old row.old onto (spec.onto_link site.now.plane.now site.now.position next.now interface.now) }
     ensures seat { IsSeatOf nodes.now work.new }
-    ensures made { IfOk result (λ _. IsMade nodes.now work.new site.now.plane.now (router_of site.now.position) made.new) }
+    ensures made { IfOk result (λ _. IsMade nodes.now work.new site.now.plane.now site.now.position made.new) }
     ensures keeps { Keeps work.old work.new }
     ensures given { IfOk result (λ _. Gives work.old work.new row.old row.new onto (spec.onto_link site.now.plane.now site.now.position next.now interface.now)) }
     ensures cause { IfErr result (IsCause nodes.now work.new) }
@@ -126,13 +125,13 @@ fn add_towards<M: May>(
     next: &IfId,
     onto: usize,
 ) -> Result<(), SetError>
-    requires made { IsMade nodes.now work.old site.now.plane.now (router_of site.now.position) made.old }
+    requires made { IsMade nodes.now work.old site.now.plane.now site.now.position made.old }
     requires at { slice_get (hops_at site.now.plane.now site.now.position) at.now.index ≡ Some at.now.hop }
     requires leads { leads_onto site.now.plane.now.links at.now.hop next.now ≡ true }
     requires onto { onto < length row.old.sets.items }
     requires may { MayGet nodes.now work.old row.old onto (spec.towards site.now.plane.now site.now.position next.now at.now.hop) }
     ensures seat { IsSeatOf nodes.now work.new }
-    ensures made { IfOk result (λ _. IsMade nodes.now work.new site.now.plane.now (router_of site.now.position) made.new) }
+    ensures made { IfOk result (λ _. IsMade nodes.now work.new site.now.plane.now site.now.position made.new) }
     ensures keeps { Keeps work.old work.new }
     ensures given { IfOk result (λ _. Gives work.old work.new row.old row.new onto (spec.towards site.now.plane.now site.now.position next.now at.now.hop)) }
     ensures cause { IfErr result (IsCause nodes.now work.new) }
@@ -187,13 +186,13 @@ fn add_targets<M: May>(
 ) -> Result<(), SetError>
     requires places { places.now ≡ site.now.plane.now.network }
     requires links { site.now.plane.now.links ≡ links_of site.now.plane.now.network }
-    requires made { IsMade nodes.now work.old site.now.plane.now (router_of site.now.position) made.old }
+    requires made { IsMade nodes.now work.old site.now.plane.now site.now.position made.old }
     requires at { slice_get (hops_at site.now.plane.now site.now.position) at.now.index ≡ Some at.now.hop }
     requires targets { targets.now ≡ hop_targets site.now.plane.now.links at.now.hop }
     requires row { IsRow work.old row.old (length (positions places.now)) (joined (given_by site.now.plane.now site.now.position (take at.now.index (hops_at site.now.plane.now site.now.position)))) }
     requires may { MaySend nodes.now.may site.now.plane.now site.now.position }
     ensures seat { IsSeatOf nodes.now work.new }
-    ensures made { IfOk result (λ _. IsMade nodes.now work.new site.now.plane.now (router_of site.now.position) made.new) }
+    ensures made { IfOk result (λ _. IsMade nodes.now work.new site.now.plane.now site.now.position made.new) }
     ensures keeps { Keeps work.old work.new }
     ensures row { IfOk result (λ _. IsRow work.new row.new (length (positions places.now)) (joined (given_by site.now.plane.now site.now.position (take (at.now.index + 1) (hops_at site.now.plane.now site.now.position))))) }
     ensures cause { IfErr result (IsCause nodes.now work.new) }
@@ -218,12 +217,12 @@ fn add_hop<M: May>(
 ) -> Result<(), SetError>
     requires places { places.now ≡ site.now.plane.now.network }
     requires links { site.now.plane.now.links ≡ links_of site.now.plane.now.network }
-    requires made { IsMade nodes.now work.old site.now.plane.now (router_of site.now.position) made.old }
+    requires made { IsMade nodes.now work.old site.now.plane.now site.now.position made.old }
     requires at { slice_get (hops_at site.now.plane.now site.now.position) at.now.index ≡ Some at.now.hop }
     requires row { IsRow work.old row.old (length (positions places.now)) (joined (given_by site.now.plane.now site.now.position (take at.now.index (hops_at site.now.plane.now site.now.position)))) }
     requires may { MaySend nodes.now.may site.now.plane.now site.now.position }
     ensures seat { IsSeatOf nodes.now work.new }
-    ensures made { IfOk result (λ _. IsMade nodes.now work.new site.now.plane.now (router_of site.now.position) made.new) }
+    ensures made { IfOk result (λ _. IsMade nodes.now work.new site.now.plane.now site.now.position made.new) }
     ensures keeps { Keeps work.old work.new }
     ensures row { IfOk result (λ _. IsRow work.new row.new (length (positions places.now)) (joined (given_by site.now.plane.now site.now.position (take (at.now.index + 1) (hops_at site.now.plane.now site.now.position))))) }
     ensures cause { IfErr result (IsCause nodes.now work.new) }
@@ -273,11 +272,11 @@ pub(crate) fn add_edges<M: May>(
 ) -> Result<(), SetError>
     requires places { places.now ≡ site.now.plane.now.network }
     requires links { site.now.plane.now.links ≡ links_of site.now.plane.now.network }
-    requires made { IsMade nodes.now work.old site.now.plane.now (router_of site.now.position) made.old }
+    requires made { IsMade nodes.now work.old site.now.plane.now site.now.position made.old }
     requires row { IsRow work.old row.old (length (positions places.now)) (joined nothing) }
     requires may { MaySend nodes.now.may site.now.plane.now site.now.position }
     ensures seat { IsSeatOf nodes.now work.new }
-    ensures made { IfOk result (λ _. IsMade nodes.now work.new site.now.plane.now (router_of site.now.position) made.new) }
+    ensures made { IfOk result (λ _. IsMade nodes.now work.new site.now.plane.now site.now.position made.new) }
     ensures keeps { Keeps work.old work.new }
     ensures row { IfOk result (λ _. IsRow work.new row.new (length (positions places.now)) (λ t. tree (spec.edge site.now.plane.now site.now.position (position_at places.now t)))) }
     ensures cause { IfErr result (IsCause nodes.now work.new) }

@@ -53,10 +53,10 @@ fn accepted_set<M: May>(
     site: &Site<'_>,
     made: &mut RouterSets,
 ) -> Result<Ref, SetError>
-    requires made { IsMade nodes.now work.old site.now.plane.now (router_of site.now.position) made.old }
+    requires made { IsMade nodes.now work.old site.now.plane.now site.now.position made.old }
     requires may { HasNodes nodes.now.may (parts (spec.end site.now.plane.now site.now.position Kind.Accepted)) }
     ensures seat { IsSeatOf nodes.now work.new }
-    ensures made { IfOk result (λ _. IsMade nodes.now work.new site.now.plane.now (router_of site.now.position) made.new) }
+    ensures made { IfOk result (λ _. IsMade nodes.now work.new site.now.plane.now site.now.position made.new) }
     ensures keeps { Keeps work.old work.new }
     ensures set { IfOk result (λ r. SeatKnows work.new r.index (tree (spec.end site.now.plane.now site.now.position Kind.Accepted))) }
     ensures cause { IfErr result (IsCause nodes.now work.new) }
@@ -74,10 +74,10 @@ fn no_route_set<M: May>(
     site: &Site<'_>,
     made: &mut RouterSets,
 ) -> Result<Ref, SetError>
-    requires made { IsMade nodes.now work.old site.now.plane.now (router_of site.now.position) made.old }
+    requires made { IsMade nodes.now work.old site.now.plane.now site.now.position made.old }
     requires may { HasNodes nodes.now.may (parts (without (hop_set (fib_of site.now.plane.now (router_of site.now.position))) (forwarded site.now.plane.now site.now.position) (hops_at site.now.plane.now site.now.position))) }
     ensures seat { IsSeatOf nodes.now work.new }
-    ensures made { IfOk result (λ _. IsMade nodes.now work.new site.now.plane.now (router_of site.now.position) made.new) }
+    ensures made { IfOk result (λ _. IsMade nodes.now work.new site.now.plane.now site.now.position made.new) }
     ensures keeps { Keeps work.old work.new }
     ensures set { IfOk result (λ r. SeatKnows work.new r.index (tree (without (hop_set (fib_of site.now.plane.now (router_of site.now.position))) (forwarded site.now.plane.now site.now.position) (hops_at site.now.plane.now site.now.position)))) }
     ensures cause { IfErr result (IsCause nodes.now work.new) }
@@ -99,10 +99,10 @@ fn null_routed_set<M: May>(
     site: &Site<'_>,
     made: &mut RouterSets,
 ) -> Result<Ref, SetError>
-    requires made { IsMade nodes.now work.old site.now.plane.now (router_of site.now.position) made.old }
+    requires made { IsMade nodes.now work.old site.now.plane.now site.now.position made.old }
     requires may { HasNodes nodes.now.may (parts (sent site.now.plane.now site.now.position Nowhere)) }
     ensures seat { IsSeatOf nodes.now work.new }
-    ensures made { IfOk result (λ _. IsMade nodes.now work.new site.now.plane.now (router_of site.now.position) made.new) }
+    ensures made { IfOk result (λ _. IsMade nodes.now work.new site.now.plane.now site.now.position made.new) }
     ensures keeps { Keeps work.old work.new }
     ensures set { IfOk result (λ r. SeatKnows work.new r.index (tree (sent site.now.plane.now site.now.position Nowhere))) }
     ensures cause { IfErr result (IsCause nodes.now work.new) }
@@ -198,12 +198,12 @@ fn with_hop<M: May>(
     kind: Kind,
     set: Ref,
 ) -> Result<Ref, SetError>
-    requires made { IsMade nodes.now work.old site.now.plane.now (router_of site.now.position) made.old }
+    requires made { IsMade nodes.now work.old site.now.plane.now site.now.position made.old }
     requires at { slice_get (hops_at site.now.plane.now site.now.position) at.now.index ≡ Some at.now.hop }
     requires before { SeatKnows work.old set.index (tree (union (flat_map (ends_over site.now.plane.now site.now.position kind) (take at.now.index (hops_at site.now.plane.now site.now.position))))) }
     requires may { HasNodes nodes.now.may (parts (union (flat_map (ends_over site.now.plane.now site.now.position kind) (hops_at site.now.plane.now site.now.position)))) }
     ensures seat { IsSeatOf nodes.now work.new }
-    ensures made { IfOk result (λ _. IsMade nodes.now work.new site.now.plane.now (router_of site.now.position) made.new) }
+    ensures made { IfOk result (λ _. IsMade nodes.now work.new site.now.plane.now site.now.position made.new) }
     ensures keeps { Keeps work.old work.new }
     ensures set { IfOk result (λ r. SeatKnows work.new r.index (tree (union (flat_map (ends_over site.now.plane.now site.now.position kind) (take (at.now.index + 1) (hops_at site.now.plane.now site.now.position)))))) }
     ensures cause { IfErr result (IsCause nodes.now work.new) }
@@ -224,10 +224,10 @@ fn over_hops_set<M: May>(
     made: &mut RouterSets,
     kind: Kind,
 ) -> Result<Ref, SetError>
-    requires made { IsMade nodes.now work.old site.now.plane.now (router_of site.now.position) made.old }
+    requires made { IsMade nodes.now work.old site.now.plane.now site.now.position made.old }
     requires may { HasNodes nodes.now.may (parts (union (flat_map (ends_over site.now.plane.now site.now.position kind) (hops_at site.now.plane.now site.now.position)))) }
     ensures seat { IsSeatOf nodes.now work.new }
-    ensures made { IfOk result (λ _. IsMade nodes.now work.new site.now.plane.now (router_of site.now.position) made.new) }
+    ensures made { IfOk result (λ _. IsMade nodes.now work.new site.now.plane.now site.now.position made.new) }
     ensures keeps { Keeps work.old work.new }
     ensures set { IfOk result (λ r. SeatKnows work.new r.index (tree (union (flat_map (ends_over site.now.plane.now site.now.position kind) (hops_at site.now.plane.now site.now.position))))) }
     ensures cause { IfErr result (IsCause nodes.now work.new) }
@@ -249,10 +249,10 @@ pub(crate) fn end_set<M: May>(
     made: &mut RouterSets,
     kind: Kind,
 ) -> Result<Ref, SetError>
-    requires made { IsMade nodes.now work.old site.now.plane.now (router_of site.now.position) made.old }
+    requires made { IsMade nodes.now work.old site.now.plane.now site.now.position made.old }
     requires may { HasNodes nodes.now.may (parts (spec.end site.now.plane.now site.now.position kind)) }
     ensures seat { IsSeatOf nodes.now work.new }
-    ensures made { IfOk result (λ _. IsMade nodes.now work.new site.now.plane.now (router_of site.now.position) made.new) }
+    ensures made { IfOk result (λ _. IsMade nodes.now work.new site.now.plane.now site.now.position made.new) }
     ensures keeps { Keeps work.old work.new }
     ensures set { IfOk result (λ r. SeatKnows work.new r.index (tree (spec.end site.now.plane.now site.now.position kind))) }
     ensures cause { IfErr result (IsCause nodes.now work.new) }

@@ -84,6 +84,8 @@ pub(crate) struct RouterSets {
     pub parts: Vec<HopParts>,
     /// The headers to an own address.
     pub owned: Option<Ref>,
+    /// Those that the router takes in at a position and does not keep.
+    pub forwarded: Option<Ref>,
 }
 
 /// By a function of its own, so that what holds the sets drops them by one call.
@@ -93,6 +95,7 @@ impl Drop for RouterSets {
             hops: _,
             parts: _,
             owned: _,
+            forwarded: _,
         } = self;
     }
 }
@@ -153,7 +156,7 @@ impl RouterSets {
     /// Nothing is made yet of a router with this table.
     pub fn of(alloc: Global, entries: &[Entry]) -> Result<RouterSets, AllocError>
         ensures hops { IfOk result (λ made. made.hops ≡ hops_in entries.now) }
-        ensures nothing { IfOk result (λ made. (made.parts.items ≡ replicate (length made.hops) spec.no_parts) × (made.owned ≡ None)) }
+        ensures nothing { IfOk result (λ made. (made.parts.items ≡ replicate (length made.hops) spec.no_parts) × (made.owned ≡ None) × (made.forwarded ≡ None)) }
     {
         let hops = ordered_hops(alloc, entries)?;
         let parts = vec![in alloc; no_parts(); hops.len()]?;
@@ -161,6 +164,7 @@ impl RouterSets {
             hops,
             parts,
             owned: None,
+            forwarded: None,
         })
     }
 }
@@ -173,10 +177,10 @@ pub(crate) fn owned_set<M: May>(
     site: &Site<'_>,
     made: &mut RouterSets,
 ) -> Result<Ref, SetError>
-    requires made { IsMade nodes.now work.old site.now.plane.now (router_of site.now.position) made.old }
+    requires made { IsMade nodes.now work.old site.now.plane.now site.now.position made.old }
     requires may { HasNodes nodes.now.may (parts (to_router site.now.plane.now (router_of site.now.position))) }
     ensures seat { IsSeatOf nodes.now work.new }
-    ensures made { IfOk result (λ _. IsMade nodes.now work.new site.now.plane.now (router_of site.now.position) made.new) }
+    ensures made { IfOk result (λ _. IsMade nodes.now work.new site.now.plane.now site.now.position made.new) }
     ensures keeps { Keeps work.old work.new }
     ensures set { IfOk result (λ r. SeatKnows work.new r.index (tree (to_router site.now.plane.now (router_of site.now.position)))) }
     ensures cause { IfErr result (IsCause nodes.now work.new) }
@@ -267,11 +271,11 @@ pub(crate) fn part_set<M: May>(
     at: &HopAt,
     part: Part,
 ) -> Result<Ref, SetError>
-    requires made { IsMade nodes.now work.old site.now.plane.now (router_of site.now.position) made.old }
+    requires made { IsMade nodes.now work.old site.now.plane.now site.now.position made.old }
     requires at { slice_get (hops_at site.now.plane.now site.now.position) at.now.index ≡ Some at.now.hop }
     requires may { HasNodes nodes.now.may (parts (part_at site.now.plane.now site.now.position part at.now.hop)) }
     ensures seat { IsSeatOf nodes.now work.new }
-    ensures made { IfOk result (λ _. IsMade nodes.now work.new site.now.plane.now (router_of site.now.position) made.new) }
+    ensures made { IfOk result (λ _. IsMade nodes.now work.new site.now.plane.now site.now.position made.new) }
     ensures keeps { Keeps work.old work.new }
     ensures set { IfOk result (λ r. SeatKnows work.new r.index (tree (part_at site.now.plane.now site.now.position part at.now.hop))) }
     ensures cause { IfErr result (IsCause nodes.now work.new) }

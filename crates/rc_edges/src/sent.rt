@@ -19,6 +19,16 @@ use rc_route::Hop;
 use rc_walk::Plane;
 use std::alloc::Global;
 
+/// The router at a position.
+pub(crate) fn router_at(position: &Pos) -> RouterId
+    ensures { result ≡ router_of position.now }
+{
+    match position {
+        Pos::Own(router) => *router,
+        Pos::Entering(interface) => interface.router,
+    }
+}
+
 /// A position of a plane.
 #[derive(Drop)]
 pub(crate) struct Site<'a> {
@@ -31,10 +41,7 @@ impl<'a> Site<'a> {
     pub fn router(&self) -> RouterId
         ensures { result ≡ router_of self.now.position }
     {
-        match &self.position {
-            Pos::Own(router) => *router,
-            Pos::Entering(interface) => interface.router,
-        }
+        router_at(&self.position)
     }
 }
 
@@ -74,17 +81,22 @@ pub(crate) fn forwarded_set<M: May>(
     site: &Site<'_>,
     made: &mut RouterSets,
 ) -> Result<Ref, SetError>
-    requires made { IsMade nodes.now work.old site.now.plane.now (router_of site.now.position) made.old }
+    requires made { IsMade nodes.now work.old site.now.plane.now site.now.position made.old }
     requires may { HasNodes nodes.now.may (parts (spec.forwarded site.now.plane.now site.now.position)) }
     ensures seat { IsSeatOf nodes.now work.new }
-    ensures made { IfOk result (λ _. IsMade nodes.now work.new site.now.plane.now (router_of site.now.position) made.new) }
+    ensures made { IfOk result (λ _. IsMade nodes.now work.new site.now.plane.now site.now.position made.new) }
     ensures keeps { Keeps work.old work.new }
     ensures set { IfOk result (λ r. SeatKnows work.new r.index (tree (spec.forwarded site.now.plane.now site.now.position))) }
     ensures cause { IfErr result (IsCause nodes.now work.new) }
 {
+    if let Some(set) = made.forwarded {
+        return Ok(set);
+    }
     let let_in = let_in_set(work, nodes, site.plane.network(), &site.position)?;
     let owned = owned_set(alloc, work, nodes, site, made)?;
-    work.minus(nodes, let_in, owned)
+    let set = work.minus(nodes, let_in, owned)?;
+    made.forwarded = Some(set);
+    Ok(set)
 }
 
 /// What a hop gives at a step: what it gives at the one before, with a part of the hop or without it.
@@ -97,11 +109,11 @@ pub(crate) fn step_set<M: May>(
     at: &HopAt,
     step: Step,
 ) -> Result<Ref, SetError>
-    requires made { IsMade nodes.now work.old site.now.plane.now (router_of site.now.position) made.old }
+    requires made { IsMade nodes.now work.old site.now.plane.now site.now.position made.old }
     requires at { slice_get (spec.hops_at site.now.plane.now site.now.position) at.now.index ≡ Some at.now.hop }
     requires may { HasNodes nodes.now.may (parts (step_at site.now.plane.now site.now.position step at.now.hop)) }
     ensures seat { IsSeatOf nodes.now work.new }
-    ensures made { IfOk result (λ _. IsMade nodes.now work.new site.now.plane.now (router_of site.now.position) made.new) }
+    ensures made { IfOk result (λ _. IsMade nodes.now work.new site.now.plane.now site.now.position made.new) }
     ensures keeps { Keeps work.old work.new }
     ensures set { IfOk result (λ r. SeatKnows work.new r.index (tree (step_at site.now.plane.now site.now.position step at.now.hop))) }
     ensures cause { IfErr result (IsCause nodes.now work.new) }

@@ -9,7 +9,6 @@ use Rattle.rc_trees.proofs.PartLaws.{and-first, and-second}
 use Rattle.rc_trees.specs.Combine as trees
 use Rattle.rc_trees.specs.Recipes as recipes
 use Rattle.rc_trees.specs.Recipes.{tree}
-use Rattle.rc_walk.specs.Moves.{router_of}
 use Rattle.rc_edges.proofs.edges.add_owned.Goals as goal
 
 pub step_set-requires-clause-may : goal.step_set-requires-clause-may
@@ -41,7 +40,7 @@ add-requires-clause-may g c =
 
 pub returns-clause-made : goal.returns-clause-made
 returns-clause-made g c =
-    whenever c.add.result _ (made_kept c.args.nodes.now c.args.site.now.plane.now (router_of c.args.site.now.position) c.step_set.new.made c.step_set.new.work c.add.new.work c.in_ok-leaving.ensures.made c.add.ensures.seat
+    whenever c.add.result _ (made_kept c.args.nodes.now c.args.site.now.plane.now c.args.site.now.position c.step_set.new.made c.step_set.new.work c.add.new.work c.in_ok-leaving.ensures.made c.add.ensures.seat
     (λ r t k. c.add.ensures.keeps r t (c.in_ok-owned.ensures.keeps r t (c.in_ok-there.ensures.keeps r t k))))
 
 pub returns-clause-given : goal.returns-clause-given

@@ -15,7 +15,7 @@ use Rattle.rc_edges.proofs.endings.end_set.Goals as goal
 
 pub returns-in-DeniedIn-clause-made : goal.returns-in-DeniedIn-clause-made
 returns-in-DeniedIn-clause-made g c =
-    whenever c.denied_in_set.result _ (made_kept c.args.nodes.now c.args.site.now.plane.now (router_of c.args.site.now.position) c.args.made.now c.args.work.now c.denied_in_set.new.work c.requires.made c.denied_in_set.ensures.seat c.denied_in_set.ensures.keeps)
+    whenever c.denied_in_set.result _ (made_kept c.args.nodes.now c.args.site.now.plane.now c.args.site.now.position c.args.made.now c.args.work.now c.denied_in_set.new.work c.requires.made c.denied_in_set.ensures.seat c.denied_in_set.ensures.keeps)
 
 pub no_route_set-requires-clause-may : goal.no_route_set-requires-clause-may
 no_route_set-requires-clause-may g c =

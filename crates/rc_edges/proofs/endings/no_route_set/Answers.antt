@@ -63,7 +63,7 @@ loop-index-preserved g c =
     let left = without f (forwarded plane q) (take k hops) in
     let made = c.in_ok-over.ensures.made in
     record {
-      made = made_kept c.args.nodes.now plane (router_of q) c.part_set.new.made c.part_set.new.work c.minus.new.self made c.minus.ensures.seat c.minus.ensures.keeps;
+      made = made_kept c.args.nodes.now plane q c.part_set.new.made c.part_set.new.work c.minus.new.self made c.minus.ensures.seat c.minus.ensures.keeps;
       keeps = λ r t known. c.minus.ensures.keeps r t (c.part_set.ensures.keeps r t (c.loop-index.invariant.keeps r t known));
       known = subst (λ r. SeatKnows c.minus.new.self c.in_ok-set-2.set.index (tree r)) (sym (without_next f (forwarded plane q) hops k hop at))
           (c.in_ok-set-2.ensures.minus (tree left) (tree (f hop)) (c.part_set.ensures.keeps c.loop-index.set.index (tree left) c.loop-index.invariant.known)

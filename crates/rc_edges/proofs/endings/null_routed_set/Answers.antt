@@ -25,7 +25,7 @@ pub and-requires-clause-may : goal.and-requires-clause-may
 and-requires-clause-may g c = may_and c.args.nodes.now c.over_set.new.work c.in_ok-forwarded.forwarded.index c.in_ok-over.over.index (forwarded c.args.site.now.plane.now c.args.site.now.position) (hop_set (fib_of c.args.site.now.plane.now (router_of c.args.site.now.position)) Null) (c.over_set.ensures.keeps c.in_ok-forwarded.forwarded.index (tree (forwarded c.args.site.now.plane.now c.args.site.now.position)) (c.in_ok-forwarded.ensures.set)) (subst (λ r. SeatKnows c.over_set.new.work c.in_ok-over.over.index (tree (hop_set (fib_of c.args.site.now.plane.now r) Null))) c.router.ensures c.in_ok-over.ensures.set) (may_like c.args.nodes.now.may (sent c.args.site.now.plane.now c.args.site.now.position Null) (recipes.and (forwarded c.args.site.now.plane.now c.args.site.now.position) (hop_set (fib_of c.args.site.now.plane.now (router_of c.args.site.now.position)) Null)) (sym (sent_is c.args.site.now.plane.now c.args.site.now.position Null)) c.requires.may)
 
 pub returns-clause-made : goal.returns-clause-made
-returns-clause-made g c = whenever c.and.result _ (made_kept c.args.nodes.now c.args.site.now.plane.now (router_of c.args.site.now.position) c.forwarded_set.new.made c.forwarded_set.new.work c.and.new.self c.in_ok-forwarded.ensures.made c.and.ensures.seat (λ r t k. c.and.ensures.keeps r t (c.in_ok-over.ensures.keeps r t k)))
+returns-clause-made g c = whenever c.and.result _ (made_kept c.args.nodes.now c.args.site.now.plane.now c.args.site.now.position c.forwarded_set.new.made c.forwarded_set.new.work c.and.new.self c.in_ok-forwarded.ensures.made c.and.ensures.seat (λ r t k. c.and.ensures.keeps r t (c.in_ok-over.ensures.keeps r t k)))
 
 pub returns-clause-set : goal.returns-clause-set
 returns-clause-set g c =

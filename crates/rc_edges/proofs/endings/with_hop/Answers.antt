@@ -13,7 +13,6 @@ use Rattle.rc_nodes.specs.Seats.{SeatKnows}
 use Rattle.rc_trees.specs.Combine as trees
 use Rattle.rc_trees.specs.Recipes as recipes
 use Rattle.rc_trees.specs.Recipes.{tree}
-use Rattle.rc_walk.specs.Moves.{router_of}
 use Rattle.rc_edges.proofs.endings.with_hop.Goals as goal
 
 pub returns-in_default-clause-set : goal.returns-in_default-clause-set
@@ -43,7 +42,7 @@ or-requires-clause-may g c =
     (joined_may f (hops_at plane q) c.args.at.now.index x c.requires.at s (one_step plane q c.args.kind x c.stop_step.result c.in-Some.step c.stop_step.ensures c.in-Some.is) c.args.nodes.now.may c.requires.may)
 
 pub returns-clause-made : goal.returns-clause-made
-returns-clause-made g c = whenever c.or.result _ (made_kept c.args.nodes.now c.args.site.now.plane.now (router_of c.args.site.now.position) c.step_set.new.made c.step_set.new.work c.or.new.self c.in_ok-more.ensures.made c.or.ensures.seat c.or.ensures.keeps)
+returns-clause-made g c = whenever c.or.result _ (made_kept c.args.nodes.now c.args.site.now.plane.now c.args.site.now.position c.step_set.new.made c.step_set.new.work c.or.new.self c.in_ok-more.ensures.made c.or.ensures.seat c.or.ensures.keeps)
 
 pub returns-clause-set : goal.returns-clause-set
 returns-clause-set g c =

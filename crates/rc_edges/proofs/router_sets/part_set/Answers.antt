@@ -41,10 +41,10 @@ new_part-requires-clause-may g c =
 pub returns-clause-made : goal.returns-clause-made
 returns-clause-made g c =
     let plane = c.args.site.now.plane.now in
-    let r = router_of c.args.site.now.position in
+    let q = c.args.site.now.position in
     let x = c.args.at.now.hop in
-    let m = made_kept c.args.nodes.now plane r c.args.made.now c.args.work.now c.new_part.new.work c.requires.made c.in_ok-set.ensures.seat c.in_ok-set.ensures.keeps in
-    noted c.args.nodes.now plane r c.args.made.now _ c.new_part.new.work m refl refl c.args.at.now.index x c.args.part c.in_ok-set.set c.requires.at c.note.ensures
+    let m = made_kept c.args.nodes.now plane q c.args.made.now c.args.work.now c.new_part.new.work c.requires.made c.in_ok-set.ensures.seat c.in_ok-set.ensures.keeps in
+    noted c.args.nodes.now plane q c.args.made.now _ c.new_part.new.work m refl refl refl c.args.at.now.index x c.args.part c.in_ok-set.set c.requires.at c.note.ensures
     (subst (λ n. SeatKnows c.new_part.new.work c.in_ok-set.set.index (tree (fixed plane n c.args.part x))) c.router.ensures c.in_ok-set.ensures.set)
 
 pub returns-clause-set : goal.returns-clause-set

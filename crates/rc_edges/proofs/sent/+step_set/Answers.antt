@@ -6,7 +6,6 @@ use Rattle.rc_edges.proofs.StepLaws.{falls, first_is, may_earlier, may_second, m
 use Rattle.rc_edges.specs.Sent.{forwarded}
 use Rattle.rc_edges.specs.Steps.{step_at}
 use Rattle.rc_trees.specs.Recipes.{tree}
-use Rattle.rc_walk.specs.Moves.{router_of}
 use Rattle.rc_edges.proofs.sent.+step_set.Goals as goal
 
 pub forwarded_set-requires-clause-may : goal.forwarded_set-requires-clause-may
@@ -37,7 +36,7 @@ operate-requires-clause-may g t c =
     c.part_set.new.work c.in_ok-first.first.index c.in_ok-second.second.index (c.in_ok-second.ensures.keeps c.in_ok-first.first.index _ c.in_ok-first.ensures.set) c.in_ok-second.ensures.set c.args.nodes.now c.requires.may
 
 pub returns-clause-made : goal.returns-clause-made
-returns-clause-made g t c = whenever c.operate.result _ (made_kept c.args.nodes.now c.args.site.now.plane.now (router_of c.args.site.now.position) c.part_set.new.made c.part_set.new.work c.operate.new.work c.in_ok-second.ensures.made c.operate.ensures.seat c.operate.ensures.keeps)
+returns-clause-made g t c = whenever c.operate.result _ (made_kept c.args.nodes.now c.args.site.now.plane.now c.args.site.now.position c.part_set.new.made c.part_set.new.work c.operate.new.work c.in_ok-second.ensures.made c.operate.ensures.seat c.operate.ensures.keeps)
 
 pub returns-clause-set : goal.returns-clause-set
 returns-clause-set g t c =
