@@ -1,12 +1,14 @@
 //! What the positions of some numbers send, and what may end there.
-ghost use Rattle.std.specs.Prelude.{◌≡◌, ◌≤◌, [], IfOk, IfErr, length, replicate};
+ghost use Rattle.std.specs.Prelude.{◌≡◌, ℕ, ◌+◌, ◌<◌, ◌≤◌, [], IfOk, IfErr, OnOk, length, replicate};
 ghost use Rattle.rc_bdd.specs.Work.{IsCause};
 ghost use Rattle.rc_config.specs.Members.{positions};
+ghost use Rattle.rc_edges.specs.Sendings.{IsSending};
 ghost use Rattle.rc_edges.specs.Shares.{IsReady, IsShare};
 ghost use Rattle.rc_nodes.specs.Seats.{IsSeatOf, Keeps};
+ghost use Rattle.rc_places.specs.Places.{position_at};
 
 use crate::rows::empty_rows;
-use crate::sending::{begin, follow, put_sending};
+use crate::sending::{Sending, begin, follow, put_sending};
 use crate::sent::Site;
 use crate::share::Share;
 use rc_base::{Ends, Items};
@@ -30,6 +32,84 @@ fn no_share(alloc: Global, count: usize) -> Result<Share, SetError>
     }
 }
 
+/// One position more, after a last one from which that goes on which is at hand.
+fn put_position<M: May>(
+    alloc: Global,
+    work: &mut Work<M>,
+    nodes: &Nodes<M>,
+    plane: &Plane<'_>,
+    places: &Places<'_>,
+    ends: Ends,
+    last: usize,
+    number: usize,
+    sending: &mut Sending,
+    share: &mut Share,
+) -> Result<(), SetError>
+    requires ready { IsReady nodes.now plane.now places.now ends }
+    requires last { last < length (positions places.now) }
+    requires number { number < length (positions places.now) }
+    requires sends { IsSending nodes.now work.old plane.now ends (position_at places.now last) sending.old }
+    requires rows { length share.old.into.items ≡ length (positions plane.now.network) }
+    ensures seat { IsSeatOf nodes.now work.new }
+    ensures keeps { Keeps work.old work.new }
+    ensures sends { IfOk result (λ _. IsSending nodes.now work.new plane.now ends (position_at places.now number) sending.new) }
+    ensures share { OnOk result ((from : ℕ) → IsShare work.old plane.now ends from number share.old → IsShare work.new plane.now ends from (number + 1) share.new) }
+    ensures cause { IfErr result (IsCause nodes.now work.new) }
+{
+    let before = places.at(last);
+    let site = Site {
+        plane: &*plane,
+        position: places.at(number),
+    };
+    follow(alloc, work, nodes, &before, &site, places, ends, sending)?;
+    put_sending(share, sending, number)
+}
+
+/// The positions of some numbers, one after another.
+fn put_positions<M: May>(
+    alloc: Global,
+    work: &mut Work<M>,
+    nodes: &Nodes<M>,
+    plane: &Plane<'_>,
+    places: &Places<'_>,
+    ends: Ends,
+    from: usize,
+    to: usize,
+    share: &mut Share,
+) -> Result<(), SetError>
+    requires seat { IsSeatOf nodes.now work.old }
+    requires ready { IsReady nodes.now plane.now places.now ends }
+    requires order { from ≤ to }
+    requires end { to ≤ length (positions places.now) }
+    requires share { IsShare work.old plane.now ends from from share.old }
+    ensures seat { IsSeatOf nodes.now work.new }
+    ensures keeps { Keeps work.old work.new }
+    ensures share { IfOk result (λ _. IsShare work.new plane.now ends from to share.new) }
+    ensures cause { IfErr result (IsCause nodes.now work.new) }
+{
+    if from == to {
+        return Ok(());
+    }
+    let mut sending = begin(alloc, work, nodes, plane, places, ends, from)?;
+    let mut last = from;
+    for number in from..to {
+        put_position(
+            alloc,
+            work,
+            nodes,
+            plane,
+            places,
+            ends,
+            last,
+            number,
+            &mut sending,
+            share,
+        )?;
+        last = number;
+    }
+    Ok(())
+}
+
 /// The share of the positions of some numbers.
 pub(crate) fn share_of<M: May>(
     alloc: Global,
@@ -51,23 +131,8 @@ pub(crate) fn share_of<M: May>(
     ensures cause { IfErr result (IsCause nodes.now work.new) }
 {
     let mut share = no_share(alloc, places.len())?;
-    if from == to {
-        return Ok(share);
-    }
-    let first = Site {
-        plane: &*plane,
-        position: places.at(from),
-    };
-    let mut sending = begin(alloc, work, nodes, &first, places, ends)?;
-    let mut last = places.at(from);
-    for number in from..to {
-        let site = Site {
-            plane: &*plane,
-            position: places.at(number),
-        };
-        follow(alloc, work, nodes, &last, &site, places, ends, &mut sending)?;
-        put_sending(&mut share, &sending, number)?;
-        last = places.at(number);
-    }
+    put_positions(
+        alloc, work, nodes, plane, places, ends, from, to, &mut share,
+    )?;
     Ok(share)
 }

@@ -1,5 +1,5 @@
 //! What is made once for a router.
-ghost use Rattle.std.specs.Prelude.{◌≡◌, ◌∷◌, ◌++◌, [], IfOk, IfErr, OnOk, Some, length, replicate, slice_get, slice_set};
+ghost use Rattle.std.specs.Prelude.{◌≡◌, ◌∷◌, ◌++◌, ◌+◌, ◌<◌, [], true, IfOk, IfErr, IfSome, OnOk, Some, length, replicate, slice_get, slice_set, take};
 ghost use Rattle.std.specs.BTreeSet.{keys, insert_key};
 ghost use Rattle.std.specs.List.{fold};
 ghost use Rattle.rc_bdd.specs.Work.{IsCause};
@@ -22,7 +22,7 @@ use rc_base::{IfId, Items, RouterId};
 use rc_bdd::{SetError, Work};
 use rc_fib::Entry;
 use rc_nodes::{ALWAYS, May, NEVER, Nodes, Ref};
-use rc_route::Hop;
+use rc_route::{Hop, same_hop};
 use rc_sets::hop_set;
 use rc_walk::Plane;
 use std::alloc::{AllocError, Global};
@@ -120,13 +120,67 @@ fn insert_hops(set: &mut BTreeSet<Hop>, hops: &[Hop]) -> Result<(), AllocError>
     Ok(())
 }
 
+/// The hop of a list of one.
+fn sole(hops: &[Hop]) -> Option<Hop>
+    ensures { IfSome result (λ hop. hops.now ≡ hop ∷ []) }
+{
+    match hops {
+        [hop] => Some(*hop),
+        _ => None,
+    }
+}
+
+/// Whether two lists are of one hop each, and of the same.
+fn is_repeated(one: &[Hop], other: &[Hop]) -> bool
+    ensures { result ≡ true → spec.IsRepeated one.now other.now }
+{
+    let Some(one) = sole(one) else {
+        return false;
+    };
+    let Some(other) = sole(other) else {
+        return false;
+    };
+    same_hop(&one, &other)
+}
+
+/// The hops of an entry.
+fn hops_of(entries: &[Entry], index: usize) -> &[Hop]
+    requires { index < length entries.now }
+    ensures { spec.HasHops entries.now index result.now }
+{
+    entries[index].hops.as_slice()
+}
+
+/// Whether an entry gives the one hop that the entry before it gives.
+fn repeats(entries: &[Entry], index: usize) -> bool
+    requires { index < length entries.now }
+    ensures { result ≡ true → spec.Repeats entries.now index }
+{
+    if index == 0 {
+        return false;
+    }
+    is_repeated(hops_of(entries, index - 1), hops_of(entries, index))
+}
+
+/// Puts the hops of one entry more into a set. Most entries give the one hop of the entry before them, which is there already.
+fn insert_entry(set: &mut BTreeSet<Hop>, entries: &[Entry], index: usize) -> Result<(), AllocError>
+    requires index { index < length entries.now }
+    requires before { keys set.old ≡ hops_in (take index entries.now) }
+    ensures { OnOk result (keys set.new ≡ hops_in (take (index + 1) entries.now)) }
+{
+    if repeats(entries, index) {
+        return Ok(());
+    }
+    insert_hops(set, hops_of(entries, index))
+}
+
 /// The hops of a table as a set.
 fn hops_of_table(alloc: Global, entries: &[Entry]) -> Result<BTreeSet<Hop>, AllocError>
     ensures { IfOk result (λ set. keys set ≡ hops_in entries.now) }
 {
     let mut set = BTreeSet::new(alloc);
-    for entry in entries {
-        insert_hops(&mut set, entry.hops.as_slice())?;
+    for index in 0..entries.len() {
+        insert_entry(&mut set, entries, index)?;
     }
     Ok(set)
 }

@@ -8,7 +8,7 @@ ghost use Rattle.rc_edges.specs.Given.{IsRow, joined, nothing};
 ghost use Rattle.rc_edges.specs.Made.{IsMade};
 ghost use Rattle.rc_edges.specs.Prepare.{MayEnd, MaySend};
 ghost use Rattle.rc_edges.specs.Sendings.{IsSending};
-ghost use Rattle.rc_edges.specs.Shares.{IsShare};
+ghost use Rattle.rc_edges.specs.Shares.{IsReady, IsShare};
 ghost use Rattle.rc_nodes.specs.Seats.{IsSeatOf, Keeps, SeatView, TableView};
 ghost use Rattle.rc_places.specs.Places.{position_at};
 ghost use Rattle.rc_topology.specs.Ports.{links_of};
@@ -26,6 +26,7 @@ use rc_bdd::{SetError, Work};
 use rc_fib::Entry;
 use rc_nodes::{May, Nodes, Ref};
 use rc_places::Places;
+use rc_walk::Plane;
 use std::alloc::Global;
 
 /// What was made of a position's router, what the position sends, and what may end there. It is the same for all positions at which the same
@@ -140,33 +141,36 @@ fn fill<M: May>(
     )
 }
 
-/// What goes on from a first position.
+/// What goes on from the position of a number, which is the first one.
 pub(crate) fn begin<M: May>(
     alloc: Global,
     work: &mut Work<M>,
     nodes: &Nodes<M>,
-    site: &Site<'_>,
+    plane: &Plane<'_>,
     places: &Places<'_>,
     ends: Ends,
+    number: usize,
 ) -> Result<Sending, SetError>
     requires seat { IsSeatOf nodes.now work.old }
-    requires places { places.now ≡ site.now.plane.now.network }
-    requires links { site.now.plane.now.links ≡ links_of site.now.plane.now.network }
-    requires send { MaySend nodes.now.may site.now.plane.now site.now.position }
-    requires end { MayEnd nodes.now.may site.now.plane.now ends site.now.position }
+    requires ready { IsReady nodes.now plane.now places.now ends }
+    requires number { number < length (positions places.now) }
     ensures seat { IsSeatOf nodes.now work.new }
     ensures keeps { Keeps work.old work.new }
-    ensures sends { IfOk result (λ s. IsSending nodes.now work.new site.now.plane.now ends site.now.position s) }
+    ensures sends { IfOk result (IsSending nodes.now work.new plane.now ends (position_at places.now number)) }
     ensures cause { IfErr result (IsCause nodes.now work.new) }
 {
-    let made = sets_of(alloc, site)?;
+    let site = Site {
+        plane: &*plane,
+        position: places.at(number),
+    };
+    let made = sets_of(alloc, &site)?;
     let row = no_row(alloc, places.len())?;
     let mut sending = Sending {
         made,
         row,
         stops: Vec::new(alloc),
     };
-    fill(alloc, work, nodes, site, places, ends, &mut sending)?;
+    fill(alloc, work, nodes, &site, places, ends, &mut sending)?;
     Ok(sending)
 }
 

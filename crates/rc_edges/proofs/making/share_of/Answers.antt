@@ -1,20 +1,8 @@
-use Rattle.std.proofs.Common.{◌≡◌, ap, sym, ◌∙◌, subst}
-use Rattle.rc_edges.proofs.MakingLaws.{share_still}
-use Rattle.rc_edges.specs.Sendings.{IsSending}
-use Rattle.rc_places.specs.Places.{position_at}
+use Rattle.std.proofs.Common.{[], ap, ◌∙◌, length, replicate}
+use Rattle.rc_config.specs.Members.{positions}
+use Rattle.rc_edges.proofs.MakingLaws.{nothing_shared}
 use Rattle.rc_edges.proofs.making.share_of.Goals as goal
 
-pub loop-number-preserved : goal.loop-number-preserved
-loop-number-preserved g c =
-    let i = c.loop-number.invariant in
-    let plane = c.args.plane.now in
-    let n = c.loop-number.number in
-    let w = c.follow.new.work in
-    let here : c.at-in-loop-number.result ≡ position_at plane.network n = c.at-in-loop-number.ensures ∙ ap (λ net. position_at net n) c.requires.ready.same in
-    record {
-      keeps = λ r t k. c.in_ok-follow.ensures.keeps r t (i.keeps r t k);
-      sends = subst (λ q. IsSending c.args.nodes.now w plane c.args.ends q c.follow.new.sending) (c.at-in-loop-number.ensures ∙ sym c.at-last-in-loop-number.ensures) c.in_ok-follow.ensures.sends;
-      share = c.in_ok-put_sending.ensures.share c.args.nodes.now w plane c.args.ends c.args.from
-          (share_still c.loop-number.work w c.in_ok-follow.ensures.keeps plane c.args.ends c.args.from n c.loop-number.share i.share)
-          (subst (λ q. IsSending c.args.nodes.now w plane c.args.ends q c.follow.new.sending) here c.in_ok-follow.ensures.sends);
-    }
+pub put_positions-requires-clause-share : goal.put_positions-requires-clause-share
+put_positions-requires-clause-share g c =
+    nothing_shared c.args.work.now c.args.plane.now c.args.ends c.args.from c.in_ok-share.share (c.in_ok-share.ensures.share.0 ∙ ap (λ k. replicate k []) (c.len.ensures ∙ ap (λ n. length (positions n)) c.requires.ready.same)) c.in_ok-share.ensures.share.1
