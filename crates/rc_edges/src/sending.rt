@@ -174,33 +174,6 @@ pub(crate) fn begin<M: May>(
     Ok(sending)
 }
 
-/// What goes on from another position than the last one.
-fn turn<M: May>(
-    alloc: Global,
-    work: &mut Work<M>,
-    nodes: &Nodes<M>,
-    last: &Pos,
-    site: &Site<'_>,
-    places: &Places<'_>,
-    ends: Ends,
-    sending: &mut Sending,
-) -> Result<(), SetError>
-    requires places { places.now ≡ site.now.plane.now.network }
-    requires links { site.now.plane.now.links ≡ links_of site.now.plane.now.network }
-    requires last { IsSending nodes.now work.old site.now.plane.now ends last.now sending.old }
-    requires send { MaySend nodes.now.may site.now.plane.now site.now.position }
-    requires end { MayEnd nodes.now.may site.now.plane.now ends site.now.position }
-    ensures seat { IsSeatOf nodes.now work.new }
-    ensures keeps { Keeps work.old work.new }
-    ensures sends { IfOk result (λ _. IsSending nodes.now work.new site.now.plane.now ends site.now.position sending.new) }
-    ensures cause { IfErr result (IsCause nodes.now work.new) }
-{
-    sending.row.clear();
-    sending.stops.clear();
-    renew(alloc, site, router_at(last), &mut sending.made)?;
-    fill(alloc, work, nodes, site, places, ends, sending)
-}
-
 /// What goes on from the next position: the same as from the last one, where the same packets enter there.
 pub(crate) fn follow<M: May>(
     alloc: Global,
@@ -225,7 +198,10 @@ pub(crate) fn follow<M: May>(
     if is_like(site.plane.network(), last, &site.position) {
         return Ok(());
     }
-    turn(alloc, work, nodes, last, site, places, ends, sending)
+    sending.row.clear();
+    sending.stops.clear();
+    renew(alloc, site, router_at(last), &mut sending.made)?;
+    fill(alloc, work, nodes, site, places, ends, sending)
 }
 
 /// Puts what goes on from a position into a share, behind that of the positions before it.
