@@ -94,35 +94,3 @@ gives_like_if v w row next onto xs ys result e g = subst (λ zs. IfOk result (λ
 
 pub get_like : (nodes : TableView) (v : SeatView) (row : Row) (onto : ℕ) (xs ys : List Recipe) → xs ≡ ys → MayGet nodes v row onto xs → MayGet nodes v row onto ys
 get_like nodes v row onto xs ys e m = subst (MayGet nodes v row onto) e m
-
--- ---- by the kind of hop
-
-choose : (a b : Bool) (xs : List Recipe) → (not a && b) ≡ true → cond a [] (cond b xs []) ≡ xs
-choose true b xs e = absurd (let x : false ≡ true = e in cc)
-choose false true xs e = refl
-choose false false xs e = absurd (let x : false ≡ true = e in cc)
-
-module _ (plane : DataPlane) (q : Pos) (t : IfId) (x : Hop) (i : IfId) where
-  abbrev pub owned_part : Recipe
-  owned_part = and (leaving plane q x i) (to_interface plane t)
-
-  abbrev pub rest_part : Recipe
-  rest_part = minus (untaken plane q i) (to_subnets plane i)
-
-  pub link_front : x ≡ Dev i → onto_link plane q t i ≡ owned_part ∷ cond (port_is plane.links is_serial i) (rest_part ∷ []) []
-  link_front is = ap (λ y. and (leaving plane q y i) (to_interface plane t) ∷ cond (port_is plane.links is_serial i) (rest_part ∷ []) []) (sym is)
-
-  pub link_one : x ≡ Dev i → port_is plane.links is_serial i ≡ false → onto_link plane q t i ≡ owned_part ∷ []
-  link_one is none = link_front is ∙ ap (λ b. owned_part ∷ cond b (rest_part ∷ []) []) none
-
-  pub link_two : x ≡ Dev i → port_is plane.links is_serial i ≡ true → onto_link plane q t i ≡ owned_part ∷ rest_part ∷ []
-  link_two is serial = link_front is ∙ ap (λ b. owned_part ∷ cond b (rest_part ∷ []) []) serial
-
-  pub towards_link : x ≡ Dev i → leads_onto plane.links x t ≡ true → towards plane q t x ≡ onto_link plane q t i
-  towards_link is leads = ap (towards plane q t) is ∙ choose (port_is plane.links is_loopback i) (are_linked plane.links i t) (onto_link plane q t i) (ap (λ y. leads_onto plane.links y t) (sym is) ∙ leads)
-
-  pub towards_gateway : (g : ℕ) → x ≡ Via g (Some i) → leads_onto plane.links x t ≡ true → towards plane q t x ≡ leaving plane q x i ∷ []
-  towards_gateway g is leads =
-      ap (towards plane q t) is
-      ∙ choose (port_is plane.links is_loopback i) (takes plane.links i g t) (leaving plane q (Via g (Some i)) i ∷ []) (ap (λ y. leads_onto plane.links y t) (sym is) ∙ leads)
-      ∙ ap (λ y. leaving plane q y i ∷ []) (sym is)

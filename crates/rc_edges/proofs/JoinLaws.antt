@@ -45,6 +45,9 @@ taken xs k d less = ap (λ n. take n xs) (let e : k + 1 ≡ suc k = omega arith 
     by (x ∷ xs) zero d less = refl
     by (x ∷ xs) (suc k) d less = ap (λ ys. x ∷ ys) (by xs k d (omega arith))
 
+pub taken_at : {A : Type 0} (xs : List A) (k : ℕ) (x : A) → x ≡ get_or xs k x → k < length xs → take (k + 1) xs ≡ take k xs ++ x ∷ []
+taken_at xs k x is less = taken xs k x less ∙ ap (λ y. take k xs ++ y ∷ []) (sym is)
+
 pub take-whole : {A : Type 0} (k : ℕ) (xs : List A) → length xs ≤ k → take k xs ≡ xs
 take-whole zero [] le = refl
 take-whole zero (x ∷ xs) le = absurd (omega arith)
@@ -66,7 +69,7 @@ module _ {A : Type 0} (set : A → Recipe) where
     parted = split xs k x less ∙ ap (λ y. take k xs ++ y ∷ drop (suc k) xs) (sym is)
 
     pub taken_here : take (k + 1) xs ≡ take k xs ++ x ∷ []
-    taken_here = taken xs k x less ∙ ap (λ y. take k xs ++ y ∷ []) (sym is)
+    taken_here = taken_at xs k x is less
 
     pub uses_step : Uses (union_of set xs) (or (union_of set (take k xs)) (set x))
     uses_step = subst (λ ys. Uses (union_of set ys) (or (union_of set (take k xs)) (set x))) (sym parted) (fold-step set (given never) (take k xs) x (drop (suc k) xs))

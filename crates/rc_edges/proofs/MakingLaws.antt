@@ -1,28 +1,40 @@
--- The shares of positions, one position after another.
-use Rattle.std.proofs.Common.{refl, ◌≡◌, ap, sym, ◌∙◌, subst, ℕ, zero, suc, ◌+◌, ◌-◌, ◌<◌, ◌≤◌, List, [], ◌∷◌, ◌++◌, length, Option, Some, None, Result, Ok, Err, IfOk, OnOk, inl, inr, ◌⊎◌, replicate, arith}
-use Rattle.std.specs.Prelude.{slice_get, slice_index_or, unwrap_or, flat_map, map}
-use Rattle.std.specs.List.{range_with_len}
+-- What goes on from positions, one position after another.
+use Rattle.std.proofs.Common.{refl, ◌≡◌, ap, sym, ◌∙◌, subst, ℕ, zero, suc, ◌+◌, ◌-◌, ◌<◌, ◌≤◌, List, [], ◌∷◌, ◌++◌, length, cond, map, All, Option, Some, None, Result, Ok, Err, IfOk, OnOk, replicate, arith}
+use Rattle.std.specs.Prelude.{slice_get, slice_index_or, unwrap_or, flat_map}
+use Rattle.std.specs.List.{fold, range_with_len}
 use Rattle.std.proofs.lemmas.List.{get_or-replicate, length-replicate}
+use Rattle.rc_base.specs.Positions.{is_among}
 use Rattle.rc_base.specs.declared.ending.Ends.{Ends}
+use Rattle.rc_base.specs.declared.ending.Kind.{Kind}
 use Rattle.rc_base.specs.declared.position.Pos.{Pos}
 use Rattle.rc_config.specs.Members.{positions}
+use Rattle.rc_config.specs.declared.network.Network.{Network}
+use Rattle.rc_edges.proofs.AskedLaws.{asked_there, known-kept, stops_put}
 use Rattle.rc_edges.proofs.FlowLaws.{flows-kept, numbers-more}
-use Rattle.rc_edges.proofs.AskedLaws.{asked_there}
-use Rattle.rc_edges.proofs.RowLaws.{row_kept, row_like}
+use Rattle.rc_edges.proofs.LikeLaws.{edge_like, end_like, forwarded_like, hops_like}
+use Rattle.rc_edges.proofs.MadeLaws.{made_kept}
+use Rattle.rc_edges.proofs.RowLaws.{flushed_rows, row_kept, row_like}
 use Rattle.rc_edges.proofs.ShareLaws.{flat-append}
 use Rattle.rc_edges.specs.Edges.{edge}
-use Rattle.rc_edges.specs.Given.{AreFlows, AreRows, IsRow, joined, nothing, numbers, real}
+use Rattle.rc_edges.specs.Given.{AreFlows, AreFlushed, AreRows, IsRow, numbers, real, with_flow}
+use Rattle.rc_edges.specs.HopParts.{no_parts, part_in, parts_of}
+use Rattle.rc_edges.specs.Likes.{IsLike}
 use Rattle.rc_edges.specs.Made.{IsKnownIfMade, IsMade}
 use Rattle.rc_edges.specs.Prepare.{edge_at, ends_at}
 use Rattle.rc_edges.specs.Query.{all_kinds}
-use Rattle.rc_edges.specs.Sent.{to_router}
+use Rattle.rc_edges.specs.Sendings.{IsSending}
+use Rattle.rc_edges.specs.Sent.{forwarded, hops_at, to_router}
 use Rattle.rc_edges.specs.Shares.{IsShare}
-use Rattle.rc_edges.specs.Stops.{asked_of}
-use Rattle.rc_edges.specs.declared.rows.Row.{Row}
-use Rattle.rc_bdd.specs.declared.work.SetError.{SetError}
-use Rattle.rc_config.specs.declared.network.Network.{Network}
+use Rattle.rc_edges.specs.Steps.{fixed}
+use Rattle.rc_edges.specs.Stops.{AreKnown, asked_of}
+use Rattle.rc_edges.specs.declared.parts.Part.{Part}
+use Rattle.rc_edges.specs.declared.parts.Part.TheVariants.{Over, LetOut, Taken, Subnets}
+use Rattle.rc_edges.specs.declared.router_sets.HopParts.{HopParts}
 use Rattle.rc_edges.specs.declared.router_sets.RouterSets.{RouterSets}
+use Rattle.rc_edges.specs.declared.rows.Row.{Row}
+use Rattle.rc_edges.specs.declared.sending.Sending.{Sending}
 use Rattle.rc_edges.specs.declared.share.Share.{Share}
+use Rattle.rc_bdd.specs.declared.work.SetError.{SetError}
 use Rattle.rc_fib.specs.declared.entry.Entry.{Entry}
 use Rattle.rc_jobs.specs.Flows.{edges_to, endings_of}
 use Rattle.rc_jobs.specs.declared.flow.Flow.{Flow}
@@ -30,27 +42,58 @@ use Rattle.rc_nodes.specs.Seats.{TableView, SeatView, IsSeatOf, Keeps, SeatKnows
 use Rattle.rc_nodes.specs.declared.words.Ref.{Ref}
 use Rattle.rc_places.specs.Places.{position_at}
 use Rattle.rc_route.specs.declared.route.Hop.{Hop}
-use Rattle.rc_sets.specs.Regions.{hop_set, hops_in}
-use Rattle.rc_trees.specs.Recipes.{Recipe, tree}
+use Rattle.rc_sets.specs.Regions.{hops_in}
+use Rattle.rc_trees.specs.Recipes.{tree}
 use Rattle.rc_trees.specs.Trees.{Tree}
-use Rattle.rc_walk.specs.Moves.{DataPlane, fib_of}
+use Rattle.rc_walk.specs.Moves.{DataPlane, fib_of, router_of}
+
+-- whatever follows where a step is done
+pub on_ok : {A E : Type 0} (result : Result A E) (P Q : Type 0) → (P → Q) → OnOk result P → IfOk result (λ _. Q)
+on_ok (Ok x) P Q next done = next done
+on_ok (Err e) P Q next done = tt
+
+pub on_done : {A E : Type 0} (result : Result A E) (P Q : Type 0) → (P → Q) → OnOk result P → OnOk result Q
+on_done (Ok x) P Q next done = next done
+on_done (Err e) P Q next done = tt
 
 -- ---- nothing is made yet
 
-abbrev pub no_set : Option Ref
-no_set = None
-
-unmade : (n k : ℕ) → unwrap_or (slice_get (replicate n no_set) k) None ≡ None
+unmade : (n k : ℕ) → unwrap_or (slice_get (replicate n no_parts) k) no_parts ≡ no_parts
 unmade zero k = refl
 unmade (suc n) zero = refl
 unmade (suc n) (suc k) = unmade n k
 
-pub nothing_made : (nodes : TableView) (seat : SeatView) (plane : DataPlane) (r : ℕ) (made : RouterSets) → IsSeatOf nodes seat → made.hops ≡ hops_in (fib_of plane r) → made.over.items ≡ replicate (length made.hops) None → made.owned ≡ None → IsMade nodes seat plane r made
-nothing_made nodes seat plane r made table hops over owned = record {
+no_part : (p : Part) → part_in no_parts p ≡ None
+no_part Over = refl
+no_part LetOut = refl
+no_part Taken = refl
+no_part Subnets = refl
+
+pub nothing_made : (nodes : TableView) (seat : SeatView) (plane : DataPlane) (q : Pos) (made : RouterSets) → IsSeatOf nodes seat → made.hops ≡ hops_at plane q → made.parts.items ≡ replicate (length made.hops) no_parts → made.owned ≡ None → made.forwarded ≡ None → IsMade nodes seat plane q made
+nothing_made nodes seat plane q made table hops parts owned none = record {
   table = table;
   hops = hops;
-  over = λ k x at. subst (λ o. IsKnownIfMade seat o (hop_set (fib_of plane r) x)) (sym (ap (λ xs. unwrap_or (slice_get xs k) None) over ∙ unmade (length made.hops) k)) tt;
-  owned = subst (λ o. IsKnownIfMade seat o (to_router plane r)) (sym owned) tt;
+  parts = λ k x p at. subst (λ o. IsKnownIfMade seat o (fixed plane (router_of q) p x)) (sym (ap (λ xs. part_in (parts_of xs k) p) parts ∙ ap (λ s. part_in s p) (unmade (length made.hops) k) ∙ no_part p)) tt;
+  owned = subst (λ o. IsKnownIfMade seat o (to_router plane (router_of q))) (sym owned) tt;
+  forwarded = subst (λ o. IsKnownIfMade seat o (forwarded plane q)) (sym none) tt;
+}
+
+pub made_for : (result : Result RouterSets SetError) (plane : DataPlane) (q : Pos) (entries : List Entry) → fib_of plane (router_of q) ≡ entries
+    → IfOk result (λ (made : RouterSets). (nodes : TableView) (seat : SeatView) (plane : DataPlane) (q : Pos) → fib_of plane (router_of q) ≡ entries → IsSeatOf nodes seat → IsMade nodes seat plane q made)
+    → IfOk result (λ (made : RouterSets). (nodes : TableView) (seat : SeatView) → IsSeatOf nodes seat → IsMade nodes seat plane q made)
+made_for (Ok made) plane q entries is all = λ nodes seat table. all nodes seat plane q is table
+made_for (Err e) plane q entries is all = tt
+
+-- what is made of a router stays where only the position changes
+pub made_again : (nodes : TableView) (seat : SeatView) (plane : DataPlane) (q t : Pos) (made next : RouterSets) → router_of q ≡ router_of t → IsMade nodes seat plane q made → next.hops ≡ made.hops → next.parts.items ≡ made.parts.items → next.owned ≡ made.owned → next.forwarded ≡ None → IsMade nodes seat plane t next
+made_again nodes seat plane q t made next same m hops parts owned none = record {
+  table = m.table;
+  hops = hops ∙ m.hops ∙ ap (λ r. hops_in (fib_of plane r)) same;
+  parts = λ k x p at.
+      subst (λ r. IsKnownIfMade seat (part_in (parts_of next.parts.items k) p) (fixed plane r p x)) same
+      (subst (λ all. IsKnownIfMade seat (part_in (parts_of all k) p) (fixed plane (router_of q) p x)) (sym parts) (m.parts k x p (ap (λ hs. slice_get hs k) (sym hops) ∙ at)));
+  owned = subst (λ r. IsKnownIfMade seat next.owned (to_router plane r)) same (subst (λ o. IsKnownIfMade seat o (to_router plane (router_of q))) (sym owned) m.owned);
+  forwarded = subst (λ o. IsKnownIfMade seat o (forwarded plane t)) (sym none) tt;
 }
 
 pub nothing_shared : (seat : SeatView) (plane : DataPlane) (ends : Ends) (a : ℕ) (share : Share) → share.into.items ≡ replicate (length (positions plane.network)) [] → share.ends ≡ [] → IsShare seat plane ends a a share
@@ -70,66 +113,69 @@ nothing_shared seat plane ends a share into last = record {
     no_ends : AreFlows seat [] (real (endings_of (ends_at plane ends) (numbers a a)))
     no_ends = subst (λ ns. AreFlows seat [] (real (endings_of (ends_at plane ends) ns))) (sym empty) tt
 
+-- ---- what goes on from positions that are like each other
+
+module _ (nodes : TableView) (seat : SeatView) (plane : DataPlane) (ends : Ends) (q t : Pos) (like : IsLike plane.network q t) (s : Sending) (is : IsSending nodes seat plane ends q s) where
+  asked_like : (ks : List Kind) → asked_of plane q ends ks ≡ asked_of plane t ends ks
+  asked_like ks = λ n. flat_map (λ k. cond (is_among ends k) (tree (end_like plane q t like k n) ∷ []) []) ks
+
+  pub sending_like : IsSending nodes seat plane ends t s
+  sending_like = record {
+    made = record {
+      table = is.made.table;
+      hops = is.made.hops ∙ hops_like plane q t like;
+      parts = λ k x p at. subst (λ r. IsKnownIfMade seat (part_in (parts_of s.made.parts.items k) p) (fixed plane r p x)) like.router (is.made.parts k x p at);
+      owned = subst (λ r. IsKnownIfMade seat s.made.owned (to_router plane r)) like.router is.made.owned;
+      forwarded = subst (IsKnownIfMade seat s.made.forwarded) (forwarded_like plane q t like) is.made.forwarded;
+    };
+    row = row_like seat s.row (length (positions plane.network)) (λ n. tree (edge plane q (position_at plane.network n))) (λ n. tree (edge plane t (position_at plane.network n))) (λ n less. ap tree (edge_like plane q t like (position_at plane.network n))) is.row;
+    stops = subst (AreKnown seat s.stops.items) (asked_like all_kinds) is.stops;
+  }
+
+-- what a position sends and the endings at it, made one after the other
+module _ (nodes : TableView) (v w : SeatView) (plane : DataPlane) (ends : Ends) (q : Pos) (places : Network) (same : places ≡ plane.network) (old : List Ref) (none : old ≡ []) where
+  pub filled : (s : Sending) (result : Result (Unit {0}) SetError) → IsRow v s.row (length (positions places)) (λ t. tree (edge plane q (position_at places t))) → Keeps v w → IfOk result (λ _. IsMade nodes w plane q s.made)
+      → OnOk result ((done : List Tree) → AreKnown v old done → AreKnown w s.stops.items (done ++ asked_of plane q ends all_kinds)) → IfOk result (λ _. IsSending nodes w plane ends q s)
+  filled s (Err e) row keeps made stops = tt
+  filled s (Ok x) row keeps made stops = record {
+    made = made;
+    row = row_kept v w keeps s.row (length (positions plane.network)) (λ t. tree (edge plane q (position_at plane.network t))) (subst (λ net. IsRow v s.row (length (positions net)) (λ t. tree (edge plane q (position_at net t)))) same row);
+    stops = stops [] (subst (λ rs. AreKnown v rs []) (sym none) tt);
+  }
+
+pub sending_kept : (nodes : TableView) (v w : SeatView) (plane : DataPlane) (ends : Ends) (q : Pos) (s : Sending) → IsSending nodes v plane ends q s → IsSeatOf nodes w → Keeps v w → IsSending nodes w plane ends q s
+sending_kept nodes v w plane ends q s is table keeps = record {
+  made = made_kept nodes plane q s.made v w is.made table keeps;
+  row = row_kept v w keeps s.row (length (positions plane.network)) (λ t. tree (edge plane q (position_at plane.network t))) is.row;
+  stops = known-kept v w keeps s.stops.items (asked_of plane q ends all_kinds) is.stops;
+}
+
 -- ---- one position more
-
-pub rows_kept : (v w : SeatView) → Keeps v w → (into : List (List Flow)) (edge : ℕ → ℕ → Tree) (a b : ℕ) → AreRows v into edge a b → AreRows w into edge a b
-rows_kept v w keeps into edge a b rows = record { each = λ t d less. flows-kept v w keeps (slice_index_or into t d) (real (edges_to edge (numbers a b) t)) (rows.each t d less) }
-
--- what a position sends is what its place does
-pub row_there : (v : SeatView) (plane : DataPlane) (n : ℕ) (q : Pos) → q ≡ position_at plane.network n → (row : Row) (count : ℕ) → IsRow v row count (λ t. tree (edge plane q (position_at plane.network t))) → IsRow v row count (edge_at plane n)
-row_there v plane n q is row count sent = row_like v row count (λ t. tree (edge plane q (position_at plane.network t))) (edge_at plane n) (λ t less. ap (λ p. tree (edge plane p (position_at plane.network t))) is) sent
 
 pub endings-more : (plane : DataPlane) (ends : Ends) (a n : ℕ) → a ≤ n → endings_of (ends_at plane ends) (numbers a (n + 1)) ≡ endings_of (ends_at plane ends) (numbers a n) ++ endings_of (ends_at plane ends) (n ∷ [])
 endings-more plane ends a n le = ap (endings_of (ends_at plane ends)) (numbers-more a n le) ∙ flat-append (λ q. map (λ e. (q, e)) (ends_at plane ends q)) (numbers a n) (n ∷ [])
 
--- whatever follows where a step is done
-pub on_ok : {A E : Type 0} (result : Result A E) (P Q : Type 0) → (P → Q) → OnOk result P → IfOk result (λ _. Q)
-on_ok (Ok x) P Q next done = next done
-on_ok (Err e) P Q next done = tt
-
-pub made_for : (result : Result RouterSets SetError) (plane : DataPlane) (r : ℕ) (entries : List Entry) → fib_of plane r ≡ entries
-    → IfOk result (λ (made : RouterSets). (nodes : TableView) (seat : SeatView) (plane : DataPlane) (r : ℕ) → fib_of plane r ≡ entries → IsSeatOf nodes seat → IsMade nodes seat plane r made)
-    → IfOk result (λ (made : RouterSets). (nodes : TableView) (seat : SeatView) → IsSeatOf nodes seat → IsMade nodes seat plane r made)
-made_for (Ok made) plane r entries is all = λ nodes seat table. all nodes seat plane r is table
-made_for (Err e) plane r entries is all = tt
-
-module _ (v w x : SeatView) (plane : DataPlane) (ends : Ends) (from n : ℕ) (q : Pos) (is : q ≡ position_at plane.network n) (places : Network) (same : places ≡ plane.network)
-    (kept : Keeps v w) (still : Keeps w x) (before after : Share) (row next : Row) (share : IsShare v plane ends from n before)
-    (sent : IsRow w row (length (positions places)) (λ t. tree (edge plane q (position_at places t))))
-    (flushed : (seat : SeatView) (edge : ℕ → ℕ → Tree) (start : ℕ) → start ≤ n → AreRows seat before.into.items edge start n → IsRow seat row (length before.into.items) (edge n) → AreRows seat after.into.items edge start (n + 1) × IsRow seat next (length before.into.items) (joined nothing)) where
-  as_wide : length (positions places) ≡ length before.into.items
-  as_wide = ap (λ net. length (positions net)) same ∙ sym share.as_many
-
-  sent_there : IsRow w row (length before.into.items) (edge_at plane n)
-  sent_there = row_there w plane n q is row (length before.into.items) (subst (λ net. IsRow w row (length before.into.items) (λ t. tree (edge plane q (position_at net t)))) same (subst (λ k. IsRow w row k (λ t. tree (edge plane q (position_at places t)))) as_wide sent))
-
-  both : AreRows w after.into.items (edge_at plane) from (n + 1) × IsRow w next (length before.into.items) (joined nothing)
-  both = flushed w (edge_at plane) from share.order (rows_kept v w kept before.into.items (edge_at plane) from n share.rows) sent_there
-
-  pub row_again : IsRow x next (length (positions places)) (joined nothing)
-  row_again = row_kept w x still next (length (positions places)) (joined nothing) (subst (λ k. IsRow w next k (joined nothing)) (sym as_wide) both.1)
-
-  pub share_more : length after.into.items ≡ length before.into.items
-      → ((done : List (ℕ × Tree)) → AreFlows w before.ends (real done) → AreFlows x after.ends (real (done ++ asked_of plane q ends n all_kinds)))
-      → IsShare x plane ends from (n + 1) after
-  share_more many flows = record {
+module _ (nodes : TableView) (seat : SeatView) (plane : DataPlane) (ends : Ends) (from n : ℕ) (before after : Share) (s : Sending) (share : IsShare seat plane ends from n before) (is : IsSending nodes seat plane ends (position_at plane.network n) s) where
+  pub share_more : AreFlushed before.into.items s.row n after.into.items → after.ends ≡ fold (λ fs r. with_flow fs n r) before.ends s.stops.items → IsShare seat plane ends from (n + 1) after
+  share_more flushed put = record {
     order = let le = share.order in omega arith;
-    as_many = many ∙ share.as_many;
-    rows = rows_kept w x still after.into.items (edge_at plane) from (n + 1) both.0;
-    endings = subst (λ ps. AreFlows x after.ends (real ps))
-        (ap (λ p. endings_of (ends_at plane ends) (numbers from n) ++ asked_of plane p ends n all_kinds) is
-        ∙ ap (λ ps. endings_of (ends_at plane ends) (numbers from n) ++ ps) (asked_there plane ends n)
-        ∙ sym (endings-more plane ends from n share.order))
-        (flows (endings_of (ends_at plane ends) (numbers from n)) (flows-kept v w kept before.ends (real (endings_of (ends_at plane ends) (numbers from n))) share.endings));
+    as_many = flushed.as_many ∙ share.as_many;
+    rows = flushed_rows seat (edge_at plane) from n share.order before.into.items after.into.items s.row flushed share.rows (subst (λ k. IsRow seat s.row k (edge_at plane n)) (sym share.as_many) is.row);
+    endings = subst (λ fs. AreFlows seat fs (real (endings_of (ends_at plane ends) (numbers from (n + 1))))) (sym put)
+        (subst (λ ps. AreFlows seat (fold (λ fs r. with_flow fs n r) before.ends s.stops.items) (real ps))
+        (ap (λ ps. endings_of (ends_at plane ends) (numbers from n) ++ ps) (asked_there plane ends n) ∙ sym (endings-more plane ends from n share.order))
+        (stops_put seat n s.stops.items (asked_of plane (position_at plane.network n) ends all_kinds) is.stops before.ends (endings_of (ends_at plane ends) (numbers from n)) share.endings));
   }
 
--- what is made of another router
-pub made_anew : (result : Result RouterSets SetError) (plane : DataPlane) (last r : ℕ) (made : RouterSets)
-    → IfOk result (λ (next : RouterSets). (nodes : TableView) (seat : SeatView) → IsSeatOf nodes seat → IsMade nodes seat plane r next)
-    → IfOk result (λ (next : RouterSets). (nodes : TableView) (seat : SeatView) → IsMade nodes seat plane last made → IsMade nodes seat plane r next)
-made_anew (Ok next) plane last r made all = λ nodes seat m. all nodes seat m.table
-made_anew (Err e) plane last r made all = tt
+  -- each number that a flow is put to has its list
+  pub within_share : All (λ t. t < length before.into.items) s.row.touched.items
+  within_share = subst (λ k. All (λ t. t < k) s.row.touched.items) (sym share.as_many) is.row.within
 
-pub on_done : {A E : Type 0} (result : Result A E) (P Q : Type 0) → (P → Q) → OnOk result P → OnOk result Q
-on_done (Ok x) P Q next done = next done
-on_done (Err e) P Q next done = tt
+-- what a share is stays known
+pub share_still : (v w : SeatView) → Keeps v w → (plane : DataPlane) (ends : Ends) (a b : ℕ) (share : Share) → IsShare v plane ends a b share → IsShare w plane ends a b share
+share_still v w keeps plane ends a b share s = record {
+  order = s.order;
+  as_many = s.as_many;
+  rows = record { each = λ t d less. flows-kept v w keeps (slice_index_or share.into.items t d) (real (edges_to (edge_at plane) (numbers a b) t)) (s.rows.each t d less) };
+  endings = flows-kept v w keeps share.ends (real (endings_of (ends_at plane ends) (numbers a b))) s.endings;
+}

@@ -1,12 +1,10 @@
 -- What the sets of a position are made of.
 use Rattle.std.proofs.Common.{refl, ◌≡◌}
-use Rattle.rc_base.specs.declared.position.IfId.{IfId}
 use Rattle.rc_base.specs.declared.position.Pos.{Pos}
 use Rattle.rc_base.specs.declared.ending.Kind.TheVariants.{DeniedIn, Accepted}
 use Rattle.rc_edges.specs.Endings.{end}
-use Rattle.rc_edges.specs.Sent.{forwarded, leaving, let_in, let_out, sent, taken, to_router, untaken}
+use Rattle.rc_edges.specs.Sent.{forwarded, let_in, sent, to_router}
 use Rattle.rc_route.specs.declared.route.Hop.{Hop}
-use Rattle.rc_route.specs.declared.route.Hop.TheVariants.{Dev}
 use Rattle.rc_sets.specs.Regions.{hop_set}
 use Rattle.rc_trees.specs.Recipes.{Recipe, given, and, minus}
 use Rattle.rc_trees.specs.Trees.{always}
@@ -20,17 +18,6 @@ module _ (plane : DataPlane) (q : Pos) where
   pub sent_is : (x : Hop) → and (forwarded plane q) (hop_set (fib_of plane (router_of q)) x) ≡ sent plane q x
   unfolding sent
   sent_is x = refl
-
-  pub leaving_is : (x : Hop) (i : IfId) → and (sent plane q x) (let_out plane.network q i) ≡ leaving plane q x i
-  unfolding leaving
-  leaving_is x i = refl
-
-  pub untaken_is : (i : IfId) → minus (leaving plane q (Dev i) i) (taken plane i) ≡ untaken plane q i
-  unfolding untaken
-  untaken_is i = refl
-
-  pub itself : (r : Recipe) → r ≡ r
-  itself r = refl
 
   pub accepted_is : and (let_in plane.network q) (to_router plane (router_of q)) ≡ end plane q Accepted
   unfolding end

@@ -1,6 +1,6 @@
 -- What a position sends to others so far, and the flows of the positions before it.
-use Rattle.std.specs.Prelude.{◌≡◌, ℕ, ◌+◌, ◌-◌, ◌<◌, ◌==◌, ◌⊎◌, All, Bool, true, false, not, ◌&&◌, Some, None, List, [], ◌∷◌, ◌++◌, length, map, filter, flat_map, slice_index_or, if◌then◌else◌}
-use Rattle.std.specs.List.{list_any, range_with_len}
+use Rattle.std.specs.Prelude.{◌≡◌, ℕ, ◌-◌, ◌<◌, ◌==◌, All, Bool, true, false, not, ◌&&◌, Option, Some, None, List, [], ◌∷◌, ◌++◌, length, filter, flat_map, slice_get, slice_index_or, unwrap_or, if◌then◌else◌}
+use Rattle.std.specs.List.{fold, list_any, range_with_len}
 use Rattle.rc_base.specs.Positions.{same_interface}
 use Rattle.rc_base.specs.declared.position.IfId.{IfId}
 use Rattle.rc_base.specs.declared.position.Pos.{Pos}
@@ -23,12 +23,40 @@ use Rattle.rc_walk.specs.Moves.{DataPlane}
 
 -- ---- what one position sends
 
--- to each position these sets are known, and each that may hold some header is among the touched ones
+abbrev pub no_header : Ref
+no_header = record { index = 0 }
+
+-- the set of a number, where there is one
+abbrev pub set_at : List (Option Ref) → ℕ → Option Ref
+set_at sets t = unwrap_or (slice_get sets t) None
+
+abbrev pub no_set : Option Ref
+no_set = None
+
+-- that of no header where there is none
+abbrev pub or_none : Option Ref → Ref
+or_none o = unwrap_or o no_header
+
+-- a number as often as it is among some
+abbrev pub those : ℕ → List ℕ → List ℕ
+those t us = filter (λ u. t == u) us
+
+-- once where there is a set
+abbrev pub touch_of : Option Ref → ℕ → List ℕ
+touch_of None t = []
+touch_of (Some r) t = t ∷ []
+
+-- with a number that had no set before
+abbrev pub touched_with : List ℕ → Option Ref → ℕ → List ℕ
+touched_with us None n = us ++ n ∷ []
+touched_with us (Some r) n = us
+
+-- to each position these sets are known, and each that has one is among the touched ones once
 pub record IsRow (seat : SeatView) (row : Row) (count : ℕ) (sent : ℕ → Tree) : Type 0 where
   pub as_many : length row.sets.items ≡ count
-  pub sets : (t : ℕ) (d : Ref) → t < count → SeatKnows seat (slice_index_or row.sets.items t d).index (sent t)
+  pub sets : (t : ℕ) → t < count → SeatKnows seat (or_none (set_at row.sets.items t)).index (sent t)
   pub within : All (λ t. t < count) row.touched.items
-  pub touched : (t : ℕ) (d : Ref) → t < count → ((slice_index_or row.sets.items t d).index ≡ 0) ⊎ (list_any (λ u. t == u) row.touched.items ≡ true)
+  pub once : (t : ℕ) → t < count → those t row.touched.items ≡ touch_of (set_at row.sets.items t) t
 
 -- what some sets give to each position
 abbrev pub joined : (ℕ → List Recipe) → ℕ → Tree
@@ -102,9 +130,6 @@ AreFlows seat [] (p ∷ ps) = ⊥
 AreFlows seat (f ∷ fs) [] = ⊥
 AreFlows seat (f ∷ fs) (p ∷ ps) = (f.from ≡ p.0) × SeatKnows seat f.set.index p.1 × AreFlows seat fs ps
 
-abbrev pub no_header : Ref
-no_header = record { index = 0 }
-
 -- a set that may hold some header stands behind the others
 abbrev pub with_flow : List Flow → ℕ → Ref → List Flow
 with_flow flows from set = if set.index == 0 then flows else flows ++ record { from = from; set = set } ∷ []
@@ -121,12 +146,11 @@ numbers start end = range_with_len start (end - start)
 pub record AreRows (seat : SeatView) (into : List (List Flow)) (edge : ℕ → ℕ → Tree) (start end : ℕ) : Type 0 where
   pub each : (t : ℕ) (d : List Flow) → t < length into → AreFlows seat (slice_index_or into t d) (real (edges_to edge (numbers start end) t))
 
--- At a position: what is sent there is known and not yet among the flows, and where it may hold some header the position is still to
--- come; or it is among the flows, and the row has no header there.
-abbrev pub IsSentAt : SeatView → Ref → List Flow → (ℕ → ℕ → Tree) → ℕ → ℕ → ℕ → List ℕ → Type 0
-IsSentAt seat set flows edge start from t left =
-    (SeatKnows seat set.index (edge from t) × AreFlows seat flows (real (edges_to edge (numbers start from) t)) × ((set.index ≡ 0) ⊎ (list_any (λ u. t == u) left ≡ true)))
-    ⊎ ((set.index ≡ 0) × AreFlows seat flows (real (edges_to edge (numbers start (from + 1)) t)))
+-- behind some flows those of the sets of some numbers
+abbrev pub flows_with : List (Option Ref) → ℕ → List Flow → List ℕ → List Flow
+flows_with sets from flows us = fold (λ fs u. with_flow fs from (or_none (set_at sets u))) flows us
 
-pub record AreSent (seat : SeatView) (sets : List Ref) (into : List (List Flow)) (edge : ℕ → ℕ → Tree) (start from : ℕ) (left : List ℕ) : Type 0 where
-  pub each : (t : ℕ) (d : Ref) (e : List Flow) → t < length into → IsSentAt seat (slice_index_or sets t d) (slice_index_or into t e) edge start from t left
+-- behind the flows into each position stands what a row sends there
+pub record AreFlushed (into : List (List Flow)) (row : Row) (from : ℕ) (after : List (List Flow)) : Type 0 where
+  pub as_many : length after ≡ length into
+  pub each : (t : ℕ) (d : List Flow) → t < length into → slice_index_or after t d ≡ flows_with row.sets.items from (slice_index_or into t []) (those t row.touched.items)

@@ -1,19 +1,22 @@
 -- What is made of a router, and what a seat knows of it.
-use Rattle.std.specs.Prelude.{◌≡◌, ℕ, List, [], map, Option, Some, None, IfSome, slice_get, unwrap_or}
+use Rattle.std.specs.Prelude.{◌≡◌, ℕ, List, [], map, Option, Some, IfSome, slice_get}
 use Rattle.rc_base.specs.Prefix.{Cidr, prefix_at}
 use Rattle.std.specs.Option.{option_map_or}
 use Rattle.rc_base.specs.declared.position.IfId.{IfId}
-use Rattle.rc_edges.specs.Sent.{to_router}
+use Rattle.rc_base.specs.declared.position.Pos.{Pos}
+use Rattle.rc_edges.specs.HopParts.{part_in, parts_of}
+use Rattle.rc_edges.specs.Sent.{forwarded, hops_at, to_router}
+use Rattle.rc_edges.specs.Steps.{fixed}
+use Rattle.rc_edges.specs.declared.parts.Part.{Part}
 use Rattle.rc_edges.specs.declared.router_sets.RouterSets.{RouterSets}
 use Rattle.rc_nodes.specs.Seats.{TableView, SeatView, IsSeatOf, SeatKnows}
 use Rattle.rc_nodes.specs.declared.words.Ref.{Ref}
 use Rattle.rc_route.specs.declared.route.Hop.{Hop}
-use Rattle.rc_sets.specs.Regions.{hop_set, hops_in}
 use Rattle.rc_topology.specs.Links.{port_at}
 use Rattle.rc_topology.specs.declared.port.Port.{Port}
 use Rattle.rc_topology.specs.declared.port.PortAddr.{PortAddr}
 use Rattle.rc_trees.specs.Recipes.{Recipe, tree}
-use Rattle.rc_walk.specs.Moves.{DataPlane, fib_of}
+use Rattle.rc_walk.specs.Moves.{DataPlane, router_of}
 
 -- the addresses of an interface with their prefixes
 abbrev pub owned_at : DataPlane → IfId → List PortAddr
@@ -27,9 +30,10 @@ hosts_by_port p = map (λ (a : PortAddr). prefix_at a.addr 32) p.addresses
 abbrev pub IsKnownIfMade : SeatView → Option Ref → Recipe → Type 0
 IsKnownIfMade seat set r = IfSome set (λ s. SeatKnows seat s.index (tree r))
 
--- the seat is the table's, and knows what was made of a router as its sets
-pub record IsMade (nodes : TableView) (seat : SeatView) (plane : DataPlane) (r : ℕ) (made : RouterSets) : Type 0 where
+-- the seat is the table's, and knows what was made of the router at a position, and of the position, as its sets
+pub record IsMade (nodes : TableView) (seat : SeatView) (plane : DataPlane) (q : Pos) (made : RouterSets) : Type 0 where
   pub table : IsSeatOf nodes seat
-  pub hops : made.hops ≡ hops_in (fib_of plane r)
-  pub over : (k : ℕ) (x : Hop) → slice_get made.hops k ≡ Some x → IsKnownIfMade seat (unwrap_or (slice_get made.over.items k) None) (hop_set (fib_of plane r) x)
-  pub owned : IsKnownIfMade seat made.owned (to_router plane r)
+  pub hops : made.hops ≡ hops_at plane q
+  pub parts : (k : ℕ) (x : Hop) (p : Part) → slice_get made.hops k ≡ Some x → IsKnownIfMade seat (part_in (parts_of made.parts.items k) p) (fixed plane (router_of q) p x)
+  pub owned : IsKnownIfMade seat made.owned (to_router plane (router_of q))
+  pub forwarded : IsKnownIfMade seat made.forwarded (forwarded plane q)

@@ -9,9 +9,11 @@ ghost use Rattle.rc_topology.specs.declared.port.PortAddr.{PortAddr as Owned};
 ghost use Rattle.rc_trees.specs.Fields.{chain};
 ghost use Rattle.rc_trees.specs.Recipes.{parts, tree, union_of};
 ghost use Rattle.rc_trees.specs.Trees.{HasNodes};
+ghost use Rattle.rc_walk.specs.Moves.{router_of};
 
 use crate::neighbors::linked_of;
-use rc_base::{Addr, IfId, Prefix, RouterId};
+use crate::sent::Site;
+use rc_base::{Addr, IfId, Prefix};
 use rc_bdd::{SetError, Work};
 use rc_nodes::{May, NEVER, Nodes, Ref};
 use rc_sets::prefix_set;
@@ -68,22 +70,21 @@ fn router_hosts(alloc: Global, ports: &[Port]) -> Result<Vec<Prefix>, AllocError
     Ok(hosts)
 }
 
-/// The headers to an own address of a router.
+/// The headers to an own address of a position's router.
 pub(crate) fn router_set<M: May>(
     alloc: Global,
     work: &mut Work<M>,
     nodes: &Nodes<M>,
-    plane: &Plane<'_>,
-    router: RouterId,
+    site: &Site<'_>,
 ) -> Result<Ref, SetError>
     requires seat { IsSeatOf nodes.now work.old }
-    requires may { HasNodes nodes.now.may (parts (to_router plane.now router)) }
+    requires may { HasNodes nodes.now.may (parts (to_router site.now.plane.now (router_of site.now.position))) }
     ensures seat { IsSeatOf nodes.now work.new }
     ensures keeps { Keeps work.old work.new }
-    ensures set { IfOk result (λ r. SeatKnows work.new r.index (tree (to_router plane.now router))) }
+    ensures set { IfOk result (λ r. SeatKnows work.new r.index (tree (to_router site.now.plane.now (router_of site.now.position)))) }
     ensures cause { IfErr result (IsCause nodes.now work.new) }
 {
-    let ports = plane.links().ports(router);
+    let ports = site.plane.links().ports(site.router());
     let Ok(hosts) = router_hosts(alloc, ports) else {
         return Err(SetError::Memory);
     };

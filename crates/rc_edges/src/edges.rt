@@ -1,84 +1,34 @@
 //! What a position sends to the next ones, hop by hop.
-ghost use Rattle.std.specs.Prelude.{◌≡◌, ◌<◌, ◌∷◌, ◌+◌, ℕ, List, [], IfOk, IfErr, Some, length, slice_get, take, true};
+ghost use Rattle.std.specs.Prelude.{◌≡◌, ◌<◌, ◌∷◌, ◌+◌, [], IfOk, IfErr, Some, length, slice_get, take, true};
 ghost use Rattle.rc_bdd.specs.Work.{IsCause};
 ghost use Rattle.rc_edges.specs.Edges as spec;
 ghost use Rattle.rc_config.specs.Members.{positions};
 ghost use Rattle.rc_edges.specs.Given.{Gives, IsRow, MayGet, given_by, hop_targets, joined, leads_onto, nothing};
 ghost use Rattle.rc_edges.specs.Made.{IsMade};
 ghost use Rattle.rc_edges.specs.Prepare.{MaySend};
-ghost use Rattle.rc_edges.specs.Sent.{hops_at, leaving, to_interface, to_subnets, untaken};
-ghost use Rattle.rc_nodes.specs.Seats.{IsSeatOf, Keeps, SeatKnows};
+ghost use Rattle.rc_edges.specs.Sent.{hops_at, to_interface};
+ghost use Rattle.rc_edges.specs.Steps.{step_at};
+ghost use Rattle.rc_edges.specs.declared.parts.Step.TheVariants.{Leaving};
+ghost use Rattle.rc_nodes.specs.Seats.{IsSeatOf, Keeps};
 ghost use Rattle.rc_places.specs.Places.{position_at};
 ghost use Rattle.rc_topology.specs.Ports.{links_of};
 ghost use Rattle.rc_route.specs.declared.route.Hop.TheVariants.{Dev as Over};
-ghost use Rattle.rc_trees.specs.Recipes.{Recipe, and, minus, parts, tree};
-ghost use Rattle.rc_trees.specs.Trees.{HasNodes};
-ghost use Rattle.rc_walk.specs.Moves.{router_of};
+ghost use Rattle.rc_trees.specs.Recipes.{and, tree};
 
-use crate::destinations::{interface_set, subnets_set};
+use crate::destinations::interface_set;
 use crate::neighbors::{linked_of, takers_of};
+use crate::parts::Step;
 use crate::router_sets::RouterSets;
 use crate::rows::Row;
-use crate::sent::{Site, leaving_set, untaken_set};
+use crate::sent::{HopAt, Site, step_set};
 use rc_base::{IfId, Pos};
 use rc_bdd::{SetError, Work};
-use rc_nodes::{May, Nodes, Ref};
+use rc_nodes::{May, Nodes};
 use rc_places::Places;
 use rc_route::Hop;
 use std::alloc::{AllocError, Global};
 
-/// Of what leaves over a hop without a gateway what an interface on a link owns.
-fn owned_there<M: May>(
-    alloc: Global,
-    work: &mut Work<M>,
-    nodes: &Nodes<M>,
-    site: &Site<'_>,
-    made: &mut RouterSets,
-    index: usize,
-    hop: &Hop,
-    interface: &IfId,
-    next: &IfId,
-) -> Result<Ref, SetError>
-    requires made { IsMade nodes.now work.old site.now.plane.now (router_of site.now.position) made.old }
-    requires hop { slice_get (hops_at site.now.plane.now site.now.position) index ≡ Some hop.now }
-    requires may { HasNodes nodes.now.may (parts (and (leaving site.now.plane.now site.now.position hop.now interface.now) (to_interface site.now.plane.now next.now))) }
-    ensures seat { IsSeatOf nodes.now work.new }
-    ensures made { IfOk result (λ _. IsMade nodes.now work.new site.now.plane.now (router_of site.now.position) made.new) }
-    ensures keeps { Keeps work.old work.new }
-    ensures set { IfOk result (λ r. SeatKnows work.new r.index (tree (and (leaving site.now.plane.now site.now.position hop.now interface.now) (to_interface site.now.plane.now next.now)))) }
-    ensures cause { IfErr result (IsCause nodes.now work.new) }
-{
-    let leaving = leaving_set(alloc, work, nodes, site, made, index, hop, interface)?;
-    let there = interface_set(alloc, work, nodes, site.plane, next)?;
-    work.and(nodes, leaving, there)
-}
-
-/// What leaves over an interface to destinations that nobody owns and no subnet of the interface holds.
-pub(crate) fn rest_set<M: May>(
-    alloc: Global,
-    work: &mut Work<M>,
-    nodes: &Nodes<M>,
-    site: &Site<'_>,
-    made: &mut RouterSets,
-    index: usize,
-    hop: &Hop,
-    interface: &IfId,
-) -> Result<Ref, SetError>
-    requires made { IsMade nodes.now work.old site.now.plane.now (router_of site.now.position) made.old }
-    requires hop { (slice_get (hops_at site.now.plane.now site.now.position) index ≡ Some hop.now) × (hop.now ≡ Over interface.now) }
-    requires may { HasNodes nodes.now.may (parts (minus (untaken site.now.plane.now site.now.position interface.now) (to_subnets site.now.plane.now interface.now))) }
-    ensures seat { IsSeatOf nodes.now work.new }
-    ensures made { IfOk result (λ _. IsMade nodes.now work.new site.now.plane.now (router_of site.now.position) made.new) }
-    ensures keeps { Keeps work.old work.new }
-    ensures set { IfOk result (λ r. SeatKnows work.new r.index (tree (minus (untaken site.now.plane.now site.now.position interface.now) (to_subnets site.now.plane.now interface.now)))) }
-    ensures cause { IfErr result (IsCause nodes.now work.new) }
-{
-    let untaken = untaken_set(alloc, work, nodes, site, made, index, hop, interface)?;
-    let subnets = subnets_set(alloc, work, nodes, site.plane, interface)?;
-    work.minus(nodes, untaken, subnets)
-}
-
-/// Gives what an interface on a link owns of what leaves over a hop without a gateway.
+/// Gives what an interface on a link owns of what leaves over a hop.
 fn add_owned<M: May>(
     alloc: Global,
     work: &mut Work<M>,
@@ -86,51 +36,50 @@ fn add_owned<M: May>(
     site: &Site<'_>,
     made: &mut RouterSets,
     row: &mut Row,
-    index: usize,
-    hop: &Hop,
-    interface: &IfId,
+    at: &HopAt,
     next: &IfId,
     onto: usize,
 ) -> Result<(), SetError>
-    requires made { IsMade nodes.now work.old site.now.plane.now (router_of site.now.position) made.old }
-    requires hop { slice_get (hops_at site.now.plane.now site.now.position) index ≡ Some hop.now }
+    requires made { IsMade nodes.now work.old site.now.plane.now site.now.position made.old }
+    requires at { slice_get (hops_at site.now.plane.now site.now.position) at.now.index ≡ Some at.now.hop }
     requires onto { onto < length row.old.sets.items }
-    requires may { MayGet nodes.now work.old row.old onto (and (leaving site.now.plane.now site.now.position hop.now interface.now) (to_interface site.now.plane.now next.now) ∷ []) }
+    requires may { MayGet nodes.now work.old row.old onto (and (step_at site.now.plane.now site.now.position Leaving at.now.hop) (to_interface site.now.plane.now next.now) ∷ []) }
     ensures seat { IsSeatOf nodes.now work.new }
-    ensures made { IfOk result (λ _. IsMade nodes.now work.new site.now.plane.now (router_of site.now.position) made.new) }
+    ensures made { IfOk result (λ _. IsMade nodes.now work.new site.now.plane.now site.now.position made.new) }
     ensures keeps { Keeps work.old work.new }
-    ensures given { IfOk result (λ _. Gives work.old work.new row.old row.new onto (and (leaving site.now.plane.now site.now.position hop.now interface.now) (to_interface site.now.plane.now next.now) ∷ [])) }
+    ensures given { IfOk result (λ _. Gives work.old work.new row.old row.new onto (and (step_at site.now.plane.now site.now.position Leaving at.now.hop) (to_interface site.now.plane.now next.now) ∷ [])) }
     ensures cause { IfErr result (IsCause nodes.now work.new) }
 {
-    let owned = owned_there(alloc, work, nodes, site, made, index, hop, interface, next)?;
+    let leaving = step_set(alloc, work, nodes, site, made, at, Step::Leaving)?;
+    let there = interface_set(alloc, work, nodes, site.plane, next)?;
+    let owned = work.and(nodes, leaving, there)?;
     row.add(work, nodes, onto, owned)
 }
 
-/// Gives what leaves over a hop without a gateway to destinations that nobody owns and no subnet holds.
-fn add_rest<M: May>(
+/// Gives what a step gives of a hop.
+fn add_step<M: May>(
     alloc: Global,
     work: &mut Work<M>,
     nodes: &Nodes<M>,
     site: &Site<'_>,
     made: &mut RouterSets,
     row: &mut Row,
-    index: usize,
-    hop: &Hop,
-    interface: &IfId,
+    at: &HopAt,
+    step: Step,
     onto: usize,
 ) -> Result<(), SetError>
-    requires made { IsMade nodes.now work.old site.now.plane.now (router_of site.now.position) made.old }
-    requires hop { (slice_get (hops_at site.now.plane.now site.now.position) index ≡ Some hop.now) × (hop.now ≡ Over interface.now) }
+    requires made { IsMade nodes.now work.old site.now.plane.now site.now.position made.old }
+    requires at { slice_get (hops_at site.now.plane.now site.now.position) at.now.index ≡ Some at.now.hop }
     requires onto { onto < length row.old.sets.items }
-    requires may { MayGet nodes.now work.old row.old onto (minus (untaken site.now.plane.now site.now.position interface.now) (to_subnets site.now.plane.now interface.now) ∷ []) }
+    requires may { MayGet nodes.now work.old row.old onto (step_at site.now.plane.now site.now.position step at.now.hop ∷ []) }
     ensures seat { IsSeatOf nodes.now work.new }
-    ensures made { IfOk result (λ _. IsMade nodes.now work.new site.now.plane.now (router_of site.now.position) made.new) }
+    ensures made { IfOk result (λ _. IsMade nodes.now work.new site.now.plane.now site.now.position made.new) }
     ensures keeps { Keeps work.old work.new }
-    ensures given { IfOk result (λ _. Gives work.old work.new row.old row.new onto (minus (untaken site.now.plane.now site.now.position interface.now) (to_subnets site.now.plane.now interface.now) ∷ [])) }
+    ensures given { IfOk result (λ _. Gives work.old work.new row.old row.new onto (step_at site.now.plane.now site.now.position step at.now.hop ∷ [])) }
     ensures cause { IfErr result (IsCause nodes.now work.new) }
 {
-    let rest = rest_set(alloc, work, nodes, site, made, index, hop, interface)?;
-    row.add(work, nodes, onto, rest)
+    let set = step_set(alloc, work, nodes, site, made, at, step)?;
+    row.add(work, nodes, onto, set)
 }
 
 /// Gives what leaves over a hop without a gateway towards an interface on a link: what that one owns, and on a serial line also what
@@ -142,58 +91,26 @@ fn add_on_link<M: May>(
     site: &Site<'_>,
     made: &mut RouterSets,
     row: &mut Row,
-    index: usize,
-    hop: &Hop,
+    at: &HopAt,
     interface: &IfId,
     next: &IfId,
     onto: usize,
 ) -> Result<(), SetError>
-    requires made { IsMade nodes.now work.old site.now.plane.now (router_of site.now.position) made.old }
-    requires hop { (slice_get (hops_at site.now.plane.now site.now.position) index ≡ Some hop.now) × (hop.now ≡ Over interface.now) }
+    requires made { IsMade nodes.now work.old site.now.plane.now site.now.position made.old }
+    requires at { (slice_get (hops_at site.now.plane.now site.now.position) at.now.index ≡ Some at.now.hop) × (at.now.hop ≡ Over interface.now) }
     requires onto { onto < length row.old.sets.items }
     requires may { MayGet nodes.now work.old row.old onto (spec.onto_link site.now.plane.now site.now.position next.now interface.now) }
     ensures seat { IsSeatOf nodes.now work.new }
-    ensures made { IfOk result (λ _. IsMade nodes.now work.new site.now.plane.now (router_of site.now.position) made.new) }
+    ensures made { IfOk result (λ _. IsMade nodes.now work.new site.now.plane.now site.now.position made.new) }
     ensures keeps { Keeps work.old work.new }
     ensures given { IfOk result (λ _. Gives work.old work.new row.old row.new onto (spec.onto_link site.now.plane.now site.now.position next.now interface.now)) }
     ensures cause { IfErr result (IsCause nodes.now work.new) }
 {
-    add_owned(
-        alloc, work, nodes, site, made, row, index, hop, interface, next, onto,
-    )?;
+    add_owned(alloc, work, nodes, site, made, row, at, next, onto)?;
     if !site.plane.links().is_serial(*interface) {
         return Ok(());
     }
-    add_rest(
-        alloc, work, nodes, site, made, row, index, hop, interface, onto,
-    )
-}
-
-/// Gives what leaves over a hop to a gateway.
-fn add_to_gateway<M: May>(
-    alloc: Global,
-    work: &mut Work<M>,
-    nodes: &Nodes<M>,
-    site: &Site<'_>,
-    made: &mut RouterSets,
-    row: &mut Row,
-    index: usize,
-    hop: &Hop,
-    interface: &IfId,
-    onto: usize,
-) -> Result<(), SetError>
-    requires made { IsMade nodes.now work.old site.now.plane.now (router_of site.now.position) made.old }
-    requires hop { slice_get (hops_at site.now.plane.now site.now.position) index ≡ Some hop.now }
-    requires onto { onto < length row.old.sets.items }
-    requires may { MayGet nodes.now work.old row.old onto (leaving site.now.plane.now site.now.position hop.now interface.now ∷ []) }
-    ensures seat { IsSeatOf nodes.now work.new }
-    ensures made { IfOk result (λ _. IsMade nodes.now work.new site.now.plane.now (router_of site.now.position) made.new) }
-    ensures keeps { Keeps work.old work.new }
-    ensures given { IfOk result (λ _. Gives work.old work.new row.old row.new onto (leaving site.now.plane.now site.now.position hop.now interface.now ∷ [])) }
-    ensures cause { IfErr result (IsCause nodes.now work.new) }
-{
-    let leaving = leaving_set(alloc, work, nodes, site, made, index, hop, interface)?;
-    row.add(work, nodes, onto, leaving)
+    add_step(alloc, work, nodes, site, made, row, at, Step::Rest, onto)
 }
 
 /// Gives what a hop sends towards an interface onto which it leads.
@@ -204,33 +121,28 @@ fn add_towards<M: May>(
     site: &Site<'_>,
     made: &mut RouterSets,
     row: &mut Row,
-    index: usize,
-    hop: &Hop,
+    at: &HopAt,
     next: &IfId,
     onto: usize,
 ) -> Result<(), SetError>
-    requires made { IsMade nodes.now work.old site.now.plane.now (router_of site.now.position) made.old }
-    requires hop { slice_get (hops_at site.now.plane.now site.now.position) index ≡ Some hop.now }
-    requires leads { leads_onto site.now.plane.now.links hop.now next.now ≡ true }
+    requires made { IsMade nodes.now work.old site.now.plane.now site.now.position made.old }
+    requires at { slice_get (hops_at site.now.plane.now site.now.position) at.now.index ≡ Some at.now.hop }
+    requires leads { leads_onto site.now.plane.now.links at.now.hop next.now ≡ true }
     requires onto { onto < length row.old.sets.items }
-    requires may { MayGet nodes.now work.old row.old onto (spec.towards site.now.plane.now site.now.position next.now hop.now) }
+    requires may { MayGet nodes.now work.old row.old onto (spec.towards site.now.plane.now site.now.position next.now at.now.hop) }
     ensures seat { IsSeatOf nodes.now work.new }
-    ensures made { IfOk result (λ _. IsMade nodes.now work.new site.now.plane.now (router_of site.now.position) made.new) }
+    ensures made { IfOk result (λ _. IsMade nodes.now work.new site.now.plane.now site.now.position made.new) }
     ensures keeps { Keeps work.old work.new }
-    ensures given { IfOk result (λ _. Gives work.old work.new row.old row.new onto (spec.towards site.now.plane.now site.now.position next.now hop.now)) }
+    ensures given { IfOk result (λ _. Gives work.old work.new row.old row.new onto (spec.towards site.now.plane.now site.now.position next.now at.now.hop)) }
     ensures cause { IfErr result (IsCause nodes.now work.new) }
 {
-    match hop {
+    match &at.hop {
         Hop::Null => Ok(()),
         Hop::Dev(interface) => add_on_link(
-            alloc, work, nodes, site, made, row, index, hop, interface, next, onto,
+            alloc, work, nodes, site, made, row, at, interface, next, onto,
         ),
         Hop::Via(_, through) => match through {
-            Some(interface) => {
-                add_to_gateway(
-                    alloc, work, nodes, site, made, row, index, hop, interface, onto,
-                )
-            }
+            Some(_) => add_step(alloc, work, nodes, site, made, row, at, Step::Leaving, onto),
             None => Ok(()),
         },
     }
@@ -269,26 +181,25 @@ fn add_targets<M: May>(
     places: &Places<'_>,
     made: &mut RouterSets,
     row: &mut Row,
-    index: usize,
-    hop: &Hop,
+    at: &HopAt,
     targets: &[IfId],
 ) -> Result<(), SetError>
     requires places { places.now ≡ site.now.plane.now.network }
     requires links { site.now.plane.now.links ≡ links_of site.now.plane.now.network }
-    requires made { IsMade nodes.now work.old site.now.plane.now (router_of site.now.position) made.old }
-    requires hop { slice_get (hops_at site.now.plane.now site.now.position) index ≡ Some hop.now }
-    requires targets { targets.now ≡ hop_targets site.now.plane.now.links hop.now }
-    requires row { IsRow work.old row.old (length (positions places.now)) (joined (given_by site.now.plane.now site.now.position (take index (hops_at site.now.plane.now site.now.position)))) }
+    requires made { IsMade nodes.now work.old site.now.plane.now site.now.position made.old }
+    requires at { slice_get (hops_at site.now.plane.now site.now.position) at.now.index ≡ Some at.now.hop }
+    requires targets { targets.now ≡ hop_targets site.now.plane.now.links at.now.hop }
+    requires row { IsRow work.old row.old (length (positions places.now)) (joined (given_by site.now.plane.now site.now.position (take at.now.index (hops_at site.now.plane.now site.now.position)))) }
     requires may { MaySend nodes.now.may site.now.plane.now site.now.position }
     ensures seat { IsSeatOf nodes.now work.new }
-    ensures made { IfOk result (λ _. IsMade nodes.now work.new site.now.plane.now (router_of site.now.position) made.new) }
+    ensures made { IfOk result (λ _. IsMade nodes.now work.new site.now.plane.now site.now.position made.new) }
     ensures keeps { Keeps work.old work.new }
-    ensures row { IfOk result (λ _. IsRow work.new row.new (length (positions places.now)) (joined (given_by site.now.plane.now site.now.position (take (index + 1) (hops_at site.now.plane.now site.now.position))))) }
+    ensures row { IfOk result (λ _. IsRow work.new row.new (length (positions places.now)) (joined (given_by site.now.plane.now site.now.position (take (at.now.index + 1) (hops_at site.now.plane.now site.now.position))))) }
     ensures cause { IfErr result (IsCause nodes.now work.new) }
 {
     for next in targets {
         let onto = places.number(&Pos::Entering(*next));
-        add_towards(alloc, work, nodes, site, made, row, index, hop, next, onto)?;
+        add_towards(alloc, work, nodes, site, made, row, at, next, onto)?;
     }
     Ok(())
 }
@@ -302,22 +213,21 @@ fn add_hop<M: May>(
     places: &Places<'_>,
     made: &mut RouterSets,
     row: &mut Row,
-    index: usize,
-    hop: &Hop,
+    at: &HopAt,
 ) -> Result<(), SetError>
     requires places { places.now ≡ site.now.plane.now.network }
     requires links { site.now.plane.now.links ≡ links_of site.now.plane.now.network }
-    requires made { IsMade nodes.now work.old site.now.plane.now (router_of site.now.position) made.old }
-    requires hop { slice_get (hops_at site.now.plane.now site.now.position) index ≡ Some hop.now }
-    requires row { IsRow work.old row.old (length (positions places.now)) (joined (given_by site.now.plane.now site.now.position (take index (hops_at site.now.plane.now site.now.position)))) }
+    requires made { IsMade nodes.now work.old site.now.plane.now site.now.position made.old }
+    requires at { slice_get (hops_at site.now.plane.now site.now.position) at.now.index ≡ Some at.now.hop }
+    requires row { IsRow work.old row.old (length (positions places.now)) (joined (given_by site.now.plane.now site.now.position (take at.now.index (hops_at site.now.plane.now site.now.position)))) }
     requires may { MaySend nodes.now.may site.now.plane.now site.now.position }
     ensures seat { IsSeatOf nodes.now work.new }
-    ensures made { IfOk result (λ _. IsMade nodes.now work.new site.now.plane.now (router_of site.now.position) made.new) }
+    ensures made { IfOk result (λ _. IsMade nodes.now work.new site.now.plane.now site.now.position made.new) }
     ensures keeps { Keeps work.old work.new }
-    ensures row { IfOk result (λ _. IsRow work.new row.new (length (positions places.now)) (joined (given_by site.now.plane.now site.now.position (take (index + 1) (hops_at site.now.plane.now site.now.position))))) }
+    ensures row { IfOk result (λ _. IsRow work.new row.new (length (positions places.now)) (joined (given_by site.now.plane.now site.now.position (take (at.now.index + 1) (hops_at site.now.plane.now site.now.position))))) }
     ensures cause { IfErr result (IsCause nodes.now work.new) }
 {
-    let Ok(targets) = targets_of(alloc, site, hop) else {
+    let Ok(targets) = targets_of(alloc, site, &at.hop) else {
         return Err(SetError::Memory);
     };
     add_targets(
@@ -328,18 +238,26 @@ fn add_hop<M: May>(
         places,
         made,
         row,
-        index,
-        hop,
+        at,
         targets.as_slice(),
     )
 }
 
 /// The hop of an index.
-pub(crate) fn hop_at(hops: &[Hop], index: usize) -> Hop
+fn hop_of(hops: &[Hop], index: usize) -> Hop
     requires { index < length hops.now }
     ensures { slice_get hops.now index ≡ Some result }
 {
     hops[index]
+}
+
+/// The hop of an index, with the index.
+pub(crate) fn hop_at(hops: &[Hop], index: usize) -> HopAt
+    requires { index < length hops.now }
+    ensures { (result.index ≡ index) × (slice_get hops.now index ≡ Some result.hop) }
+{
+    let hop = hop_of(hops, index);
+    HopAt { index, hop }
 }
 
 /// Gives what a position sends to each other one.
@@ -354,18 +272,18 @@ pub(crate) fn add_edges<M: May>(
 ) -> Result<(), SetError>
     requires places { places.now ≡ site.now.plane.now.network }
     requires links { site.now.plane.now.links ≡ links_of site.now.plane.now.network }
-    requires made { IsMade nodes.now work.old site.now.plane.now (router_of site.now.position) made.old }
+    requires made { IsMade nodes.now work.old site.now.plane.now site.now.position made.old }
     requires row { IsRow work.old row.old (length (positions places.now)) (joined nothing) }
     requires may { MaySend nodes.now.may site.now.plane.now site.now.position }
     ensures seat { IsSeatOf nodes.now work.new }
-    ensures made { IfOk result (λ _. IsMade nodes.now work.new site.now.plane.now (router_of site.now.position) made.new) }
+    ensures made { IfOk result (λ _. IsMade nodes.now work.new site.now.plane.now site.now.position made.new) }
     ensures keeps { Keeps work.old work.new }
     ensures row { IfOk result (λ _. IsRow work.new row.new (length (positions places.now)) (λ t. tree (spec.edge site.now.plane.now site.now.position (position_at places.now t)))) }
     ensures cause { IfErr result (IsCause nodes.now work.new) }
 {
     for index in 0..made.hops.len() {
-        let hop = hop_at(made.hops.as_slice(), index);
-        add_hop(alloc, work, nodes, site, places, made, row, index, &hop)?;
+        let at = hop_at(made.hops.as_slice(), index);
+        add_hop(alloc, work, nodes, site, places, made, row, &at)?;
     }
     Ok(())
 }

@@ -1,7 +1,8 @@
 //! What access groups let pass.
 ghost use Rattle.std.specs.Prelude.{◌≡◌, IfOk, IfErr};
 ghost use Rattle.rc_bdd.specs.Work.{IsCause};
-ghost use Rattle.rc_edges.specs.Sent.{let_in, let_out, passing_at};
+ghost use Rattle.rc_config.specs.declared.interface.Direction.TheVariants.{Out};
+ghost use Rattle.rc_edges.specs.Sent.{let_in, passing_at};
 ghost use Rattle.rc_nodes.specs.Seats.{IsSeatOf, Keeps, SeatKnows};
 ghost use Rattle.rc_sets.specs.AccessLists.{group_set, passing_set};
 ghost use Rattle.rc_trees.specs.Recipes.{parts, tree};
@@ -110,23 +111,19 @@ pub(crate) fn let_in_set<M: May>(
     }
 }
 
-/// What the router at a position lets out by an interface.
+/// What an interface lets out.
 pub(crate) fn let_out_set<M: May>(
     work: &mut Work<M>,
     nodes: &Nodes<M>,
     net: &Network,
-    position: &Pos,
     interface: &IfId,
 ) -> Result<Ref, SetError>
     requires seat { IsSeatOf nodes.now work.old }
-    requires may { HasNodes nodes.now.may (parts (let_out net.now position.now interface.now)) }
+    requires may { HasNodes nodes.now.may (parts (passing_at net.now Out interface.now)) }
     ensures seat { IsSeatOf nodes.now work.new }
     ensures keeps { Keeps work.old work.new }
-    ensures set { IfOk result (λ r. SeatKnows work.new r.index (tree (let_out net.now position.now interface.now))) }
+    ensures set { IfOk result (λ r. SeatKnows work.new r.index (tree (passing_at net.now Out interface.now))) }
     ensures cause { IfErr result (IsCause nodes.now work.new) }
 {
-    match position {
-        Pos::Own(_) => Ok(ALWAYS),
-        Pos::Entering(_) => interface_group_set(work, nodes, net, Direction::Out, interface),
-    }
+    interface_group_set(work, nodes, net, Direction::Out, interface)
 }

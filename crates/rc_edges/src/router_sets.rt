@@ -1,36 +1,91 @@
 //! What is made once for a router.
-ghost use Rattle.std.specs.Prelude.{◌≡◌, ◌∷◌, ◌++◌, [], IfOk, IfErr, OnOk, Some, None, length, replicate, slice_get, slice_set, unwrap_or};
+ghost use Rattle.std.specs.Prelude.{◌≡◌, ◌∷◌, ◌++◌, ◌+◌, ◌<◌, [], true, IfOk, IfErr, IfSome, OnOk, Some, length, replicate, slice_get, slice_set, take};
 ghost use Rattle.std.specs.BTreeSet.{keys, insert_key};
 ghost use Rattle.std.specs.List.{fold};
 ghost use Rattle.rc_bdd.specs.Work.{IsCause};
+ghost use Rattle.rc_edges.specs.HopParts as spec;
 ghost use Rattle.rc_edges.specs.Made.{IsMade};
-ghost use Rattle.rc_edges.specs.Sent.{to_router};
+ghost use Rattle.rc_edges.specs.Sent.{hops_at, to_router};
+ghost use Rattle.rc_edges.specs.Steps.{fixed, part_at};
 ghost use Rattle.rc_nodes.specs.Seats.{IsSeatOf, Keeps, SeatKnows};
 ghost use Rattle.rc_route.specs.Hops.{hop_cmp};
 ghost use Rattle.rc_sets.specs.Regions.{hop_set, hops_in};
 ghost use Rattle.rc_trees.specs.Recipes.{parts, tree};
 ghost use Rattle.rc_trees.specs.Trees.{HasNodes};
-ghost use Rattle.rc_walk.specs.Moves.{fib_of};
+ghost use Rattle.rc_walk.specs.Moves.{fib_of, router_of};
 
-use crate::destinations::router_set;
+use crate::destinations::{router_set, subnets_set, taken_set};
+use crate::groups::let_out_set;
+use crate::parts::{Part, device, is_everything};
+use crate::sent::{HopAt, Site};
 use rc_base::{IfId, Items, RouterId};
 use rc_bdd::{SetError, Work};
 use rc_fib::Entry;
-use rc_nodes::{May, NEVER, Nodes, Ref};
-use rc_route::Hop;
+use rc_nodes::{ALWAYS, May, NEVER, Nodes, Ref};
+use rc_route::{Hop, same_hop};
 use rc_sets::hop_set;
 use rc_walk::Plane;
 use std::alloc::{AllocError, Global};
 use std::collections::BTreeSet;
 
+/// The parts of a hop that were made so far.
+#[derive(Clone, Copy)]
+pub(crate) struct HopParts {
+    pub over: Option<Ref>,
+    pub let_out: Option<Ref>,
+    pub taken: Option<Ref>,
+    pub subnets: Option<Ref>,
+}
+
+/// None of the parts.
+fn no_parts() -> HopParts
+    ensures { result ≡ spec.no_parts }
+{
+    HopParts {
+        over: None,
+        let_out: None,
+        taken: None,
+        subnets: None,
+    }
+}
+
+impl HopParts {
+    /// A part, where it is made.
+    fn part(self, part: Part) -> Option<Ref>
+        ensures { result ≡ spec.part_in self part }
+    {
+        match part {
+            Part::Over => self.over,
+            Part::LetOut => self.let_out,
+            Part::Taken => self.taken,
+            Part::Subnets => self.subnets,
+        }
+    }
+
+    /// With a part that is made.
+    fn with(mut self, part: Part, set: Ref) -> HopParts
+        ensures { result ≡ spec.with_part self part set }
+    {
+        match part {
+            Part::Over => self.over = Some(set),
+            Part::LetOut => self.let_out = Some(set),
+            Part::Taken => self.taken = Some(set),
+            Part::Subnets => self.subnets = Some(set),
+        }
+        self
+    }
+}
+
 /// What was made of a router's sets so far: they are the same wherever a packet enters it, and are made where they are first asked for.
 pub(crate) struct RouterSets {
     /// The hops of its table, in their order.
     pub hops: Items<Hop>,
-    /// For each hop the headers that the table sends over it.
-    pub over: Vec<Option<Ref>>,
+    /// For each hop its parts.
+    pub parts: Vec<HopParts>,
     /// The headers to an own address.
     pub owned: Option<Ref>,
+    /// Those that the router takes in at a position and does not keep.
+    pub forwarded: Option<Ref>,
 }
 
 /// By a function of its own, so that what holds the sets drops them by one call.
@@ -38,8 +93,9 @@ impl Drop for RouterSets {
     fn drop(self) {
         let RouterSets {
             hops: _,
-            over: _,
+            parts: _,
             owned: _,
+            forwarded: _,
         } = self;
     }
 }
@@ -64,13 +120,67 @@ fn insert_hops(set: &mut BTreeSet<Hop>, hops: &[Hop]) -> Result<(), AllocError>
     Ok(())
 }
 
+/// The hop of a list of one.
+fn sole(hops: &[Hop]) -> Option<Hop>
+    ensures { IfSome result (λ hop. hops.now ≡ hop ∷ []) }
+{
+    match hops {
+        [hop] => Some(*hop),
+        _ => None,
+    }
+}
+
+/// Whether two lists are of one hop each, and of the same.
+fn is_repeated(one: &[Hop], other: &[Hop]) -> bool
+    ensures { result ≡ true → spec.IsRepeated one.now other.now }
+{
+    let Some(one) = sole(one) else {
+        return false;
+    };
+    let Some(other) = sole(other) else {
+        return false;
+    };
+    same_hop(&one, &other)
+}
+
+/// The hops of an entry.
+fn hops_of(entries: &[Entry], index: usize) -> &[Hop]
+    requires { index < length entries.now }
+    ensures { spec.HasHops entries.now index result.now }
+{
+    entries[index].hops.as_slice()
+}
+
+/// Whether an entry gives the one hop that the entry before it gives.
+fn repeats(entries: &[Entry], index: usize) -> bool
+    requires { index < length entries.now }
+    ensures { result ≡ true → spec.Repeats entries.now index }
+{
+    if index == 0 {
+        return false;
+    }
+    is_repeated(hops_of(entries, index - 1), hops_of(entries, index))
+}
+
+/// Puts the hops of one entry more into a set. Most entries give the one hop of the entry before them, which is there already.
+fn insert_entry(set: &mut BTreeSet<Hop>, entries: &[Entry], index: usize) -> Result<(), AllocError>
+    requires index { index < length entries.now }
+    requires before { keys set.old ≡ hops_in (take index entries.now) }
+    ensures { OnOk result (keys set.new ≡ hops_in (take (index + 1) entries.now)) }
+{
+    if repeats(entries, index) {
+        return Ok(());
+    }
+    insert_hops(set, hops_of(entries, index))
+}
+
 /// The hops of a table as a set.
 fn hops_of_table(alloc: Global, entries: &[Entry]) -> Result<BTreeSet<Hop>, AllocError>
     ensures { IfOk result (λ set. keys set ≡ hops_in entries.now) }
 {
     let mut set = BTreeSet::new(alloc);
-    for entry in entries {
-        insert_hops(&mut set, entry.hops.as_slice())?;
+    for index in 0..entries.len() {
+        insert_entry(&mut set, entries, index)?;
     }
     Ok(set)
 }
@@ -100,14 +210,15 @@ impl RouterSets {
     /// Nothing is made yet of a router with this table.
     pub fn of(alloc: Global, entries: &[Entry]) -> Result<RouterSets, AllocError>
         ensures hops { IfOk result (λ made. made.hops ≡ hops_in entries.now) }
-        ensures nothing { IfOk result (λ made. (made.over.items ≡ replicate (length made.hops) None) × (made.owned ≡ None)) }
+        ensures nothing { IfOk result (λ made. (made.parts.items ≡ replicate (length made.hops) spec.no_parts) × (made.owned ≡ None) × (made.forwarded ≡ None)) }
     {
         let hops = ordered_hops(alloc, entries)?;
-        let over = vec![in alloc; None; hops.len()]?;
+        let parts = vec![in alloc; no_parts(); hops.len()]?;
         Ok(RouterSets {
             hops,
-            over,
+            parts,
             owned: None,
+            forwarded: None,
         })
     }
 }
@@ -117,73 +228,119 @@ pub(crate) fn owned_set<M: May>(
     alloc: Global,
     work: &mut Work<M>,
     nodes: &Nodes<M>,
-    plane: &Plane<'_>,
-    router: RouterId,
+    site: &Site<'_>,
     made: &mut RouterSets,
 ) -> Result<Ref, SetError>
-    requires made { IsMade nodes.now work.old plane.now router made.old }
-    requires may { HasNodes nodes.now.may (parts (to_router plane.now router)) }
+    requires made { IsMade nodes.now work.old site.now.plane.now site.now.position made.old }
+    requires may { HasNodes nodes.now.may (parts (to_router site.now.plane.now (router_of site.now.position))) }
     ensures seat { IsSeatOf nodes.now work.new }
-    ensures made { IfOk result (λ _. IsMade nodes.now work.new plane.now router made.new) }
+    ensures made { IfOk result (λ _. IsMade nodes.now work.new site.now.plane.now site.now.position made.new) }
     ensures keeps { Keeps work.old work.new }
-    ensures set { IfOk result (λ r. SeatKnows work.new r.index (tree (to_router plane.now router))) }
+    ensures set { IfOk result (λ r. SeatKnows work.new r.index (tree (to_router site.now.plane.now (router_of site.now.position)))) }
     ensures cause { IfErr result (IsCause nodes.now work.new) }
 {
     if let Some(set) = made.owned {
         return Ok(set);
     }
-    let set = router_set(alloc, work, nodes, plane, router)?;
+    let set = router_set(alloc, work, nodes, site)?;
     made.owned = Some(set);
     Ok(set)
 }
 
-/// The set of an index, where it is made.
-fn known_at(over: &[Option<Ref>], index: usize) -> Option<Ref>
-    ensures { result ≡ unwrap_or (slice_get over.now index) None }
-{
-    let found = over.get(index);
-    match found {
-        Some(set) => *set,
-        None => None,
-    }
-}
-
-/// Notes a set that is made.
-fn note(over: &mut Vec<Option<Ref>>, index: usize, set: Ref)
-    ensures { over.new.items ≡ slice_set over.old.items index (Some set) }
-{
-    if index < over.len() {
-        over[index] = Some(set);
-    }
-}
-
-/// The headers that the router's table sends over a hop of this index.
+/// The headers that a router's table sends over a hop.
 pub(crate) fn over_set<M: May>(
     alloc: Global,
     work: &mut Work<M>,
     nodes: &Nodes<M>,
     plane: &Plane<'_>,
     router: RouterId,
-    made: &mut RouterSets,
-    index: usize,
     hop: &Hop,
 ) -> Result<Ref, SetError>
-    requires made { IsMade nodes.now work.old plane.now router made.old }
-    requires hop { slice_get (hops_in (fib_of plane.now router)) index ≡ Some hop.now }
+    requires seat { IsSeatOf nodes.now work.old }
     requires may { HasNodes nodes.now.may (parts (hop_set (fib_of plane.now router) hop.now)) }
     ensures seat { IsSeatOf nodes.now work.new }
-    ensures made { IfOk result (λ _. IsMade nodes.now work.new plane.now router made.new) }
     ensures keeps { Keeps work.old work.new }
     ensures set { IfOk result (λ r. SeatKnows work.new r.index (tree (hop_set (fib_of plane.now router) hop.now))) }
     ensures cause { IfErr result (IsCause nodes.now work.new) }
 {
-    if let Some(set) = known_at(made.over.as_slice(), index) {
-        return Ok(set);
-    }
     let Some(fib) = plane.fib(router) else {
         return Ok(NEVER);
     };
-    let set = hop_set(alloc, work, nodes, fib, hop)?;
-    note(&mut made.over, index, set);
+    hop_set(alloc, work, nodes, fib, hop)
+}
+
+/// A part of a router's hop.
+fn new_part<M: May>(
+    alloc: Global,
+    work: &mut Work<M>,
+    nodes: &Nodes<M>,
+    plane: &Plane<'_>,
+    router: RouterId,
+    hop: &Hop,
+    part: Part,
+) -> Result<Ref, SetError>
+    requires seat { IsSeatOf nodes.now work.old }
+    requires may { HasNodes nodes.now.may (parts (fixed plane.now router part hop.now)) }
+    ensures seat { IsSeatOf nodes.now work.new }
+    ensures keeps { Keeps work.old work.new }
+    ensures set { IfOk result (λ r. SeatKnows work.new r.index (tree (fixed plane.now router part hop.now))) }
+    ensures cause { IfErr result (IsCause nodes.now work.new) }
+{
+    match part {
+        Part::Over => over_set(alloc, work, nodes, plane, router, hop),
+        Part::LetOut => let_out_set(work, nodes, plane.network(), &device(hop)),
+        Part::Taken => taken_set(alloc, work, nodes, plane, &device(hop)),
+        Part::Subnets => subnets_set(alloc, work, nodes, plane, &device(hop)),
+    }
+}
+
+/// The parts of an index, none where there is no such hop.
+fn parts_at(all: &[HopParts], index: usize) -> HopParts
+    ensures { result ≡ spec.parts_of all.now index }
+{
+    let found = all.get(index);
+    match found {
+        Some(parts) => *parts,
+        None => no_parts(),
+    }
+}
+
+/// Notes a part that is made.
+fn note(all: &mut Vec<HopParts>, index: usize, part: Part, set: Ref)
+    ensures { all.new.items ≡ slice_set all.old.items index (spec.with_part (spec.parts_of all.old.items index) part set) }
+{
+    let parts = parts_at(all.as_slice(), index).with(part, set);
+    if index < all.len() {
+        all[index] = parts;
+    }
+}
+
+/// A part of a hop at a position, made where it is first asked for.
+pub(crate) fn part_set<M: May>(
+    alloc: Global,
+    work: &mut Work<M>,
+    nodes: &Nodes<M>,
+    site: &Site<'_>,
+    made: &mut RouterSets,
+    at: &HopAt,
+    part: Part,
+) -> Result<Ref, SetError>
+    requires made { IsMade nodes.now work.old site.now.plane.now site.now.position made.old }
+    requires at { slice_get (hops_at site.now.plane.now site.now.position) at.now.index ≡ Some at.now.hop }
+    requires may { HasNodes nodes.now.may (parts (part_at site.now.plane.now site.now.position part at.now.hop)) }
+    ensures seat { IsSeatOf nodes.now work.new }
+    ensures made { IfOk result (λ _. IsMade nodes.now work.new site.now.plane.now site.now.position made.new) }
+    ensures keeps { Keeps work.old work.new }
+    ensures set { IfOk result (λ r. SeatKnows work.new r.index (tree (part_at site.now.plane.now site.now.position part at.now.hop))) }
+    ensures cause { IfErr result (IsCause nodes.now work.new) }
+{
+    if is_everything(part, &site.position) {
+        return Ok(ALWAYS);
+    }
+    if let Some(set) = parts_at(made.parts.as_slice(), at.index).part(part) {
+        return Ok(set);
+    }
+    let set = new_part(alloc, work, nodes, site.plane, site.router(), &at.hop, part)?;
+    note(&mut made.parts, at.index, part, set);
     Ok(set)
 }

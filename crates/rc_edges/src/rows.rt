@@ -1,7 +1,7 @@
 //! What a position sends to each other one, and the flows that come of it.
-ghost use Rattle.std.specs.Prelude.{◌≡◌, ℕ, ◌+◌, ◌∷◌, ◌++◌, ◌<◌, ◌≤◌, All, List, [], IfOk, IfErr, OnOk, length, replicate, slice_index_or, slice_set};
+ghost use Rattle.std.specs.Prelude.{◌≡◌, ℕ, ◌∷◌, ◌<◌, All, List, [], IfOk, IfErr, OnOk, length, replicate, slice_index_or, slice_set};
 ghost use Rattle.rc_bdd.specs.Work.{IsCause};
-ghost use Rattle.rc_edges.specs.Given.{AreRows, Gives, IsRow, MayGive, joined, no_header, nothing, with_flow};
+ghost use Rattle.rc_edges.specs.Given.{AreFlushed, Gives, IsRow, MayGive, joined, no_set, nothing, or_none, set_at, touched_with, with_flow};
 ghost use Rattle.rc_nodes.specs.Seats.{IsSeatOf, Keeps, SeatKnows, SeatView};
 ghost use Rattle.rc_trees.specs.Recipes.{Recipe, tree};
 ghost use Rattle.rc_trees.specs.Trees.{Tree};
@@ -14,8 +14,9 @@ use std::alloc::{AllocError, Global};
 
 /// What one position sends to each position, by number.
 pub(crate) struct Row {
-    pub sets: Vec<Ref>,
-    /// Each number of which the set may hold some header.
+    /// For each number what is sent there, where anything was given.
+    pub sets: Vec<Option<Ref>>,
+    /// The numbers of these, each once.
     pub touched: Vec<usize>,
 }
 
@@ -29,22 +30,55 @@ impl Drop for Row {
     }
 }
 
-/// So many sets of no header.
-fn no_sets(alloc: Global, count: usize) -> Result<Vec<Ref>, AllocError>
-    ensures { IfOk result (λ sets. sets.items ≡ replicate count no_header) }
+/// So many times nothing.
+fn no_sets(alloc: Global, count: usize) -> Result<Vec<Option<Ref>>, AllocError>
+    ensures { IfOk result (λ sets. sets.items ≡ replicate count no_set) }
 {
-    let sets = vec![in alloc; NEVER; count]?;
+    let sets = vec![in alloc; None; count]?;
     Ok(sets)
 }
 
-/// Puts a number behind the others.
-fn touch(touched: &mut Vec<usize>, number: usize) -> Result<(), SetError>
-    ensures put { OnOk result (touched.new.items ≡ touched.old.items ++ number ∷ []) }
+/// The set of a number, where there is one.
+fn set_at(sets: &[Option<Ref>], number: usize) -> Option<Ref>
+    ensures { result ≡ set_at sets.now number }
+{
+    let found = sets.get(number);
+    match found {
+        Some(set) => *set,
+        None => None,
+    }
+}
+
+/// A set, that of no header where there is none.
+fn or_none(set: Option<Ref>) -> Ref
+    ensures { result ≡ or_none set }
+{
+    match set {
+        Some(set) => set,
+        None => NEVER,
+    }
+}
+
+/// Puts a number behind the others, where nothing was given to it before.
+fn touch(touched: &mut Vec<usize>, before: Option<Ref>, number: usize) -> Result<(), SetError>
+    ensures put { OnOk result (touched.new.items ≡ touched_with touched.old.items before number) }
     ensures memory { IfErr result (λ e. e ≡ SetError.Memory) }
 {
-    match touched.push(number) {
-        Ok(_) => Ok(()),
-        Err(_) => Err(SetError::Memory),
+    match before {
+        Some(_) => Ok(()),
+        None => match touched.push(number) {
+            Ok(_) => Ok(()),
+            Err(_) => Err(SetError::Memory),
+        },
+    }
+}
+
+/// Notes a set, or that there is none.
+fn note(sets: &mut Vec<Option<Ref>>, number: usize, set: Option<Ref>)
+    ensures { sets.new.items ≡ slice_set sets.old.items number set }
+{
+    if number < sets.len() {
+        sets[number] = set;
     }
 }
 
@@ -76,10 +110,21 @@ impl Row {
         ensures added { IfOk result (λ _. (more : Recipe) → SeatKnows work.old set.index (tree more) → Gives work.old work.new self.old self.new onto (more ∷ [])) }
         ensures cause { IfErr result (IsCause nodes.now work.new) }
     {
-        let joined = work.or(nodes, self.sets[onto], set)?;
-        self.sets[onto] = joined;
-        touch(&mut self.touched, onto)?;
-        Ok(())
+        let before = set_at(self.sets.as_slice(), onto);
+        let joined = work.or(nodes, or_none(before), set)?;
+        note(&mut self.sets, onto, Some(joined));
+        touch(&mut self.touched, before, onto)
+    }
+
+    /// Nothing is sent any more.
+    pub fn clear(&mut self)
+        ensures { (seat : SeatView) (count : ℕ) (sent : ℕ → Tree) → IsRow seat self.old count sent → IsRow seat self.new count (joined nothing) }
+    {
+        for at in 0..self.touched.len() {
+            let onto = self.touched[at];
+            note(&mut self.sets, onto, None);
+        }
+        self.touched.clear();
     }
 }
 
@@ -104,38 +149,28 @@ pub(crate) fn push_flow(flows: &mut Items<Flow>, from: usize, set: Ref) -> Resul
     flows.push(Flow { from, set })
 }
 
-/// Takes what is sent to a position out of the row, and puts it behind the flows into that position.
-fn flush_one(
+/// Puts a set behind the flows into a position.
+fn push_at(
     into: &mut Vec<Items<Flow>>,
-    row: &mut Row,
     onto: usize,
     from: usize,
+    set: Ref,
 ) -> Result<(), AllocError>
-    requires rows { onto < length into.old.items }
-    requires sets { onto < length row.old.sets.items }
-    ensures row { (row.new.sets.items ≡ slice_set row.old.sets.items onto no_header) × (row.new.touched.items ≡ row.old.touched.items) }
-    ensures into { OnOk result (into.new.items ≡ slice_set into.old.items onto (with_flow (slice_index_or into.old.items onto []) from (slice_index_or row.old.sets.items onto no_header))) }
+    requires { onto < length into.old.items }
+    ensures { OnOk result (into.new.items ≡ slice_set into.old.items onto (with_flow (slice_index_or into.old.items onto []) from set)) }
 {
-    let set = row.sets[onto];
-    row.sets[onto] = NEVER;
     push_flow(&mut into[onto], from, set)
 }
 
-/// Puts what is sent to each position behind the flows into it, each as a flow from one position. Nothing is sent then.
-pub(crate) fn flush(
-    into: &mut Vec<Items<Flow>>,
-    row: &mut Row,
-    from: usize,
-) -> Result<(), AllocError>
-    requires count { length row.old.sets.items ≡ length into.old.items }
-    requires touched { All (λ t. t < length into.old.items) row.old.touched.items }
-    ensures as_many { OnOk result (length into.new.items ≡ length into.old.items) }
-    ensures flushed { OnOk result ((seat : SeatView) (edge : ℕ → ℕ → Tree) (start : ℕ) → start ≤ from → AreRows seat into.old.items edge start from → IsRow seat row.old (length into.old.items) (edge from) → AreRows seat into.new.items edge start (from + 1) × IsRow seat row.new (length into.old.items) (joined nothing)) }
+/// Puts what is sent to each position behind the flows into it, each as a flow from one position.
+pub(crate) fn flush(into: &mut Vec<Items<Flow>>, row: &Row, from: usize) -> Result<(), AllocError>
+    requires { All (λ t. t < length into.old.items) row.now.touched.items }
+    ensures { OnOk result (AreFlushed into.old.items row.now from into.new.items) }
 {
     for at in 0..row.touched.len() {
         let onto = row.touched[at];
-        flush_one(into, row, onto, from)?;
+        let set = or_none(set_at(row.sets.as_slice(), onto));
+        push_at(into, onto, from, set)?;
     }
-    row.touched.clear();
     Ok(())
 }

@@ -1,14 +1,14 @@
 //! The endings asked for at a position.
-ghost use Rattle.std.specs.Prelude.{◌≡◌, ℕ, ◌<◌, ◌++◌, ◌∷◌, [], List, IfOk, IfErr, OnOk, Some, slice_get};
+ghost use Rattle.std.specs.Prelude.{◌≡◌, ◌<◌, ◌++◌, ◌∷◌, [], List, IfOk, IfErr, OnOk, Some, slice_get};
+ghost use Rattle.std.specs.List.{fold};
 ghost use Rattle.rc_bdd.specs.Work.{IsCause};
-ghost use Rattle.rc_edges.specs.Given.{AreFlows, real, with_flow};
+ghost use Rattle.rc_edges.specs.Given.{with_flow};
 ghost use Rattle.rc_edges.specs.Made.{IsMade};
-ghost use Rattle.rc_edges.specs.Prepare.{MayEnd, ends_at};
+ghost use Rattle.rc_edges.specs.Prepare.{MayEnd};
 ghost use Rattle.rc_edges.specs.Query.{all_kinds};
-ghost use Rattle.rc_edges.specs.Stops.{asked, asked_of};
+ghost use Rattle.rc_edges.specs.Stops.{AreKnown, asked, asked_of};
 ghost use Rattle.rc_nodes.specs.Seats.{IsSeatOf, Keeps};
 ghost use Rattle.rc_trees.specs.Trees.{Tree};
-ghost use Rattle.rc_walk.specs.Moves.{router_of};
 
 use crate::endings::end_set;
 use crate::router_sets::RouterSets;
@@ -18,7 +18,7 @@ use rc_base::{Ends, Items, Kind};
 use rc_bdd::{SetError, Work};
 use rc_jobs::Flow;
 use rc_nodes::{May, Nodes, Ref};
-use std::alloc::Global;
+use std::alloc::{AllocError, Global};
 
 /// The ending of an index.
 fn kind_at(index: usize) -> Kind
@@ -37,18 +37,18 @@ fn kind_at(index: usize) -> Kind
     }
 }
 
-/// Puts a set behind the flows, where it holds some header.
-fn put_flow(flows: &mut Items<Flow>, from: usize, set: Ref) -> Result<(), SetError>
-    ensures put { OnOk result (flows.new ≡ with_flow flows.old from set) }
+/// Puts a set behind the others.
+fn put_stop(stops: &mut Vec<Ref>, set: Ref) -> Result<(), SetError>
+    ensures put { OnOk result (stops.new.items ≡ stops.old.items ++ set ∷ []) }
     ensures memory { IfErr result (λ e. e ≡ SetError.Memory) }
 {
-    match push_flow(flows, from, set) {
+    match stops.push(set) {
         Ok(_) => Ok(()),
         Err(_) => Err(SetError::Memory),
     }
 }
 
-/// Puts what may end so at the position behind the flows, where that is asked for.
+/// Puts what may end so at the position behind the others, where that is asked for.
 fn add_ending<M: May>(
     alloc: Global,
     work: &mut Work<M>,
@@ -57,25 +57,24 @@ fn add_ending<M: May>(
     made: &mut RouterSets,
     ends: Ends,
     kind: Kind,
-    from: usize,
-    flows: &mut Items<Flow>,
+    stops: &mut Vec<Ref>,
 ) -> Result<(), SetError>
-    requires made { IsMade nodes.now work.old site.now.plane.now (router_of site.now.position) made.old }
+    requires made { IsMade nodes.now work.old site.now.plane.now site.now.position made.old }
     requires may { MayEnd nodes.now.may site.now.plane.now ends site.now.position }
     ensures seat { IsSeatOf nodes.now work.new }
-    ensures made { IfOk result (λ _. IsMade nodes.now work.new site.now.plane.now (router_of site.now.position) made.new) }
+    ensures made { IfOk result (λ _. IsMade nodes.now work.new site.now.plane.now site.now.position made.new) }
     ensures keeps { Keeps work.old work.new }
-    ensures flows { OnOk result ((done : List (ℕ × Tree)) → AreFlows work.old flows.old (real done) → AreFlows work.new flows.new (real (done ++ asked site.now.plane.now site.now.position ends from kind))) }
+    ensures stops { OnOk result ((done : List Tree) → AreKnown work.old stops.old.items done → AreKnown work.new stops.new.items (done ++ asked site.now.plane.now site.now.position ends kind)) }
     ensures cause { IfErr result (IsCause nodes.now work.new) }
 {
     if !ends.has(kind) {
         return Ok(());
     }
     let set = end_set(alloc, work, nodes, site, made, kind)?;
-    put_flow(flows, from, set)
+    put_stop(stops, set)
 }
 
-/// Puts what may end at the position, ending by ending of those asked for, behind the flows.
+/// Puts what may end at the position, ending by ending of those asked for, behind the others.
 pub(crate) fn add_endings<M: May>(
     alloc: Global,
     work: &mut Work<M>,
@@ -83,20 +82,33 @@ pub(crate) fn add_endings<M: May>(
     site: &Site<'_>,
     made: &mut RouterSets,
     ends: Ends,
-    from: usize,
-    flows: &mut Items<Flow>,
+    stops: &mut Vec<Ref>,
 ) -> Result<(), SetError>
-    requires made { IsMade nodes.now work.old site.now.plane.now (router_of site.now.position) made.old }
+    requires made { IsMade nodes.now work.old site.now.plane.now site.now.position made.old }
     requires may { MayEnd nodes.now.may site.now.plane.now ends site.now.position }
     ensures seat { IsSeatOf nodes.now work.new }
-    ensures made { IfOk result (λ _. IsMade nodes.now work.new site.now.plane.now (router_of site.now.position) made.new) }
+    ensures made { IfOk result (λ _. IsMade nodes.now work.new site.now.plane.now site.now.position made.new) }
     ensures keeps { Keeps work.old work.new }
-    ensures flows { OnOk result ((done : List (ℕ × Tree)) → AreFlows work.old flows.old (real done) → AreFlows work.new flows.new (real (done ++ asked_of site.now.plane.now site.now.position ends from all_kinds))) }
+    ensures stops { OnOk result ((done : List Tree) → AreKnown work.old stops.old.items done → AreKnown work.new stops.new.items (done ++ asked_of site.now.plane.now site.now.position ends all_kinds)) }
     ensures cause { IfErr result (IsCause nodes.now work.new) }
 {
     for index in 0..8 {
         let kind = kind_at(index);
-        add_ending(alloc, work, nodes, site, made, ends, kind, from, flows)?;
+        add_ending(alloc, work, nodes, site, made, ends, kind, stops)?;
+    }
+    Ok(())
+}
+
+/// Puts sets behind the flows, each as a flow from one position, where it holds some header.
+pub(crate) fn put_stops(
+    flows: &mut Items<Flow>,
+    stops: &[Ref],
+    from: usize,
+) -> Result<(), AllocError>
+    ensures { OnOk result (flows.new ≡ fold (λ fs s. with_flow fs from s) flows.old stops.now) }
+{
+    for set in stops {
+        push_flow(flows, from, *set)?;
     }
     Ok(())
 }

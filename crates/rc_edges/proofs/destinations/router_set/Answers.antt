@@ -6,14 +6,15 @@ use Rattle.rc_trees.specs.Fields.{chain}
 use Rattle.rc_trees.specs.Recipes.{union_of}
 use Rattle.rc_edges.proofs.PieceLaws.{router_is}
 use Rattle.rc_edges.proofs.JoinLaws.{known_like, may_like}
+use Rattle.rc_walk.specs.Moves.{router_of}
 use Rattle.rc_edges.proofs.destinations.router_set.Goals as goal
 
 pub prefixes_set-requires-clause-may : goal.prefixes_set-requires-clause-may
 prefixes_set-requires-clause-may g c =
-    let e = ap (union_of chain) (c.as_slice.ensures.value ∙ c.in-Ok.ensures ∙ ap (flat_map hosts_by_port) (c.ports-ports.ensures ∙ ap (λ l. ports_at l c.args.router) c.links.ensures)) ∙ router_is c.args.plane.now c.args.router in
-    may_like c.args.nodes.now.may (to_router c.args.plane.now c.args.router) (union_of chain c.as_slice.result.now) (sym e) c.requires.may
+    let e = ap (union_of chain) (c.as_slice.ensures.value ∙ c.in-Ok.ensures ∙ ap (flat_map hosts_by_port) (c.ports-ports.ensures ∙ (λ i. ports_at (c.links.ensures i) (c.router.ensures i)))) ∙ router_is c.args.site.now.plane.now (router_of c.args.site.now.position) in
+    may_like c.args.nodes.now.may (to_router c.args.site.now.plane.now (router_of c.args.site.now.position)) (union_of chain c.as_slice.result.now) (sym e) c.requires.may
 
 pub returns-clause-set : goal.returns-clause-set
 returns-clause-set g c =
-    let e = ap (union_of chain) (c.as_slice.ensures.value ∙ c.in-Ok.ensures ∙ ap (flat_map hosts_by_port) (c.ports-ports.ensures ∙ ap (λ l. ports_at l c.args.router) c.links.ensures)) ∙ router_is c.args.plane.now c.args.router in
-    known_like c.prefixes_set.new.work c.prefixes_set.result (union_of chain c.as_slice.result.now) (to_router c.args.plane.now c.args.router) e c.prefixes_set.ensures.set
+    let e = ap (union_of chain) (c.as_slice.ensures.value ∙ c.in-Ok.ensures ∙ ap (flat_map hosts_by_port) (c.ports-ports.ensures ∙ (λ i. ports_at (c.links.ensures i) (c.router.ensures i)))) ∙ router_is c.args.site.now.plane.now (router_of c.args.site.now.position) in
+    known_like c.prefixes_set.new.work c.prefixes_set.result (union_of chain c.as_slice.result.now) (to_router c.args.site.now.plane.now (router_of c.args.site.now.position)) e c.prefixes_set.ensures.set

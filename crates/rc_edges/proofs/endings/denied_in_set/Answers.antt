@@ -1,7 +1,6 @@
 use Rattle.std.proofs.Common.{sym, subst}
 use Rattle.rc_base.specs.declared.ending.Kind.TheVariants.{DeniedIn}
 use Rattle.rc_edges.proofs.JoinLaws.{known_like, may_like, may_minus, operated, piece}
-use Rattle.rc_edges.proofs.MadeLaws.{made_kept, whenever}
 use Rattle.rc_edges.proofs.UseLaws.{denied_in_is}
 use Rattle.rc_edges.specs.Endings.{end}
 use Rattle.rc_edges.specs.Sent.{let_in}
@@ -12,7 +11,6 @@ use Rattle.rc_trees.specs.Combine as trees
 use Rattle.rc_trees.specs.Recipes as recipes
 use Rattle.rc_trees.specs.Recipes.{given, parts, tree}
 use Rattle.rc_trees.specs.Trees.{always, HasNodes}
-use Rattle.rc_walk.specs.Moves.{router_of}
 use Rattle.rc_edges.proofs.endings.denied_in_set.Goals as goal
 
 pub let_in_set-requires-clause-may : goal.let_in_set-requires-clause-may
@@ -31,9 +29,6 @@ minus-requires-clause-may g c =
     may_minus c.args.nodes.now c.let_in_set.new.work 1 c.in_ok-let_in.let_in.index (given always) (let_in plane.network q) (knows_always c.let_in_set.new.work)
     (subst (λ n. SeatKnows c.let_in_set.new.work c.in_ok-let_in.let_in.index (tree (let_in n q))) c.network.ensures c.in_ok-let_in.ensures.set)
     (may_like c.args.nodes.now.may (end plane q DeniedIn) whole (sym (denied_in_is plane q)) c.requires.may)
-
-pub returns-clause-made : goal.returns-clause-made
-returns-clause-made g c = whenever c.minus.result _ (made_kept c.args.nodes.now c.args.site.now.plane.now (router_of c.args.site.now.position) c.args.made.now c.args.work.now c.minus.new.self c.requires.made c.minus.ensures.seat (λ r t k. c.minus.ensures.keeps r t (c.in_ok-let_in.ensures.keeps r t k)))
 
 pub returns-clause-set : goal.returns-clause-set
 returns-clause-set g c =

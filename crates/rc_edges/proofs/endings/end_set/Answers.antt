@@ -2,6 +2,7 @@ use Rattle.std.proofs.Common.{sym}
 use Rattle.std.specs.List.{flat_map}
 use Rattle.rc_edges.proofs.EndLaws.{no_route_is, null_routed_is, over_hops_is}
 use Rattle.rc_edges.proofs.JoinLaws.{known_like, may_like}
+use Rattle.rc_edges.proofs.MadeLaws.{made_kept, whenever}
 use Rattle.rc_edges.specs.Edges.{union}
 use Rattle.rc_edges.specs.Endings.{end}
 use Rattle.rc_edges.specs.Ends.{ends_over}
@@ -11,6 +12,10 @@ use Rattle.rc_sets.specs.Regions.{hop_set}
 use Rattle.rc_trees.specs.Recipes.{without}
 use Rattle.rc_walk.specs.Moves.{fib_of, router_of}
 use Rattle.rc_edges.proofs.endings.end_set.Goals as goal
+
+pub returns-in-DeniedIn-clause-made : goal.returns-in-DeniedIn-clause-made
+returns-in-DeniedIn-clause-made g c =
+    whenever c.denied_in_set.result _ (made_kept c.args.nodes.now c.args.site.now.plane.now c.args.site.now.position c.args.made.now c.args.work.now c.denied_in_set.new.work c.requires.made c.denied_in_set.ensures.seat c.denied_in_set.ensures.keeps)
 
 pub no_route_set-requires-clause-may : goal.no_route_set-requires-clause-may
 no_route_set-requires-clause-may g c =

@@ -2,13 +2,11 @@ use Rattle.std.proofs.Common.{◌≡◌, ap, sym, ◌∙◌, subst, take, Some, 
 use Rattle.rc_edges.proofs.EndLaws.{without_may, without_next, without-uses}
 use Rattle.rc_edges.proofs.JoinLaws.{may_minus, piece}
 use Rattle.rc_edges.proofs.MadeLaws.{made_kept}
-use Rattle.rc_edges.specs.Made.{IsMade}
 use Rattle.rc_edges.specs.Sent.{forwarded, hops_at}
 use Rattle.rc_nodes.specs.Seats.{SeatKnows}
 use Rattle.rc_sets.specs.Regions.{hop_set}
 use Rattle.rc_trees.proofs.PartLaws.{minus-second}
-use Rattle.rc_trees.specs.Recipes.{minus, parts, tree, without}
-use Rattle.rc_trees.specs.Trees.{HasNodes}
+use Rattle.rc_trees.specs.Recipes.{minus, tree, without}
 use Rattle.rc_walk.specs.Moves.{fib_of, router_of}
 use Rattle.rc_edges.proofs.endings.no_route_set.Goals as goal
 
@@ -19,17 +17,23 @@ forwarded_set-requires-clause-may g c =
     let f = hop_set (fib_of plane (router_of q)) in
     piece c.args.nodes.now.may (without f (forwarded plane q) (hops_at plane q)) (forwarded plane q) (without-uses f (forwarded plane q) (hops_at plane q)) c.requires.may
 
-pub over_set-requires-clause-may : goal.over_set-requires-clause-may
-over_set-requires-clause-may g c =
+pub part_set-requires-clause-at : goal.part_set-requires-clause-at
+part_set-requires-clause-at g c =
+    let plane = c.args.site.now.plane.now in
+    let q = c.args.site.now.position in
+    subst (λ k. slice_get (hops_at plane q) k ≡ Some c.hop_at-at.result.hop) (sym c.hop_at-at.ensures.0)
+    (ap (λ hs. slice_get hs c.loop-index.index) (sym c.loop-index.invariant.made.hops ∙ sym c.as_slice.ensures) ∙ c.hop_at-at.ensures.1)
+
+pub part_set-requires-clause-may : goal.part_set-requires-clause-may
+part_set-requires-clause-may g c =
     let plane = c.args.site.now.plane.now in
     let q = c.args.site.now.position in
     let f = hop_set (fib_of plane (router_of q)) in
     let hops = hops_at plane q in
-    let hop = c.hop_at-hop.result in
+    let hop = c.hop_at-at.result.hop in
     let k = c.loop-index.index in
-    let at : slice_get hops k ≡ Some hop = ap (λ hs. slice_get hs k) (sym c.loop-index.invariant.made.hops ∙ sym c.as_slice.ensures) ∙ c.hop_at-hop.ensures in
+    let at : slice_get hops k ≡ Some hop = ap (λ hs. slice_get hs k) (sym c.loop-index.invariant.made.hops ∙ sym c.as_slice.ensures) ∙ c.hop_at-at.ensures.1 in
     let left = without f (forwarded plane q) (take k hops) in
-    subst (λ r. HasNodes c.args.nodes.now.may (parts (hop_set (fib_of plane r) hop))) (sym c.router.ensures)
     (piece c.args.nodes.now.may (minus left (f hop)) (f hop) (minus-second left (f hop)) (without_may f (forwarded plane q) hops k hop at c.args.nodes.now.may c.requires.may))
 
 pub minus-requires-clause-may : goal.minus-requires-clause-may
@@ -38,13 +42,13 @@ minus-requires-clause-may g c =
     let q = c.args.site.now.position in
     let f = hop_set (fib_of plane (router_of q)) in
     let hops = hops_at plane q in
-    let hop = c.hop_at-hop.result in
+    let hop = c.hop_at-at.result.hop in
     let k = c.loop-index.index in
-    let at : slice_get hops k ≡ Some hop = ap (λ hs. slice_get hs k) (sym c.loop-index.invariant.made.hops ∙ sym c.as_slice.ensures) ∙ c.hop_at-hop.ensures in
+    let at : slice_get hops k ≡ Some hop = ap (λ hs. slice_get hs k) (sym c.loop-index.invariant.made.hops ∙ sym c.as_slice.ensures) ∙ c.hop_at-at.ensures.1 in
     let left = without f (forwarded plane q) (take k hops) in
-    may_minus c.args.nodes.now c.over_set.new.work c.loop-index.set.index c.in_ok-over.over.index left (f hop)
-    (c.over_set.ensures.keeps c.loop-index.set.index (tree left) c.loop-index.invariant.known)
-    (subst (λ r. SeatKnows c.over_set.new.work c.in_ok-over.over.index (tree (hop_set (fib_of plane r) hop))) c.router.ensures c.in_ok-over.ensures.set)
+    may_minus c.args.nodes.now c.part_set.new.work c.loop-index.set.index c.in_ok-over.over.index left (f hop)
+    (c.part_set.ensures.keeps c.loop-index.set.index (tree left) c.loop-index.invariant.known)
+    c.in_ok-over.ensures.set
     (without_may f (forwarded plane q) hops k hop at c.args.nodes.now.may c.requires.may)
 
 pub loop-index-preserved : goal.loop-index-preserved
@@ -53,15 +57,15 @@ loop-index-preserved g c =
     let q = c.args.site.now.position in
     let f = hop_set (fib_of plane (router_of q)) in
     let hops = hops_at plane q in
-    let hop = c.hop_at-hop.result in
+    let hop = c.hop_at-at.result.hop in
     let k = c.loop-index.index in
-    let at : slice_get hops k ≡ Some hop = ap (λ hs. slice_get hs k) (sym c.loop-index.invariant.made.hops ∙ sym c.as_slice.ensures) ∙ c.hop_at-hop.ensures in
+    let at : slice_get hops k ≡ Some hop = ap (λ hs. slice_get hs k) (sym c.loop-index.invariant.made.hops ∙ sym c.as_slice.ensures) ∙ c.hop_at-at.ensures.1 in
     let left = without f (forwarded plane q) (take k hops) in
-    let made = subst (λ r. IsMade c.args.nodes.now c.over_set.new.work plane r c.over_set.new.made) c.router.ensures c.in_ok-over.ensures.made in
+    let made = c.in_ok-over.ensures.made in
     record {
-      made = made_kept c.args.nodes.now plane (router_of q) c.over_set.new.made c.over_set.new.work c.minus.new.self made c.minus.ensures.seat c.minus.ensures.keeps;
-      keeps = λ r t known. c.minus.ensures.keeps r t (c.over_set.ensures.keeps r t (c.loop-index.invariant.keeps r t known));
+      made = made_kept c.args.nodes.now plane q c.part_set.new.made c.part_set.new.work c.minus.new.self made c.minus.ensures.seat c.minus.ensures.keeps;
+      keeps = λ r t known. c.minus.ensures.keeps r t (c.part_set.ensures.keeps r t (c.loop-index.invariant.keeps r t known));
       known = subst (λ r. SeatKnows c.minus.new.self c.in_ok-set-2.set.index (tree r)) (sym (without_next f (forwarded plane q) hops k hop at))
-          (c.in_ok-set-2.ensures.minus (tree left) (tree (f hop)) (c.over_set.ensures.keeps c.loop-index.set.index (tree left) c.loop-index.invariant.known)
-          (subst (λ r. SeatKnows c.over_set.new.work c.in_ok-over.over.index (tree (hop_set (fib_of plane r) hop))) c.router.ensures c.in_ok-over.ensures.set));
+          (c.in_ok-set-2.ensures.minus (tree left) (tree (f hop)) (c.part_set.ensures.keeps c.loop-index.set.index (tree left) c.loop-index.invariant.known)
+          c.in_ok-over.ensures.set);
     }

@@ -11,7 +11,7 @@ use Rattle.rc_edges.proofs.endings.over_hops_set.Given as goal
 
 abbrev pub invariant-loop-index : goal.invariant-loop-index
 invariant-loop-index g l = record {
-  made : IsMade l.nodes l.work l.site.plane.now (router_of l.site.position) l.made;
+  made : IsMade l.nodes l.work l.site.plane.now l.site.position l.made;
   keeps : Keeps l.fn.work l.work;
   known : SeatKnows l.work l.set.index (tree (union (flat_map (ends_over l.site.plane.now l.site.position l.kind) (take l.index (hops_at l.site.plane.now l.site.position)))));
 }

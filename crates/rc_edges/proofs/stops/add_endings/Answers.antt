@@ -1,8 +1,7 @@
 use Rattle.std.proofs.Common.{◌++◌, ap, sym, ◌∙◌, subst, append_assoc, take}
 use Rattle.rc_edges.proofs.AskedLaws.{asked-more}
-use Rattle.rc_edges.specs.Given.{AreFlows, real}
 use Rattle.rc_edges.specs.Query.{all_kinds}
-use Rattle.rc_edges.specs.Stops.{asked, asked_of}
+use Rattle.rc_edges.specs.Stops.{AreKnown, asked, asked_of}
 use Rattle.rc_edges.proofs.stops.add_endings.Goals as goal
 
 pub loop-index-preserved : goal.loop-index-preserved
@@ -11,11 +10,11 @@ loop-index-preserved g c =
     let q = c.args.site.now.position in
     let i = c.loop-index.invariant in
     let kind = c.kind_at-kind.result in
-    let before = asked_of plane q c.args.ends c.args.from (take c.loop-index.index all_kinds) in
+    let before = asked_of plane q c.args.ends (take c.loop-index.index all_kinds) in
     record {
       made = c.in_ok-add_ending.ensures.made;
       keeps = λ r t k. c.in_ok-add_ending.ensures.keeps r t (i.keeps r t k);
-      flows = λ done are. subst (λ ps. AreFlows c.add_ending.new.work c.add_ending.new.flows (real ps))
-          (append_assoc done before (asked plane q c.args.ends c.args.from kind) ∙ ap (λ ps. done ++ ps) (sym (asked-more plane q c.args.ends c.args.from all_kinds c.loop-index.index kind c.kind_at-kind.ensures)))
-          (c.in_ok-add_ending.ensures.flows (done ++ before) (i.flows done are));
+      stops = λ done are. subst (AreKnown c.add_ending.new.work c.add_ending.new.stops.items)
+          (append_assoc done before (asked plane q c.args.ends kind) ∙ ap (λ ts. done ++ ts) (sym (asked-more plane q c.args.ends all_kinds c.loop-index.index kind c.kind_at-kind.ensures)))
+          (c.in_ok-add_ending.ensures.stops (done ++ before) (i.stops done are));
     }

@@ -1,0 +1,48 @@
+-- The hops of a table, and the parts of a hop that were made.
+use Rattle.std.specs.Prelude.{◌≡◌, ℕ, ◌-◌, ◌<◌, List, [], ◌∷◌, Option, Some, None, slice_get, unwrap_or}
+use Rattle.rc_edges.specs.declared.parts.Part.{Part}
+use Rattle.rc_edges.specs.declared.parts.Part.TheVariants.{Over, LetOut, Taken, Subnets}
+use Rattle.rc_edges.specs.declared.router_sets.HopParts.{HopParts}
+use Rattle.rc_fib.specs.declared.entry.Entry.{Entry}
+use Rattle.rc_nodes.specs.declared.words.Ref.{Ref}
+use Rattle.rc_route.specs.declared.route.Hop.{Hop}
+
+-- two lists are of one hop each, and of the same
+pub record IsRepeated (one other : List Hop) : Type 0 where
+  pub hop : Hop
+  pub first : one ≡ hop ∷ []
+  pub second : other ≡ hop ∷ []
+
+-- an entry has these hops
+pub record HasHops (entries : List Entry) (k : ℕ) (hops : List Hop) : Type 0 where
+  pub entry : Entry
+  pub at : slice_get entries k ≡ Some entry
+  pub hops_are : entry.hops ≡ hops
+
+-- an entry gives the one hop that the entry before it gives
+pub record Repeats (entries : List Entry) (k : ℕ) : Type 0 where
+  pub later : 0 < k
+  pub before : List Hop
+  pub here : List Hop
+  pub has_before : HasHops entries (k - 1) before
+  pub has_here : HasHops entries k here
+  pub repeated : IsRepeated before here
+
+abbrev pub no_parts : HopParts
+no_parts = record { over = None; let_out = None; taken = None; subnets = None }
+
+abbrev pub part_in : HopParts → Part → Option Ref
+part_in s Over = s.over
+part_in s LetOut = s.let_out
+part_in s Taken = s.taken
+part_in s Subnets = s.subnets
+
+abbrev pub with_part : HopParts → Part → Ref → HopParts
+with_part s Over r = record s { over = Some r }
+with_part s LetOut r = record s { let_out = Some r }
+with_part s Taken r = record s { taken = Some r }
+with_part s Subnets r = record s { subnets = Some r }
+
+-- those of an index, none where there is no such hop
+abbrev pub parts_of : List HopParts → ℕ → HopParts
+parts_of all k = unwrap_or (slice_get all k) no_parts
