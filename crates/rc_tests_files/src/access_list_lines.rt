@@ -15,48 +15,18 @@ const BAD: Option<LineError> = Some(LineError::Refused(LineRefusal::BadValue));
 
 const UNSUPPORTED: Option<LineError> = Some(LineError::Refused(LineRefusal::Unsupported));
 
-/// The line of an access list that the text is in this block.
-fn line_in(file: &RouterText, block: &OpenBlock, text: &[u8]) -> Option<AccessListLine>
+/// The line of an access list that the text is in this block, and the kind of its list.
+fn line_in(
+    file: &RouterText,
+    block: &OpenBlock,
+    text: &[u8],
+) -> Option<(AccessListKind, AccessListLine)>
     requires { HasLawfulLists file.now }
 {
     let line = Lines::new(text).next()?;
-    match &read_line(
-        &line,
-        Context {
-            block: *block,
-            file,
-        },
-    ) {
-        Ok(Command::AccessListLine { line, .. }) => Some(*line),
-        _ => None,
-    }
-}
-
-/// The number of that line.
-fn sequence_in(file: &RouterText, block: &OpenBlock, text: &[u8]) -> Option<u32>
-    requires { HasLawfulLists file.now }
-{
-    let line = Lines::new(text).next()?;
-    match &read_line(
-        &line,
-        Context {
-            block: *block,
-            file,
-        },
-    ) {
-        Ok(Command::AccessListLine { line, .. }) => Some(line.sequence),
-        _ => None,
-    }
-}
-
-/// The kind of the list to which the text adds a line, where it stands without indent.
-fn kind_in(file: &RouterText, text: &[u8]) -> Option<AccessListKind>
-    requires { HasLawfulLists file.now }
-{
-    let block = OpenBlock::Global;
-    let line = Lines::new(text).next()?;
+    let block = *block;
     match &read_line(&line, Context { block, file }) {
-        Ok(Command::AccessListLine { kind, .. }) => Some(*kind),
+        Ok(Command::AccessListLine { kind, line, .. }) => Some((*kind, *line)),
         _ => None,
     }
 }
@@ -66,14 +36,8 @@ fn refusal_in(file: &RouterText, block: &OpenBlock, text: &[u8]) -> Option<LineE
     requires { HasLawfulLists file.now }
 {
     let line = Lines::new(text).next()?;
-    read_line(
-        &line,
-        Context {
-            block: *block,
-            file,
-        },
-    )
-    .err()
+    let block = *block;
+    read_line(&line, Context { block, file }).err()
 }
 
 fn check_range(rt: &impl Abort, line: &AccessListLine) {
@@ -90,7 +54,7 @@ fn a_line_has_its_tests(rt: HostRuntime) {
     let file = RouterText::new(rt.alloc());
     let text = b"permit tcp any host 10.0.0.1 range 22 telnet log";
     match &line_in(&file, &block, text) {
-        Some(line) => check_range(&rt, line),
+        Some((_, line)) => check_range(&rt, line),
         None => assert!(rt; false, "no line"),
     }
 }
@@ -112,6 +76,17 @@ fn lines_are_refused(rt: HostRuntime) {
     }
 }
 
+fn check_kind(
+    rt: &impl Abort,
+    line: &Option<(AccessListKind, AccessListLine)>,
+    wanted: AccessListKind,
+) {
+    match line {
+        Some((kind, _)) => assert!(rt; *kind == wanted),
+        None => assert!(rt; false, "no line"),
+    }
+}
+
 #[test]
 fn numbers_tell_kinds_of_lists(rt: HostRuntime) {
     let file = RouterText::new(rt.alloc());
@@ -125,7 +100,7 @@ fn numbers_tell_kinds_of_lists(rt: HostRuntime) {
             AccessListKind::Extended,
         ),
     ] {
-        assert!(rt; kind_in(&file, text) == Some(kind), "{text:?}");
+        check_kind(&rt, &line_in(&file, &OpenBlock::Global, text), kind);
     }
 }
 
@@ -154,11 +129,18 @@ ip access-list standard 5
  15 deny 10.0.0.1
 ";
 
+fn check_number(rt: &impl Abort, line: &Option<(AccessListKind, AccessListLine)>, wanted: u32) {
+    match line {
+        Some((_, line)) => assert!(rt; line.sequence == wanted),
+        None => assert!(rt; false, "no line"),
+    }
+}
+
 /// Asserts which number a line gets behind a line 15, and that this number is there already.
 fn check_next(rt: &impl Abort, file: &RouterText, block: &OpenBlock)
     requires { HasLawfulLists file.now }
 {
-    assert!(rt; sequence_in(file, block, b"deny any") == Some(25));
+    check_number(rt, &line_in(file, block, b"deny any"), 25);
     assert!(rt; refusal_in(file, block, b"15 deny any") == BAD);
 }
 
@@ -167,7 +149,7 @@ fn lines_get_numbers(rt: HostRuntime) {
     let list = Name::new(b"5").expect(&rt, "5");
     let block = OpenBlock::AccessList(list, AccessListKind::Standard);
     let empty = RouterText::new(rt.alloc());
-    assert!(rt; sequence_in(&empty, &block, b"deny any") == Some(10));
+    check_number(&rt, &line_in(&empty, &block, b"deny any"), 10);
     match &read_file(rt.alloc(), FIFTEEN) {
         Ok(file) => check_next(&rt, file, &block),
         Err(_) => assert!(rt; false, "refused"),

@@ -1,5 +1,5 @@
 //! Files with a BGP process, and the model that commands of BGP fill.
-use crate::refused_files::{BAD, OUT_OF_PLACE, UNKNOWN, UNSUPPORTED, check_all_refused};
+use crate::refused_files::{BAD, OUT_OF_PLACE, Refused, UNKNOWN, UNSUPPORTED, check_all_refused};
 use rc_base::{Addr, Name, Prefix};
 use rc_config::{BgpLine, BgpProcess, BgpRedistributions, Command, Neighbor, RouterText};
 use rc_grammar::{FileCause, read_file};
@@ -116,62 +116,62 @@ fn a_file_with_a_process(rt: HostRuntime) {
     }
 }
 
-#[test]
-fn files_with_a_process_are_refused(rt: HostRuntime) {
-    let files: [(&[u8], u64, FileCause); 8] = [
-        (b"hostname X\nrouter bgp 1\nrouter bgp 2\n", 3, UNSUPPORTED),
-        (
-            b"hostname X\nrouter bgp 1\n redistribute static tag 5\n",
-            3,
-            UNSUPPORTED,
-        ),
-        (b"hostname X\nrouter bgp 0\n", 2, BAD),
-        (b"hostname X\nrouter bgp 1\n network 224.0.0.1\n", 3, BAD),
-        (
-            b"hostname X\nrouter bgp 1\n neighbor 10.0.0.2\n",
-            3,
-            UNSUPPORTED,
-        ),
-        (
-            b"hostname X\nrouter bgp 1\n!\n neighbor R2 remote-as 2\n",
-            4,
-            BAD,
-        ),
-        (b"hostname X\nrouter bgp 1\n nothing\n", 3, UNKNOWN),
-        (
-            b"hostname X\nrouter bgp 1\n exit-address-family\n",
-            3,
-            UNSUPPORTED,
-        ),
-    ];
-    check_all_refused(&rt, rt.alloc(), &files);
-}
+/// Lines of a process.
+const IN_A_PROCESS: [Refused; 8] = [
+    (b"hostname X\nrouter bgp 1\nrouter bgp 2\n", 3, UNSUPPORTED),
+    (
+        b"hostname X\nrouter bgp 1\n redistribute static tag 5\n",
+        3,
+        UNSUPPORTED,
+    ),
+    (b"hostname X\nrouter bgp 0\n", 2, BAD),
+    (b"hostname X\nrouter bgp 1\n network 224.0.0.1\n", 3, BAD),
+    (
+        b"hostname X\nrouter bgp 1\n neighbor 10.0.0.2\n",
+        3,
+        UNSUPPORTED,
+    ),
+    (
+        b"hostname X\nrouter bgp 1\n!\n neighbor R2 remote-as 2\n",
+        4,
+        BAD,
+    ),
+    (b"hostname X\nrouter bgp 1\n nothing\n", 3, UNKNOWN),
+    (
+        b"hostname X\nrouter bgp 1\n exit-address-family\n",
+        3,
+        UNSUPPORTED,
+    ),
+];
+
+/// Lines of BGP in other blocks, and of other blocks in one of BGP.
+const ELSEWHERE: [Refused; 4] = [
+    (
+        b"hostname X\nneighbor 10.0.0.2 remote-as 2\n",
+        2,
+        OUT_OF_PLACE,
+    ),
+    (
+        b"hostname X\ninterface Serial0\n bgp router-id 1.1.1.1\n",
+        3,
+        OUT_OF_PLACE,
+    ),
+    (
+        b"hostname X\nrouter bgp 1\n ip address 10.0.0.1 255.0.0.0\n",
+        3,
+        OUT_OF_PLACE,
+    ),
+    (
+        b"hostname X\nrouter ospf 1\n neighbor 10.0.0.2 remote-as 2\n",
+        3,
+        UNSUPPORTED,
+    ),
+];
 
 #[test]
-fn lines_of_bgp_in_other_blocks_are_refused(rt: HostRuntime) {
-    let files: [(&[u8], u64, FileCause); 4] = [
-        (
-            b"hostname X\nneighbor 10.0.0.2 remote-as 2\n",
-            2,
-            OUT_OF_PLACE,
-        ),
-        (
-            b"hostname X\ninterface Serial0\n bgp router-id 1.1.1.1\n",
-            3,
-            OUT_OF_PLACE,
-        ),
-        (
-            b"hostname X\nrouter bgp 1\n ip address 10.0.0.1 255.0.0.0\n",
-            3,
-            OUT_OF_PLACE,
-        ),
-        (
-            b"hostname X\nrouter ospf 1\n neighbor 10.0.0.2 remote-as 2\n",
-            3,
-            UNSUPPORTED,
-        ),
-    ];
-    check_all_refused(&rt, rt.alloc(), &files);
+fn files_with_a_process_are_refused(rt: HostRuntime) {
+    check_all_refused(&rt, rt.alloc(), &IN_A_PROCESS);
+    check_all_refused(&rt, rt.alloc(), &ELSEWHERE);
 }
 
 #[test]

@@ -1,6 +1,6 @@
 //! Whole files: blocks, banners, long lines and static routes.
 use crate::refused_files::{
-    BAD, OUT_OF_PLACE, UNKNOWN, UNSUPPORTED, check_all_refused, check_refused,
+    BAD, OUT_OF_PLACE, Refused, UNKNOWN, UNSUPPORTED, check_all_refused, check_refused,
 };
 use rc_base::Name;
 use rc_config::{Interface, RouterText, StaticRoute};
@@ -76,41 +76,56 @@ fn a_running_configuration(rt: HostRuntime) {
     }
 }
 
-#[test]
-fn the_least_line_is_refused(rt: HostRuntime) {
-    let files = [
-        (b"".as_slice(), 0, FileCause::NoHostName),
-        (b"frobnicate\nhostname X\nfrobnicate", 1, UNKNOWN),
-        (b"hostname X\nhostname X", 2, BAD),
-        (b"hostname X\n shutdown", 2, OUT_OF_PLACE),
-        (b"interface Serial0\n!\n\n ip nat inside", 4, UNSUPPORTED),
-        (
-            b"interface Serial0\nip cef\n shutdown\n!",
-            0,
-            FileCause::NoHostName,
-        ),
-        (b"interface Serial0\nhostname X\n shutdown", 3, OUT_OF_PLACE),
-    ];
-    check_all_refused(&rt, rt.alloc(), &files);
-}
+/// The least line is the one that is told.
+const LINES: [Refused; 7] = [
+    (b"", 0, FileCause::NoHostName),
+    (b"frobnicate\nhostname X\nfrobnicate", 1, UNKNOWN),
+    (b"hostname X\nhostname X", 2, BAD),
+    (b"hostname X\n shutdown", 2, OUT_OF_PLACE),
+    (b"interface Serial0\n!\n\n ip nat inside", 4, UNSUPPORTED),
+    (
+        b"interface Serial0\nip cef\n shutdown\n!",
+        0,
+        FileCause::NoHostName,
+    ),
+    (b"interface Serial0\nhostname X\n shutdown", 3, OUT_OF_PLACE),
+];
+
+/// Lines of a banner are passed over.
+const BANNERS: [Refused; 4] = [
+    (b"banner motd\n", 1, BAD),
+    (
+        b"hostname X\nbanner motd #\nfrobnicate",
+        2,
+        FileCause::OpenBanner,
+    ),
+    (b"banner motd #\nfrobnicate\n#\n", 0, FileCause::NoHostName),
+    (
+        b"interface Serial0\nbanner exec xax\n shutdown",
+        3,
+        OUT_OF_PLACE,
+    ),
+];
+
+/// Lines about routes.
+const ROUTES_REFUSED: [Refused; 2] = [
+    (
+        b"interface Serial0\nip route 10.1.0.0 255.255.0.0 Null0\n shutdown",
+        3,
+        OUT_OF_PLACE,
+    ),
+    (
+        b"hostname X\nip route 10.1.0.0 255.255.0.0 Null0 track 1",
+        2,
+        UNSUPPORTED,
+    ),
+];
 
 #[test]
-fn lines_of_a_banner_are_passed_over(rt: HostRuntime) {
-    let files = [
-        (b"banner motd\n".as_slice(), 1, BAD),
-        (
-            b"hostname X\nbanner motd #\nfrobnicate",
-            2,
-            FileCause::OpenBanner,
-        ),
-        (b"banner motd #\nfrobnicate\n#\n", 0, FileCause::NoHostName),
-        (
-            b"interface Serial0\nbanner exec xax\n shutdown",
-            3,
-            OUT_OF_PLACE,
-        ),
-    ];
-    check_all_refused(&rt, rt.alloc(), &files);
+fn the_least_line_is_refused(rt: HostRuntime) {
+    check_all_refused(&rt, rt.alloc(), &LINES);
+    check_all_refused(&rt, rt.alloc(), &BANNERS);
+    check_all_refused(&rt, rt.alloc(), &ROUTES_REFUSED);
 }
 
 /// A front, and then a piece so many times.
@@ -179,17 +194,4 @@ fn a_file_keeps_its_static_routes(rt: HostRuntime) {
         }
         Err(_) => assert!(rt; false, "refused"),
     }
-    let files = [
-        (
-            b"interface Serial0\nip route 10.1.0.0 255.255.0.0 Null0\n shutdown".as_slice(),
-            3,
-            OUT_OF_PLACE,
-        ),
-        (
-            b"hostname X\nip route 10.1.0.0 255.255.0.0 Null0 track 1",
-            2,
-            UNSUPPORTED,
-        ),
-    ];
-    check_all_refused(&rt, rt.alloc(), &files);
 }

@@ -1,5 +1,5 @@
 //! Whole files with access groups and access lists.
-use crate::refused_files::{BAD, OUT_OF_PLACE, UNKNOWN, UNSUPPORTED, check_all_refused};
+use crate::refused_files::{BAD, OUT_OF_PLACE, Refused, UNKNOWN, UNSUPPORTED, check_all_refused};
 use rc_base::Name;
 use rc_config::{AccessList, Interface, Named};
 use rc_grammar::read_file;
@@ -69,32 +69,34 @@ fn lines_get_their_numbers(rt: HostRuntime) {
     }
 }
 
+/// Lines of lists.
+const REFUSED: [Refused; 7] = [
+    (
+        b"access-list 100 permit tcp any any established",
+        1,
+        UNSUPPORTED,
+    ),
+    (b"access-list established permit any", 1, UNSUPPORTED),
+    (
+        b"ip access-list standard 5\naccess-list 100 permit ip any any\nip access-list extended 5",
+        3,
+        BAD,
+    ),
+    (
+        b"ip access-list standard 5\n 2147483647 permit any\n deny any",
+        3,
+        BAD,
+    ),
+    (b"access-list 5 remark x\n permit any", 2, OUT_OF_PLACE),
+    (b"ip access-list standard 5\n 10", 2, UNKNOWN),
+    (
+        b"interface Serial0\n access-list 5 permit any",
+        2,
+        OUT_OF_PLACE,
+    ),
+];
+
 #[test]
 fn lines_of_lists_are_refused(rt: HostRuntime) {
-    let files = [
-        (
-            b"access-list 100 permit tcp any any established".as_slice(),
-            1,
-            UNSUPPORTED,
-        ),
-        (b"access-list established permit any", 1, UNSUPPORTED),
-        (
-            b"ip access-list standard 5\naccess-list 100 permit ip any any\nip access-list extended 5",
-            3,
-            BAD,
-        ),
-        (
-            b"ip access-list standard 5\n 2147483647 permit any\n deny any",
-            3,
-            BAD,
-        ),
-        (b"access-list 5 remark x\n permit any", 2, OUT_OF_PLACE),
-        (b"ip access-list standard 5\n 10", 2, UNKNOWN),
-        (
-            b"interface Serial0\n access-list 5 permit any",
-            2,
-            OUT_OF_PLACE,
-        ),
-    ];
-    check_all_refused(&rt, rt.alloc(), &files);
+    check_all_refused(&rt, rt.alloc(), &REFUSED);
 }

@@ -1,5 +1,5 @@
 //! Whole files with prefix lists, community lists and route maps.
-use crate::refused_files::{BAD, OUT_OF_PLACE, UNKNOWN, UNSUPPORTED, check_all_refused};
+use crate::refused_files::{BAD, OUT_OF_PLACE, Refused, UNKNOWN, UNSUPPORTED, check_all_refused};
 use rc_base::{Communities, Items, Name, Origin};
 use rc_config::{
     Action, CommunityChange, CommunityList, MapEntry, Mention, MetricType, Named, PrefixList,
@@ -170,94 +170,88 @@ fn route_maps_of_a_file(rt: HostRuntime) {
     }
 }
 
-#[test]
-fn lines_of_lists_are_refused(rt: HostRuntime) {
-    let files = [
-        (
-            b"ip prefix-list P seq 5 permit 10.0.0.0/8\nip prefix-list P seq 5 deny 11.0.0.0/8".as_slice(),
-            2,
-            BAD,
-        ),
-        (b"ip prefix-list P permit 10.0.0.0/8 le 8", 1, BAD),
-        (
-            b"ip prefix-list P permit 10.0.0.0/8\n permit any",
-            2,
-            OUT_OF_PLACE,
-        ),
-        (
-            b"ip prefix-list P description x\n permit any",
-            0,
-            FileCause::NoHostName,
-        ),
-        (b"ip community-list 7 permit 5\n frobnicate", 2, UNKNOWN),
-        (b"ip community-list 100 permit 5", 1, BAD),
-        (b"ip community-list 7 permit internet", 1, UNSUPPORTED),
-        (b"ip community-list expanded 100 permit 5", 1, UNSUPPORTED),
-        (
-            b"interface Serial0\n ip prefix-list P permit 10.0.0.0/8",
-            2,
-            OUT_OF_PLACE,
-        ),
-    ];
-    check_all_refused(&rt, rt.alloc(), &files);
-}
+/// Lines of lists.
+const OF_LISTS: [Refused; 9] = [
+    (
+        b"ip prefix-list P seq 5 permit 10.0.0.0/8\nip prefix-list P seq 5 deny 11.0.0.0/8",
+        2,
+        BAD,
+    ),
+    (b"ip prefix-list P permit 10.0.0.0/8 le 8", 1, BAD),
+    (
+        b"ip prefix-list P permit 10.0.0.0/8\n permit any",
+        2,
+        OUT_OF_PLACE,
+    ),
+    (
+        b"ip prefix-list P description x\n permit any",
+        0,
+        FileCause::NoHostName,
+    ),
+    (b"ip community-list 7 permit 5\n frobnicate", 2, UNKNOWN),
+    (b"ip community-list 100 permit 5", 1, BAD),
+    (b"ip community-list 7 permit internet", 1, UNSUPPORTED),
+    (b"ip community-list expanded 100 permit 5", 1, UNSUPPORTED),
+    (
+        b"interface Serial0\n ip prefix-list P permit 10.0.0.0/8",
+        2,
+        OUT_OF_PLACE,
+    ),
+];
+
+/// Lines that open an entry of a map, and lines of one elsewhere.
+const OF_MAPS: [Refused; 8] = [
+    (b"route-map M permit 65536", 1, BAD),
+    (b"route-map M\n match ip address 5", 1, BAD),
+    (b"interface Serial0\n match ip address 5", 2, OUT_OF_PLACE),
+    (b"interface Serial0\nset weight 5", 2, OUT_OF_PLACE),
+    (b"route-map M permit 1\n shutdown", 2, OUT_OF_PLACE),
+    (
+        b"route-map M permit 1\nhostname X\n set weight 5",
+        3,
+        OUT_OF_PLACE,
+    ),
+    (
+        b"route-map M permit 1\nip cef\n set weight x",
+        0,
+        FileCause::NoHostName,
+    ),
+    (b"route-map M permit 1\n set weight 5 5", 2, BAD),
+];
+
+/// Lines below an entry.
+const IN_MAPS: [Refused; 10] = [
+    (b"route-map M permit 1\n continue 2", 2, UNSUPPORTED),
+    (
+        b"route-map M permit 1\n match interface Serial0",
+        2,
+        UNSUPPORTED,
+    ),
+    (
+        b"route-map M permit 1\n match community C exact-match",
+        2,
+        UNSUPPORTED,
+    ),
+    (
+        b"route-map M permit 1\n match ip address prefix-list",
+        2,
+        BAD,
+    ),
+    (b"route-map M permit 1\n set origin egp", 2, UNSUPPORTED),
+    (b"route-map M permit 1\n set origin x", 2, BAD),
+    (b"route-map M permit 1\n set metric-type x", 2, UNSUPPORTED),
+    (b"route-map M permit 1\n set community additive", 2, BAD),
+    (b"route-map M permit 1\n set community none", 2, UNSUPPORTED),
+    (
+        b"route-map M permit 1\n set as-path prepend last-as 2",
+        2,
+        UNSUPPORTED,
+    ),
+];
 
 #[test]
-fn lines_of_maps_are_refused(rt: HostRuntime) {
-    let files = [
-        (b"route-map M permit 65536".as_slice(), 1, BAD),
-        (b"route-map M\n match ip address 5", 1, BAD),
-        (b"interface Serial0\n match ip address 5", 2, OUT_OF_PLACE),
-        (b"interface Serial0\nset weight 5", 2, OUT_OF_PLACE),
-        (b"route-map M permit 1\n shutdown", 2, OUT_OF_PLACE),
-        (
-            b"route-map M permit 1\nhostname X\n set weight 5",
-            3,
-            OUT_OF_PLACE,
-        ),
-        (
-            b"route-map M permit 1\nip cef\n set weight x",
-            0,
-            FileCause::NoHostName,
-        ),
-        (b"route-map M permit 1\n set weight 5 5", 2, BAD),
-    ];
-    check_all_refused(&rt, rt.alloc(), &files);
-}
-
-#[test]
-fn lines_in_maps_are_refused(rt: HostRuntime) {
-    let files = [
-        (
-            b"route-map M permit 1\n continue 2".as_slice(),
-            2,
-            UNSUPPORTED,
-        ),
-        (
-            b"route-map M permit 1\n match interface Serial0",
-            2,
-            UNSUPPORTED,
-        ),
-        (
-            b"route-map M permit 1\n match community C exact-match",
-            2,
-            UNSUPPORTED,
-        ),
-        (
-            b"route-map M permit 1\n match ip address prefix-list",
-            2,
-            BAD,
-        ),
-        (b"route-map M permit 1\n set origin egp", 2, UNSUPPORTED),
-        (b"route-map M permit 1\n set origin x", 2, BAD),
-        (b"route-map M permit 1\n set metric-type x", 2, UNSUPPORTED),
-        (b"route-map M permit 1\n set community additive", 2, BAD),
-        (b"route-map M permit 1\n set community none", 2, UNSUPPORTED),
-        (
-            b"route-map M permit 1\n set as-path prepend last-as 2",
-            2,
-            UNSUPPORTED,
-        ),
-    ];
-    check_all_refused(&rt, rt.alloc(), &files);
+fn files_with_policies_are_refused(rt: HostRuntime) {
+    check_all_refused(&rt, rt.alloc(), &OF_LISTS);
+    check_all_refused(&rt, rt.alloc(), &OF_MAPS);
+    check_all_refused(&rt, rt.alloc(), &IN_MAPS);
 }

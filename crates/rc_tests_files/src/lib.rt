@@ -1,4 +1,4 @@
-//! Tests of whole files, and of the grammars of access lists, of policies, of OSPF and of BGP.
+//! Tests of whole files, also of those of made networks, and of the grammars of access lists, of policies, of OSPF and of BGP.
 //!
 //! They stand above the crates that they try, since a crate with tests of its own is proved twice, and beside rc_tests_text, so
 //! that two processors share them. Expected values come from outside: the standards, router handbooks, and lines as they
@@ -15,6 +15,8 @@ mod files;
 mod files_with_lists;
 #[cfg(test)]
 mod files_with_policies;
+#[cfg(test)]
+mod made_files;
 #[cfg(test)]
 mod ospf_files;
 #[cfg(test)]

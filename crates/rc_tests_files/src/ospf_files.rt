@@ -1,5 +1,5 @@
 //! Files with an OSPF process, and the model that commands of OSPF fill.
-use crate::refused_files::{BAD, OUT_OF_PLACE, UNKNOWN, UNSUPPORTED, check_all_refused};
+use crate::refused_files::{BAD, OUT_OF_PLACE, Refused, UNKNOWN, UNSUPPORTED, check_all_refused};
 use rc_base::{Addr, Name};
 use rc_config::{
     Command, Interface, NetworkType, OspfArea, OspfLine, OspfProcess, OspfSettings,
@@ -103,56 +103,56 @@ fn a_file_with_a_process(rt: HostRuntime) {
     }
 }
 
-#[test]
-fn files_with_a_process_are_refused(rt: HostRuntime) {
-    let files: [(&[u8], u64, FileCause); 6] = [
-        (
-            b"hostname X\nrouter ospf 1\nrouter ospf 2\n",
-            3,
-            UNSUPPORTED,
-        ),
-        (
-            b"hostname X\nrouter ospf 1\n network 10.0.0.0 0.0.0.255\n",
-            3,
-            BAD,
-        ),
-        (
-            b"hostname X\nrouter ospf 1\n redistribute rip\n",
-            3,
-            UNSUPPORTED,
-        ),
-        (b"hostname X\nrouter ospf 1\n area 0 stub\n", 3, BAD),
-        (b"hostname X\nrouter ospf 1\n nothing\n", 3, UNKNOWN),
-        (
-            b"hostname X\nrouter ospf 1\n!\n ip ospf cost 5\n",
-            4,
-            OUT_OF_PLACE,
-        ),
-    ];
-    check_all_refused(&rt, rt.alloc(), &files);
-}
+/// Lines of a process.
+const IN_A_PROCESS: [Refused; 6] = [
+    (
+        b"hostname X\nrouter ospf 1\nrouter ospf 2\n",
+        3,
+        UNSUPPORTED,
+    ),
+    (
+        b"hostname X\nrouter ospf 1\n network 10.0.0.0 0.0.0.255\n",
+        3,
+        BAD,
+    ),
+    (
+        b"hostname X\nrouter ospf 1\n redistribute rip\n",
+        3,
+        UNSUPPORTED,
+    ),
+    (b"hostname X\nrouter ospf 1\n area 0 stub\n", 3, BAD),
+    (b"hostname X\nrouter ospf 1\n nothing\n", 3, UNKNOWN),
+    (
+        b"hostname X\nrouter ospf 1\n!\n ip ospf cost 5\n",
+        4,
+        OUT_OF_PLACE,
+    ),
+];
+
+/// Lines of OSPF in other blocks, and wrong ones of an interface.
+const ELSEWHERE: [Refused; 4] = [
+    (
+        b"hostname X\n network 10.0.0.0 0.0.0.255 area 0\n",
+        2,
+        OUT_OF_PLACE,
+    ),
+    (
+        b"hostname X\ninterface Serial0\n passive-interface default\n",
+        3,
+        OUT_OF_PLACE,
+    ),
+    (
+        b"hostname X\ninterface Serial0\n ip ospf network non-broadcast\n",
+        3,
+        UNSUPPORTED,
+    ),
+    (b"hostname X\ninterface Serial0\n ip ospf cost 0\n", 3, BAD),
+];
 
 #[test]
-fn lines_of_ospf_in_other_blocks_are_refused(rt: HostRuntime) {
-    let files: [(&[u8], u64, FileCause); 4] = [
-        (
-            b"hostname X\n network 10.0.0.0 0.0.0.255 area 0\n",
-            2,
-            OUT_OF_PLACE,
-        ),
-        (
-            b"hostname X\ninterface Serial0\n passive-interface default\n",
-            3,
-            OUT_OF_PLACE,
-        ),
-        (
-            b"hostname X\ninterface Serial0\n ip ospf network non-broadcast\n",
-            3,
-            UNSUPPORTED,
-        ),
-        (b"hostname X\ninterface Serial0\n ip ospf cost 0\n", 3, BAD),
-    ];
-    check_all_refused(&rt, rt.alloc(), &files);
+fn files_with_a_process_are_refused(rt: HostRuntime) {
+    check_all_refused(&rt, rt.alloc(), &IN_A_PROCESS);
+    check_all_refused(&rt, rt.alloc(), &ELSEWHERE);
 }
 
 #[test]

@@ -59,42 +59,82 @@ fn check_all(rt: &impl Abort, alloc: Global, lines: &[(&[u8], Option<LineRefusal
     }
 }
 
-#[test]
-fn openings_in_a_process(rt: HostRuntime) {
-    let lines = [
-        (b"log-adjacency-changes".as_slice(), None),
-        (b"timers throttle spf 5 10 20", None),
-        (b"ispf", None),
-        (b"nsf", None),
-        (b"bfd all-interfaces", None),
-        (b"max-lsa 100", None),
-        (b"no auto-cost", None),
-        (b"exit", None),
-        (b"area", UNSUPPORTED),
-        (b"summary-address", UNSUPPORTED),
-        (b"distance", UNSUPPORTED),
-        (b"maximum-paths 4", UNSUPPORTED),
-        (b"distribute-list", UNSUPPORTED),
-        (b"neighbor 10.0.0.1", UNSUPPORTED),
-        (b"max-metric router-lsa", UNSUPPORTED),
-        (b"default-metric 20", UNSUPPORTED),
-    ];
-    check_all(&rt, rt.alloc(), &lines);
-}
+/// A line, and how it is refused.
+type Row = (&'static [u8], Option<LineRefusal>);
+
+/// Openings that are passed over, and those whose meaning isn't modelled.
+const OPENINGS: [Row; 16] = [
+    (b"log-adjacency-changes", None),
+    (b"timers throttle spf 5 10 20", None),
+    (b"ispf", None),
+    (b"nsf", None),
+    (b"bfd all-interfaces", None),
+    (b"max-lsa 100", None),
+    (b"no auto-cost", None),
+    (b"exit", None),
+    (b"area", UNSUPPORTED),
+    (b"summary-address", UNSUPPORTED),
+    (b"distance", UNSUPPORTED),
+    (b"maximum-paths 4", UNSUPPORTED),
+    (b"distribute-list", UNSUPPORTED),
+    (b"neighbor 10.0.0.1", UNSUPPORTED),
+    (b"max-metric router-lsa", UNSUPPORTED),
+    (b"default-metric 20", UNSUPPORTED),
+];
+
+/// Forms with a part that isn't modelled.
+const NOT_MODELLED: [Row; 8] = [
+    (b"area 1 range 10.0.0.0 255.0.0.0", UNSUPPORTED),
+    (b"area 1 nssa", UNSUPPORTED),
+    (b"redistribute bgp 65000 tag 5", UNSUPPORTED),
+    (b"redistribute rip", UNSUPPORTED),
+    (b"redistribute static tag 5", UNSUPPORTED),
+    (b"redistribute connected nssa-only", UNSUPPORTED),
+    (b"default-information", UNSUPPORTED),
+    (b"default-information originate route-map M", UNSUPPORTED),
+];
+
+/// Wrong values.
+const WRONG_VALUES: [Row; 16] = [
+    (b"router-id 1", BAD),
+    (b"router-id", BAD),
+    (b"network 10.0.0.0 area 0", BAD),
+    (b"network 10.0.0.0 0.0.0.255", BAD),
+    (b"network 10.0.0.0 0.0.0.255 zone 0", BAD),
+    (b"network 10.0.0.0 0.0.0.255 area 4294967296", BAD),
+    (b"network 10.0.0.0 0.0.0.255 area 0.0.0", BAD),
+    (b"network 10.0.0.0 0.0.0.255 area 0 1", BAD),
+    (b"network 10.0.0.0 0.0.0.256 area 0", BAD),
+    (b"auto-cost reference-bandwidth 0", BAD),
+    (b"auto-cost reference-bandwidth 4294968", BAD),
+    (b"auto-cost reference-bandwidth", BAD),
+    (b"area 0 stub", BAD),
+    (b"redistribute static metric 16777215", BAD),
+    (b"redistribute static subnets subnets", BAD),
+    (b"default-information originate metric 5 always", BAD),
+];
+
+/// Lines that aren't forms of the block, and wrong ones about passive interfaces.
+const REFUSED: [Row; 11] = [
+    (b"passive-interface", BAD),
+    (b"passive-interface 0/0", BAD),
+    (b"passive-interface Gi0/0 Gi0/1", BAD),
+    (b"passive-interface default x", BAD),
+    (b"no passive-interface", BAD),
+    (b"auto-cost", UNKNOWN),
+    (b"ip routing", UNKNOWN),
+    (b"ip address 10.0.0.1 255.0.0.0", OUT_OF_PLACE),
+    (b"ip ospf cost 5", OUT_OF_PLACE),
+    (b"shutdown", OUT_OF_PLACE),
+    (b"hostname x", OUT_OF_PLACE),
+];
 
 #[test]
-fn forms_of_a_process_that_are_not_modelled(rt: HostRuntime) {
-    let lines = [
-        (b"area 1 range 10.0.0.0 255.0.0.0".as_slice(), UNSUPPORTED),
-        (b"area 1 nssa", UNSUPPORTED),
-        (b"redistribute bgp 65000 tag 5", UNSUPPORTED),
-        (b"redistribute rip", UNSUPPORTED),
-        (b"redistribute static tag 5", UNSUPPORTED),
-        (b"redistribute connected nssa-only", UNSUPPORTED),
-        (b"default-information", UNSUPPORTED),
-        (b"default-information originate route-map M", UNSUPPORTED),
-    ];
-    check_all(&rt, rt.alloc(), &lines);
+fn lines_of_a_process_are_refused(rt: HostRuntime) {
+    check_all(&rt, rt.alloc(), &OPENINGS);
+    check_all(&rt, rt.alloc(), &NOT_MODELLED);
+    check_all(&rt, rt.alloc(), &WRONG_VALUES);
+    check_all(&rt, rt.alloc(), &REFUSED);
 }
 
 fn check_second(rt: &impl Abort, file: &RouterText) {
@@ -136,119 +176,60 @@ fn openings_of_a_process_are_refused(rt: HostRuntime) {
     }
 }
 
-#[test]
-fn stub_areas(rt: HostRuntime) {
-    let file = RouterText::new(rt.alloc());
-    for (text, area, no_summary) in [
-        (b" area 1 stub".as_slice(), 1, false),
-        (b" area 0.0.1.0 stub no-summary", 256, true),
-    ] {
-        let wanted = OspfLine::Stub(StubArea { area, no_summary });
-        assert!(rt; line_in(&file, text) == Some(wanted), "{text:?}");
+/// A `redistribute` line of static routes.
+fn redistributed(metric: Option<u32>, metric_type: Option<MetricType>) -> OspfLine {
+    OspfLine::Redistribute(Redistribution {
+        source: RedistributedSource::Static,
+        metric,
+        metric_type,
+        subnets: true,
+        route_map: None,
+    })
+}
+
+fn network(address: u32, wildcard: u32, area: u32) -> OspfLine {
+    OspfLine::Network(OspfNetwork {
+        address: Addr::new(address),
+        wildcard: Addr::new(wildcard),
+        area,
+    })
+}
+
+fn default_information(always: bool, metric: Option<u32>) -> OspfLine {
+    OspfLine::DefaultInformation(DefaultInformation {
+        always,
+        metric,
+        metric_type: None,
+    })
+}
+
+fn stub(area: u32, no_summary: bool) -> OspfLine {
+    OspfLine::Stub(StubArea { area, no_summary })
+}
+
+/// Asserts of each row what the text says in the block of a process.
+fn check_said(rt: &impl Abort, alloc: Global, rows: &[(&[u8], OspfLine)]) {
+    let file = RouterText::new(alloc);
+    for (text, wanted) in rows {
+        assert!(rt; line_in(&file, text) == Some(*wanted), "{text:?}");
     }
 }
 
-/// The `redistribute` line of static routes that the text is.
-fn redistribution_in(file: &RouterText, text: &[u8]) -> Option<Redistribution> {
-    match line_in(file, text) {
-        Some(OspfLine::Redistribute(line)) => Some(line),
-        _ => None,
-    }
-}
-
 #[test]
-fn redistributions(rt: HostRuntime) {
-    let file = RouterText::new(rt.alloc());
-    for (text, metric, metric_type) in [
-        (b" redistribute static subnets".as_slice(), None, None),
+fn lines_of_a_process(rt: HostRuntime) {
+    let rows = [
+        (b" area 1 stub".as_slice(), stub(1, false)),
+        (b" area 0.0.1.0 stub no-summary", stub(256, true)),
         (
-            b" redistribute static metric 16777214 subnets metric-type 1",
-            Some(16_777_214),
-            Some(MetricType::Type1),
+            b" default-information originate",
+            default_information(false, None),
         ),
-        (
-            b" redistribute static metric-type 1 metric 16777214 subnets",
-            Some(16_777_214),
-            Some(MetricType::Type1),
-        ),
-    ] {
-        let wanted = Redistribution {
-            source: RedistributedSource::Static,
-            metric,
-            metric_type,
-            subnets: true,
-            route_map: None,
-        };
-        assert!(rt; redistribution_in(&file, text) == Some(wanted), "{text:?}");
-    }
-}
-
-#[test]
-fn defaults_that_are_sent(rt: HostRuntime) {
-    let file = RouterText::new(rt.alloc());
-    for (text, always, metric) in [
-        (b" default-information originate".as_slice(), false, None),
         (
             b" default-information originate always metric 7",
-            true,
-            Some(7),
-        ),
-    ] {
-        let wanted = OspfLine::DefaultInformation(DefaultInformation {
-            always,
-            metric,
-            metric_type: None,
-        });
-        assert!(rt; line_in(&file, text) == Some(wanted), "{text:?}");
-    }
-}
-
-/// The `network` line that the text is.
-fn network_in(file: &RouterText, text: &[u8]) -> Option<OspfNetwork> {
-    match line_in(file, text) {
-        Some(OspfLine::Network(network)) => Some(network),
-        _ => None,
-    }
-}
-
-#[test]
-fn networks_have_a_wildcard_and_an_area(rt: HostRuntime) {
-    let file = RouterText::new(rt.alloc());
-    for (text, address, wildcard, area) in [
-        (
-            b" network 10.0.0.9 0.0.0.255 area 0".as_slice(),
-            0x0a00_0009,
-            0xff,
-            0,
+            default_information(true, Some(7)),
         ),
         (
-            b" network 10.0.0.0 0.255.0.255 area 0.0.0.3",
-            0x0a00_0000,
-            0x00ff_00ff,
-            3,
-        ),
-        (
-            b" network 0.0.0.0 255.255.255.255 area 4294967295",
-            0,
-            u32::MAX,
-            u32::MAX,
-        ),
-    ] {
-        let wanted = OspfNetwork {
-            address: Addr::new(address),
-            wildcard: Addr::new(wildcard),
-            area,
-        };
-        assert!(rt; network_in(&file, text) == Some(wanted), "{text:?}");
-    }
-}
-
-#[test]
-fn values_of_a_process(rt: HostRuntime) {
-    let file = RouterText::new(rt.alloc());
-    for (text, line) in [
-        (
-            b" router-id 1.1.1.1".as_slice(),
+            b" router-id 1.1.1.1",
             OspfLine::RouterId(Addr::new(0x0101_0101)),
         ),
         (
@@ -259,9 +240,40 @@ fn values_of_a_process(rt: HostRuntime) {
             b" auto-cost reference-bandwidth 4294967",
             OspfLine::ReferenceBandwidth(4_294_967),
         ),
-    ] {
-        assert!(rt; line_in(&file, text) == Some(line), "{text:?}");
-    }
+        (b" passive-interface default", OspfLine::PassiveDefault),
+    ];
+    check_said(&rt, rt.alloc(), &rows);
+}
+
+#[test]
+fn redistributions_and_networks(rt: HostRuntime) {
+    let rows = [
+        (
+            b" redistribute static subnets".as_slice(),
+            redistributed(None, None),
+        ),
+        (
+            b" redistribute static metric 16777214 subnets metric-type 1",
+            redistributed(Some(16_777_214), Some(MetricType::Type1)),
+        ),
+        (
+            b" redistribute static metric-type 1 metric 16777214 subnets",
+            redistributed(Some(16_777_214), Some(MetricType::Type1)),
+        ),
+        (
+            b" network 10.0.0.9 0.0.0.255 area 0",
+            network(0x0a00_0009, 0xff, 0),
+        ),
+        (
+            b" network 10.0.0.0 0.255.0.255 area 0.0.0.3",
+            network(0x0a00_0000, 0x00ff_00ff, 3),
+        ),
+        (
+            b" network 0.0.0.0 255.255.255.255 area 4294967295",
+            network(0, u32::MAX, u32::MAX),
+        ),
+    ];
+    check_said(&rt, rt.alloc(), &rows);
 }
 
 #[test]
@@ -269,8 +281,6 @@ fn interfaces_are_passive(rt: HostRuntime) {
     let file = RouterText::new(rt.alloc());
     let interface = Name::new(b"Gi0/0").expect(&rt, "Gi0/0");
     let default = Name::new(b"default").expect(&rt, "default");
-    let all = line_in(&file, b" passive-interface default");
-    assert!(rt; all == Some(OspfLine::PassiveDefault));
     for (text, interface, passive) in [
         (b" passive-interface Gi0/0".as_slice(), interface, true),
         (b" no passive-interface Gi0/0", interface, false),
@@ -279,47 +289,6 @@ fn interfaces_are_passive(rt: HostRuntime) {
         let wanted = OspfLine::Passive { interface, passive };
         assert!(rt; line_in(&file, text) == Some(wanted), "{text:?}");
     }
-}
-
-#[test]
-fn wrong_values_of_a_process(rt: HostRuntime) {
-    let lines = [
-        (b"router-id 1".as_slice(), BAD),
-        (b"router-id", BAD),
-        (b"network 10.0.0.0 area 0", BAD),
-        (b"network 10.0.0.0 0.0.0.255", BAD),
-        (b"network 10.0.0.0 0.0.0.255 zone 0", BAD),
-        (b"network 10.0.0.0 0.0.0.255 area 4294967296", BAD),
-        (b"network 10.0.0.0 0.0.0.255 area 0.0.0", BAD),
-        (b"network 10.0.0.0 0.0.0.255 area 0 1", BAD),
-        (b"network 10.0.0.0 0.0.0.256 area 0", BAD),
-        (b"auto-cost reference-bandwidth 0", BAD),
-        (b"auto-cost reference-bandwidth 4294968", BAD),
-        (b"auto-cost reference-bandwidth", BAD),
-        (b"area 0 stub", BAD),
-        (b"redistribute static metric 16777215", BAD),
-        (b"redistribute static subnets subnets", BAD),
-        (b"default-information originate metric 5 always", BAD),
-    ];
-    check_all(&rt, rt.alloc(), &lines);
-}
-
-#[test]
-fn lines_of_a_process_are_refused(rt: HostRuntime) {
-    let lines = [
-        (b"passive-interface".as_slice(), BAD),
-        (b"passive-interface 0/0", BAD),
-        (b"passive-interface Gi0/0 Gi0/1", BAD),
-        (b"passive-interface default x", BAD),
-        (b"no passive-interface", BAD),
-        (b"auto-cost", UNKNOWN),
-        (b"ip routing", UNKNOWN),
-        (b"ip address 10.0.0.1 255.0.0.0", OUT_OF_PLACE),
-        (b"ip ospf cost 5", OUT_OF_PLACE),
-        (b"shutdown", OUT_OF_PLACE),
-        (b"hostname x", OUT_OF_PLACE),
-    ];
-    check_all(&rt, rt.alloc(), &lines);
 }
 
 #[test]

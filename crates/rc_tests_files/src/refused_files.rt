@@ -23,8 +23,11 @@ pub fn check_refused(rt: &impl Abort, alloc: Global, text: &[u8], line: u64, cau
     assert!(rt; refusal_of(alloc, text) == Some(wanted), "line {line}");
 }
 
+/// A file, the line at which it is refused, and why.
+pub type Refused = (&'static [u8], u64, FileCause);
+
 /// Asserts of each file at which line it is refused, and why.
-pub fn check_all_refused(rt: &impl Abort, alloc: Global, files: &[(&[u8], u64, FileCause)]) {
+pub fn check_all_refused(rt: &impl Abort, alloc: Global, files: &[Refused]) {
     for (text, line, cause) in files {
         check_refused(rt, alloc, text, *line, *cause);
     }

@@ -1,5 +1,5 @@
 //! Access lists, from files to walks.
-use crate::answers::{BASE, Host, check_all_refused, check_line};
+use crate::answers::{BASE, Host, NamedText, check_all_refused, check_answers, check_line};
 use rc_analyse::Status;
 use std::test::Fail;
 
@@ -10,22 +10,20 @@ const HOME: Place = ("R1", "R1 self");
 
 const LAN: Place = ("R1:GigabitEthernet0/0", "R1 GigabitEthernet0/0");
 
-/// Asserts how the walk of a packet ends at the place where it starts, at a router with these lines behind those of its first
-/// interface.
-fn check_end(
-    rt: &impl Host,
-    lines: &str,
-    place: Place,
-    packet: &str,
-    ending: &str,
-) -> Result<(), Fail> {
-    let alloc = rt.alloc();
-    let (from, at) = place;
-    let config = format!(in alloc; "{BASE}{lines}")?;
-    let line = format!(in alloc; "trace d --from {from} {packet}")?;
-    let text = format!(in alloc; "outcome fixed 2\nat {at}\nend {ending}\n")?;
-    let files = [("a.cfg", config.as_str())];
-    check_line(rt, &files, line.as_str(), Status::Done, text.as_str())
+/// Lines behind those of the first router's interface, a place, a packet, and how its walk ends there.
+type Row = (&'static str, Place, &'static str, &'static str);
+
+/// Asserts of each row how the walk of the packet ends at the place where it starts.
+fn check_ends(rt: &impl Host, rows: &[Row]) -> Result<(), Fail> {
+    for (lines, place, packet, ending) in rows {
+        let (from, at) = place;
+        let config = format!(in rt.alloc(); "{BASE}{lines}")?;
+        let line = format!(in rt.alloc(); "trace d --from {from} {packet}")?;
+        let text = format!(in rt.alloc(); "outcome fixed 2\nat {at}\nend {ending}\n")?;
+        let files = [("a.cfg", config.as_str())];
+        check_line(rt, &files, line.as_str(), Status::Done, text.as_str())?;
+    }
+    Ok(())
 }
 
 /// A wildcard that leaves the third octet out.
@@ -39,47 +37,63 @@ const EXTENDED: &str =
 const AS_WRITTEN: &str =
     " ip access-group 101 in\naccess-list 101 permit udp any gt 1023 host 10.0.0.9 range 53 54\naccess-list 101 deny udp any any log\naccess-list 101 permit ip any any\n";
 
+/// Lines, a packet from the LAN, and how its walk ends.
+const DECIDED: [Row; 10] = [
+    (STANDARD, LAN, "--dst 10.0.0.9 --src 10.0.7.1", "delivered"),
+    (STANDARD, LAN, "--dst 10.0.0.9 --src 10.0.7.2", "denied-in"),
+    (
+        EXTENDED,
+        LAN,
+        "--dst 10.0.0.9 --proto 6 --dport 23",
+        "denied-in",
+    ),
+    (
+        EXTENDED,
+        LAN,
+        "--dst 10.0.0.9 --proto 6 --sport 23",
+        "delivered",
+    ),
+    (
+        EXTENDED,
+        LAN,
+        "--dst 10.0.0.9 --proto 17 --dport 23",
+        "delivered",
+    ),
+    (
+        AS_WRITTEN,
+        LAN,
+        "--dst 10.0.0.9 --proto 17 --sport 1024 --dport 54",
+        "delivered",
+    ),
+    (
+        AS_WRITTEN,
+        LAN,
+        "--dst 10.0.0.9 --proto 17 --sport 1023 --dport 54",
+        "denied-in",
+    ),
+    (
+        AS_WRITTEN,
+        LAN,
+        "--dst 10.0.0.9 --proto 17 --sport 1024 --dport 55",
+        "denied-in",
+    ),
+    (
+        AS_WRITTEN,
+        LAN,
+        "--dst 10.0.0.8 --proto 17 --sport 1024 --dport 54",
+        "denied-in",
+    ),
+    (
+        AS_WRITTEN,
+        LAN,
+        "--dst 10.0.0.8 --proto 6 --sport 1024 --dport 54",
+        "delivered",
+    ),
+];
+
 #[test]
 fn the_first_line_that_matches_decides(rt: HostRuntime) -> Result<(), Fail> {
-    for (lines, packet, ending) in [
-        (STANDARD, "--dst 10.0.0.9 --src 10.0.7.1", "delivered"),
-        (STANDARD, "--dst 10.0.0.9 --src 10.0.7.2", "denied-in"),
-        (EXTENDED, "--dst 10.0.0.9 --proto 6 --dport 23", "denied-in"),
-        (EXTENDED, "--dst 10.0.0.9 --proto 6 --sport 23", "delivered"),
-        (
-            EXTENDED,
-            "--dst 10.0.0.9 --proto 17 --dport 23",
-            "delivered",
-        ),
-        (
-            AS_WRITTEN,
-            "--dst 10.0.0.9 --proto 17 --sport 1024 --dport 54",
-            "delivered",
-        ),
-        (
-            AS_WRITTEN,
-            "--dst 10.0.0.9 --proto 17 --sport 1023 --dport 54",
-            "denied-in",
-        ),
-        (
-            AS_WRITTEN,
-            "--dst 10.0.0.9 --proto 17 --sport 1024 --dport 55",
-            "denied-in",
-        ),
-        (
-            AS_WRITTEN,
-            "--dst 10.0.0.8 --proto 17 --sport 1024 --dport 54",
-            "denied-in",
-        ),
-        (
-            AS_WRITTEN,
-            "--dst 10.0.0.8 --proto 6 --sport 1024 --dport 54",
-            "delivered",
-        ),
-    ] {
-        check_end(&rt, lines, LAN, packet, ending)?;
-    }
-    Ok(())
+    check_ends(&rt, &DECIDED)
 }
 
 const CLOSED_IN: &str = " ip access-group 1 in\naccess-list 1 deny any\n";
@@ -94,45 +108,76 @@ const CLOSED_DOWN: &str =
 const CLOSED_LOOPBACK: &str =
     "interface Loopback0\n ip address 1.1.1.1 255.255.255.0\n ip access-group 1 out\naccess-list 1 deny any\nip route 9.0.0.0 255.0.0.0 Null0\n";
 
+/// The interface that is down.
+const DOWN: Place = ("R1:Serial0/0", "R1 Serial0/0");
+
+/// Lists inbound and outbound, and packets that come in, go out, or begin at the router itself.
+const ASKED: [Row; 15] = [
+    (CLOSED_OUT, HOME, "--dst 10.0.0.9", "delivered"),
+    (CLOSED_OUT, LAN, "--dst 10.0.0.9", "denied-out"),
+    (CLOSED_OUT, LAN, "--dst 10.0.0.1", "accepted"),
+    (CLOSED_OUT, LAN, "--dst 8.8.8.8", "no-route"),
+    (CLOSED_IN, HOME, "--dst 10.0.0.9", "delivered"),
+    (CLOSED_IN, HOME, "--dst 10.0.0.1", "accepted"),
+    (CLOSED_IN, LAN, "--dst 10.0.0.9", "denied-in"),
+    (CLOSED_IN, LAN, "--dst 10.0.0.1", "denied-in"),
+    (CLOSED_IN, LAN, "--dst 8.8.8.8", "denied-in"),
+    (CLOSED_DOWN, DOWN, "--dst 10.0.0.9", "denied-in"),
+    (CLOSED_DOWN, LAN, "--dst 10.0.0.9", "delivered"),
+    (CLOSED_LOOPBACK, LAN, "--dst 1.1.1.9", "denied-out"),
+    (CLOSED_LOOPBACK, HOME, "--dst 1.1.1.9", "unreachable"),
+    (CLOSED_LOOPBACK, LAN, "--dst 1.1.1.1", "accepted"),
+    (CLOSED_LOOPBACK, LAN, "--dst 9.9.9.9", "null-routed"),
+];
+
 #[test]
 fn where_lists_are_asked(rt: HostRuntime) -> Result<(), Fail> {
-    let down = ("R1:Serial0/0", "R1 Serial0/0");
-    for (lines, place, destination, ending) in [
-        (CLOSED_OUT, HOME, "10.0.0.9", "delivered"),
-        (CLOSED_OUT, LAN, "10.0.0.9", "denied-out"),
-        (CLOSED_OUT, LAN, "10.0.0.1", "accepted"),
-        (CLOSED_OUT, LAN, "8.8.8.8", "no-route"),
-        (CLOSED_IN, HOME, "10.0.0.9", "delivered"),
-        (CLOSED_IN, HOME, "10.0.0.1", "accepted"),
-        (CLOSED_IN, LAN, "10.0.0.9", "denied-in"),
-        (CLOSED_IN, LAN, "10.0.0.1", "denied-in"),
-        (CLOSED_IN, LAN, "8.8.8.8", "denied-in"),
-        (CLOSED_DOWN, down, "10.0.0.9", "denied-in"),
-        (CLOSED_DOWN, LAN, "10.0.0.9", "delivered"),
-        (CLOSED_LOOPBACK, LAN, "1.1.1.9", "denied-out"),
-        (CLOSED_LOOPBACK, HOME, "1.1.1.9", "unreachable"),
-        (CLOSED_LOOPBACK, LAN, "1.1.1.1", "accepted"),
-        (CLOSED_LOOPBACK, LAN, "9.9.9.9", "null-routed"),
-    ] {
-        let packet = format!(in rt.alloc(); "--dst {destination}")?;
-        check_end(&rt, lines, place, packet.as_str(), ending)?;
-    }
-    Ok(())
+    check_ends(&rt, &ASKED)
 }
+
+/// Groups whose list has no line, isn't there, or is replaced; and a list whose number is written with zeros in front.
+const WITHOUT_LINES: [Row; 6] = [
+    (
+        " ip access-group 7 in\n",
+        LAN,
+        "--dst 10.0.0.9",
+        "delivered",
+    ),
+    (
+        " ip access-group 7 in\naccess-list 7 remark nothing yet\n",
+        LAN,
+        "--dst 10.0.0.9",
+        "delivered",
+    ),
+    (
+        " ip access-group E in\nip access-list standard E\n",
+        LAN,
+        "--dst 10.0.0.9",
+        "delivered",
+    ),
+    (
+        " ip access-group E in\nip access-list extended E\n remark nothing yet\n",
+        LAN,
+        "--dst 10.0.0.9",
+        "delivered",
+    ),
+    (
+        " ip access-group 7 in\n ip access-group 8 in\naccess-list 7 deny any\n",
+        LAN,
+        "--dst 10.0.0.9",
+        "delivered",
+    ),
+    (
+        " ip access-group 005 in\naccess-list 6 deny any\naccess-list 5 permit any\n",
+        LAN,
+        "--dst 10.0.0.9",
+        "delivered",
+    ),
+];
 
 #[test]
 fn groups_without_lines(rt: HostRuntime) -> Result<(), Fail> {
-    for lines in [
-        " ip access-group 7 in\n",
-        " ip access-group 7 in\naccess-list 7 remark nothing yet\n",
-        " ip access-group E in\nip access-list standard E\n",
-        " ip access-group E in\nip access-list extended E\n remark nothing yet\n",
-        " ip access-group 7 in\n ip access-group 8 in\naccess-list 7 deny any\n",
-        " ip access-group 005 in\naccess-list 6 deny any\naccess-list 5 permit any\n",
-    ] {
-        check_end(&rt, lines, LAN, "--dst 10.0.0.9", "delivered")?;
-    }
-    Ok(())
+    check_ends(&rt, &WITHOUT_LINES)
 }
 
 /// The first of two routers.
@@ -155,40 +200,47 @@ ip access-list standard FROM
 access-list 101 permit tcp any any eq www
 ";
 
+/// Words, and the walk to the second router or behind it.
+const BY_BOTH: [NamedText<'static>; 3] = [
+    (
+        "trace d --from R1 --dst 10.0.2.9 --src 10.0.7.1 --proto 6 --dport 80",
+        "outcome fixed 3\nat R1 self\nat R2 GigabitEthernet0/0\nend delivered\n",
+    ),
+    (
+        "trace d --from R1 --dst 10.0.2.9 --src 10.0.7.1 --proto 6 --dport 81",
+        "outcome fixed 3\nat R1 self\nat R2 GigabitEthernet0/0\nend denied-out\n",
+    ),
+    (
+        "trace d --from R1 --dst 10.0.2.9 --src 10.0.7.2 --proto 6 --dport 80",
+        "outcome fixed 3\nat R1 self\nat R2 GigabitEthernet0/0\nend denied-in\n",
+    ),
+];
+
 #[test]
 fn lists_of_the_next_router(rt: HostRuntime) -> Result<(), Fail> {
-    let files = &[("a.cfg", OUTER), ("b.cfg", INNER)];
-    for (packet, ending) in [
-        ("--src 10.0.7.1 --proto 6 --dport 80", "delivered"),
-        ("--src 10.0.7.1 --proto 6 --dport 81", "denied-out"),
-        ("--src 10.0.7.2 --proto 6 --dport 80", "denied-in"),
-    ] {
-        let line = format!(in rt.alloc(); "trace d --from R1 --dst 10.0.2.9 {packet}")?;
-        let text = format!(in rt.alloc();
-            "outcome fixed 3\nat R1 self\nat R2 GigabitEthernet0/0\nend {ending}\n"
-        )?;
-        check_line(&rt, files, line.as_str(), Status::Done, text.as_str())?;
-    }
-    Ok(())
+    let files = [("a.cfg", OUTER), ("b.cfg", INNER)];
+    check_answers(&rt, &files, &BY_BOTH)
 }
+
+/// Lines that are refused, and how.
+const REFUSED: [NamedText<'static>; 5] = [
+    ("access-list 101 permit tcp any any established\n", "4: 2"),
+    ("access-list 101 permit udp any any range 5 4\n", "4: 3"),
+    (
+        "ip access-list extended E\n 10 permit ip any any\n 10 deny ip any any\n",
+        "6: 3",
+    ),
+    (
+        "ip access-list standard E\nip access-list extended E\n",
+        "5: 3",
+    ),
+    (
+        "ip access-list extended 5\naccess-list 5 permit any\n",
+        "5: 3",
+    ),
+];
 
 #[test]
 fn lists_that_are_refused(rt: HostRuntime) -> Result<(), Fail> {
-    let rows = [
-        ("access-list 101 permit tcp any any established\n", "4: 2"),
-        ("access-list 101 permit udp any any range 5 4\n", "4: 3"),
-        (
-            "ip access-list extended E\n 10 permit ip any any\n 10 deny ip any any\n",
-            "6: 3",
-        ),
-        (
-            "ip access-list standard E\nip access-list extended E\n",
-            "5: 3",
-        ),
-        (
-            "ip access-list extended 5\naccess-list 5 permit any\n",
-            "5: 3",
-        ),
-    ];
-    check_all_refused(&rt, &rows)
+    check_all_refused(&rt, &REFUSED)
 }

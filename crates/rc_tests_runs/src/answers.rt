@@ -1,6 +1,6 @@
 //! What a run says over files in memory.
 use rc_analyse::{Status, run};
-use rc_outside::{MemFile, MemFolder, MemSink, OpenGate};
+use rc_outside::{Gate, MemFile, MemFolder, MemSink, OpenGate};
 use std::alloc::{AllocError, AllocGlobal, Global};
 use std::process::Abort;
 use std::test::Fail;
@@ -69,6 +69,17 @@ pub fn sink_of(alloc: Global, room: usize) -> Result<MemSink, AllocError> {
     MemSink::new(alloc, room, Vec::new(alloc))
 }
 
+/// How a run over the folder ends. By a function of its own, so that what `run` promises is read once.
+pub fn ran<R: Host, G: Gate>(
+    rt: &R,
+    words: &[&str],
+    folder: &mut MemFolder,
+    out: &mut MemSink,
+    gate: &G,
+) -> Status {
+    run(rt, words, folder, out, gate)
+}
+
 /// Asserts how a run over the folder ends, and what is written.
 pub fn check_run(
     rt: &impl Host,
@@ -78,7 +89,7 @@ pub fn check_run(
     text: &str,
 ) -> Result<(), Fail> {
     let mut out = sink_of(rt.alloc(), 4096)?;
-    let found = run(rt, words, folder, &mut out, &OpenGate);
+    let found = ran(rt, words, folder, &mut out, &OpenGate);
     assert!(rt; found == status, "{text}");
     assert!(rt; out.bytes.as_slice() == text.as_bytes(), "{text}");
     Ok(())
@@ -108,6 +119,29 @@ pub fn check_line(
     check_words(rt, files, words.as_slice(), status, text)
 }
 
+/// The words of a line, how they end, and what they say.
+pub type Said = (&'static str, Status, &'static str);
+
+/// Asserts what each line says over files.
+pub fn check_said(rt: &impl Host, files: &[NamedText<'_>], rows: &[Said]) -> Result<(), Fail> {
+    for (line, status, text) in rows {
+        check_line(rt, files, line, *status, text)?;
+    }
+    Ok(())
+}
+
+/// Asserts what each line answers over files.
+pub fn check_answers(
+    rt: &impl Host,
+    files: &[NamedText<'_>],
+    rows: &[NamedText<'_>],
+) -> Result<(), Fail> {
+    for (line, text) in rows {
+        check_line(rt, files, line, Status::Done, text)?;
+    }
+    Ok(())
+}
+
 /// Asserts the routes of all routers, or how they are refused.
 pub fn check_files(
     rt: &impl Host,
@@ -123,17 +157,17 @@ pub fn check_done(rt: &impl Host, text: &str, answer: &str) -> Result<(), Fail> 
     check_files(rt, &[("a.cfg", text)], Status::Done, answer)
 }
 
-/// Asserts how one file is refused.
-pub fn check_refused(rt: &impl Host, text: &str, answer: &str) -> Result<(), Fail> {
-    check_files(rt, &[("a.cfg", text)], Status::Refused, answer)
-}
-
 /// Asserts of each row how the file of these lines, behind those of the first router, is refused: its line and its number.
 pub fn check_all_refused(rt: &impl Host, rows: &[NamedText<'_>]) -> Result<(), Fail> {
     for (lines, answer) in rows {
         let config = format!(in rt.alloc(); "{BASE}{lines}")?;
         let text = format!(in rt.alloc(); "refused a.cfg:{answer}\n")?;
-        check_refused(rt, config.as_str(), text.as_str())?;
+        check_files(
+            rt,
+            &[("a.cfg", config.as_str())],
+            Status::Refused,
+            text.as_str(),
+        )?;
     }
     Ok(())
 }

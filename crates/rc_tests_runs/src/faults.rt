@@ -1,32 +1,32 @@
 //! Folders and sinks that fail.
-use crate::answers::{BASE, CONNECTED, Host, check_run, folder_of, sink_of};
-use rc_analyse::{Status, run};
+use crate::answers::{BASE, CONNECTED, Host, folder_of, ran, sink_of};
+use rc_analyse::Status;
 use rc_outside::{MemSink, OpenGate};
 use std::alloc::{AllocError, Global};
 use std::test::Fail;
 
-#[test]
-fn a_folder_that_fails(rt: HostRuntime) -> Result<(), Fail> {
-    for (call, status, text) in [
-        (1, Status::Source, ""),
-        (2, Status::Source, ""),
-        (3, Status::Done, CONNECTED),
-    ] {
-        let mut folder = folder_of(rt.alloc(), &[("a.cfg", BASE)], &[call])?;
-        check_run(&rt, &["routes", "d"], &mut folder, status, text)?;
-    }
+/// Asserts how a run ends over a folder whose call of this number fails, what is written, and in how many calls.
+fn check_call(
+    rt: &impl Host,
+    call: u64,
+    status: Status,
+    text: &str,
+    calls: u64,
+) -> Result<(), Fail> {
+    let mut folder = folder_of(rt.alloc(), &[("a.cfg", BASE)], &[call])?;
+    let mut out = sink_of(rt.alloc(), 4096)?;
+    let found = ran(rt, &["routes", "d"], &mut folder, &mut out, &OpenGate);
+    assert!(rt; found == status, "call {call}");
+    assert!(rt; out.bytes.as_slice() == text.as_bytes(), "call {call}");
+    assert!(rt; out.calls == calls, "call {call}");
     Ok(())
 }
 
 #[test]
-fn nothing_is_put_where_a_folder_fails(rt: HostRuntime) -> Result<(), Fail> {
-    for call in [1, 2] {
-        let mut folder = folder_of(rt.alloc(), &[("a.cfg", BASE)], &[call])?;
-        let mut out = sink_of(rt.alloc(), 4096)?;
-        let _ = run(&rt, &["routes", "d"], &mut folder, &mut out, &OpenGate);
-        assert!(rt; out.calls == 0, "call {call}");
-    }
-    Ok(())
+fn a_folder_that_fails(rt: HostRuntime) -> Result<(), Fail> {
+    check_call(&rt, 1, Status::Source, "", 0)?;
+    check_call(&rt, 2, Status::Source, "", 0)?;
+    check_call(&rt, 3, Status::Done, CONNECTED, 3)
 }
 
 /// A sink with so much room that takes so many bytes of the call of this number, and fails.
@@ -43,7 +43,7 @@ fn failing_sink(
 /// Asserts what a sink that fails holds, after how many calls.
 fn check_sink(rt: &impl Host, mut out: MemSink, text: &str, calls: u64) -> Result<(), Fail> {
     let mut folder = folder_of(rt.alloc(), &[("a.cfg", BASE)], &[])?;
-    let status = run(rt, &["routes", "d"], &mut folder, &mut out, &OpenGate);
+    let status = ran(rt, &["routes", "d"], &mut folder, &mut out, &OpenGate);
     assert!(rt; status == Status::Sink, "{text}");
     assert!(rt; out.bytes.as_slice() == text.as_bytes(), "{text}");
     assert!(rt; out.calls == calls, "{text}");
@@ -75,7 +75,7 @@ fn a_line_goes_out_in_pieces(rt: HostRuntime) -> Result<(), Fail> {
     let name = long_name(rt.alloc())?;
     let mut folder = folder_of(rt.alloc(), &[(name.as_str(), "")], &[])?;
     let mut out = sink_of(rt.alloc(), 4096)?;
-    let status = run(&rt, &["routes", "d"], &mut folder, &mut out, &OpenGate);
+    let status = ran(&rt, &["routes", "d"], &mut folder, &mut out, &OpenGate);
     assert!(rt; status == Status::Refused);
     assert!(rt; out.calls == 2);
     Ok(())

@@ -1,6 +1,5 @@
 //! Who passes the gate of a run: in each round each worker once, and as many workers as the words say.
-use crate::answers::{BASE, CIRCLE, Host, NamedText, folder_of, sink_of};
-use rc_analyse::run;
+use crate::answers::{BASE, CIRCLE, Host, NamedText, folder_of, ran, sink_of};
 use rc_outside::Gate;
 use std::alloc::Global;
 use std::sync::atomic::{AtomicU32, AtomicU64, Ordering};
@@ -53,7 +52,7 @@ fn check_rounds(
     let gate = counting(workers);
     let mut folder = folder_of(rt.alloc(), files, &[])?;
     let mut out = sink_of(rt.alloc(), 4096)?;
-    let _ = run(rt, words, &mut folder, &mut out, &gate);
+    let _ = ran(rt, words, &mut folder, &mut out, &gate);
     let passes = gate.passes.load(Ordering::SeqCst);
     assert!(rt;
         passes == rounds.saturating_mul(workers),

@@ -9,9 +9,15 @@ mod access_lists;
 #[cfg(test)]
 mod answers;
 #[cfg(test)]
+mod beside;
+#[cfg(test)]
 mod bgp;
 #[cfg(test)]
+mod bgp_policies;
+#[cfg(test)]
 mod endings;
+#[cfg(test)]
+mod examples;
 #[cfg(test)]
 mod externals;
 #[cfg(test)]

@@ -1,5 +1,5 @@
 //! OSPF inside an area: two routers over two links, and what a neighbour's settings change.
-use crate::answers::{Host, check_line};
+use crate::answers::{Host, NamedText, check_answers, check_line};
 use rc_analyse::Status;
 use std::test::Fail;
 
@@ -32,18 +32,18 @@ fn check_beside(rt: &impl Host, rows: &[(&str, &str)]) -> Result<(), Fail> {
     Ok(())
 }
 
+/// Words with other numbers of workers.
+const BY_WORKERS: [NamedText<'static>; 4] = [
+    ("routes d --router R1", OVER_BOTH),
+    ("routes d --router R1 --workers 1", OVER_BOTH),
+    ("routes d --router R1 --workers 2", OVER_BOTH),
+    ("routes d --router R1 --workers 64", OVER_BOTH),
+];
+
 #[test]
 fn equal_costs_by_any_number_of_workers(rt: HostRuntime) -> Result<(), Fail> {
     let files = [("r1.cfg", FIRST), ("r2.cfg", SECOND)];
-    for line in [
-        "routes d --router R1",
-        "routes d --router R1 --workers 1",
-        "routes d --router R1 --workers 2",
-        "routes d --router R1 --workers 64",
-    ] {
-        check_line(&rt, &files, line, Status::Done, OVER_BOTH)?;
-    }
-    Ok(())
+    check_answers(&rt, &files, &BY_WORKERS)
 }
 
 /// A neighbour: of another hello interval on one link; passive there; at a greater cost, which only its own routes know; of

@@ -64,19 +64,30 @@ fn check_last(
 const DEFAULT: &str = "0.0.0.0/0 ospf-ia 110/2 via 10.0.34.3 dev GigabitEthernet0/0\n";
 
 #[test]
-fn routes_over_two_border_routers(rt: HostRuntime) -> Result<(), Fail> {
-    check_last(&rt, ("", ""), "", SUMMARIES)?;
+fn a_walk_over_two_border_routers(rt: HostRuntime) -> Result<(), Fail> {
     let walk =
         "outcome fixed 2\nat R4 self\nat R3 GigabitEthernet0/1\nat R2 GigabitEthernet0/1\nat R1 GigabitEthernet0/0\nend accepted\n";
     check(&rt, ("", ""), "trace d --from R4 --dst 1.1.1.1", walk)
 }
 
+const STUB: &str = " area 2 stub\n";
+
+/// Only the default route is told of.
+const SILENT: &str = " area 2 stub no-summary\n";
+
+/// What the last two routers say of their area, the last one's default route, and its others.
+const STUBS: [((&str, &str), &str, [&str; 2]); 5] = [
+    (("", ""), "", SUMMARIES),
+    ((STUB, STUB), DEFAULT, SUMMARIES),
+    ((SILENT, STUB), DEFAULT, ["", ""]),
+    ((STUB, SILENT), DEFAULT, SUMMARIES),
+    ((STUB, ""), "", ["", ""]),
+];
+
 #[test]
 fn a_stub_area(rt: HostRuntime) -> Result<(), Fail> {
-    let stub = " area 2 stub\n";
-    let silent = " area 2 stub no-summary\n";
-    check_last(&rt, (stub, stub), DEFAULT, SUMMARIES)?;
-    check_last(&rt, (silent, stub), DEFAULT, ["", ""])?;
-    check_last(&rt, (stub, silent), DEFAULT, SUMMARIES)?;
-    check_last(&rt, (stub, ""), "", ["", ""])
+    for (more, default, others) in STUBS {
+        check_last(&rt, more, default, others)?;
+    }
+    Ok(())
 }

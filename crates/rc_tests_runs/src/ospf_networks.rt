@@ -267,20 +267,12 @@ const CHAIN: [&str; 3] = [
     "hostname R3\ninterface GigabitEthernet0/1\n ip address 10.0.23.3 255.255.255.0\ninterface GigabitEthernet0/2\n ip address 10.1.23.3 255.255.255.0\ninterface Loopback0\n ip address 3.3.3.3 255.255.255.255\nrouter ospf 1\n network 0.0.0.0 255.255.255.255 area 0\n",
 ];
 
-#[test]
-fn two_walks_by_one_hop(rt: HostRuntime) -> Result<(), Fail> {
-    let answer =
-        "outcome fixed 2\nrouter R1\n3.3.3.3/32 ospf 110/3 via 10.0.12.2 dev GigabitEthernet0/0\n10.0.12.0/24 connected 0/0 dev GigabitEthernet0/0\n10.0.23.0/24 ospf 110/2 via 10.0.12.2 dev GigabitEthernet0/0\n10.1.23.0/24 ospf 110/2 via 10.0.12.2 dev GigabitEthernet0/0\n";
-    check_three(&rt, CHAIN, "routes d --router R1", answer)
-}
-
-#[test]
-fn a_router_without_a_walk_to_it(rt: HostRuntime) -> Result<(), Fail> {
-    let [first, _, third] = CHAIN;
-    let second = "hostname R2\n";
-    let answer = "outcome fixed 2\nrouter R1\n10.0.12.0/24 connected 0/0 dev GigabitEthernet0/0\n";
-    check_three(&rt, [first, second, third], "routes d --router R1", answer)
-}
+/// That chain without OSPF on the second router.
+const CUT: [&str; 3] = [
+    "hostname R1\ninterface GigabitEthernet0/0\n ip address 10.0.12.1 255.255.255.0\nrouter ospf 1\n network 0.0.0.0 255.255.255.255 area 0\n",
+    "hostname R2\n",
+    "hostname R3\ninterface GigabitEthernet0/1\n ip address 10.0.23.3 255.255.255.0\ninterface GigabitEthernet0/2\n ip address 10.1.23.3 255.255.255.0\ninterface Loopback0\n ip address 3.3.3.3 255.255.255.255\nrouter ospf 1\n network 0.0.0.0 255.255.255.255 area 0\n",
+];
 
 /// A triangle: the direct link of the first and the third router costs 10 there, and 1 here.
 const TRIANGLE: [&str; 3] = [
@@ -289,21 +281,42 @@ const TRIANGLE: [&str; 3] = [
     "hostname R3\ninterface GigabitEthernet0/0\n ip address 10.0.13.3 255.255.255.0\ninterface GigabitEthernet0/1\n ip address 10.0.23.3 255.255.255.0\ninterface Loopback0\n ip address 3.3.3.3 255.255.255.255\nrouter ospf 1\n network 0.0.0.0 255.255.255.255 area 0\n",
 ];
 
-#[test]
-fn the_longer_walk_costs_less(rt: HostRuntime) -> Result<(), Fail> {
-    let answer =
-        "outcome fixed 2\nrouter R1\n3.3.3.3/32 ospf 110/3 via 10.0.12.2 dev GigabitEthernet0/0\n10.0.12.0/24 connected 0/0 dev GigabitEthernet0/0\n10.0.13.0/24 connected 0/0 dev GigabitEthernet0/1\n10.0.23.0/24 ospf 110/2 via 10.0.12.2 dev GigabitEthernet0/0\n";
-    check_three(&rt, TRIANGLE, "routes d --router R1", answer)?;
-    let answer =
-        "outcome fixed 2\nrouter R3\n3.3.3.3/32 connected 0/0 dev Loopback0\n10.0.12.0/24 ospf 110/2 via 10.0.13.1 dev GigabitEthernet0/0 via 10.0.23.2 dev GigabitEthernet0/1\n10.0.13.0/24 connected 0/0 dev GigabitEthernet0/0\n10.0.23.0/24 connected 0/0 dev GigabitEthernet0/1\n";
-    check_three(&rt, TRIANGLE, "routes d --router R3", answer)
-}
+/// Two walks by one hop; a router without a walk to it; a longer walk that costs less, and is as good as the direct link seen from its
+/// other end; and a packet that goes by it.
+const LEAST_WALKS: [([&str; 3], &str, &str); 5] = [
+    (
+        CHAIN,
+        "routes d --router R1",
+        "outcome fixed 2\nrouter R1\n3.3.3.3/32 ospf 110/3 via 10.0.12.2 dev GigabitEthernet0/0\n10.0.12.0/24 connected 0/0 dev GigabitEthernet0/0\n10.0.23.0/24 ospf 110/2 via 10.0.12.2 dev GigabitEthernet0/0\n10.1.23.0/24 ospf 110/2 via 10.0.12.2 dev GigabitEthernet0/0\n",
+    ),
+    (
+        CUT,
+        "routes d --router R1",
+        "outcome fixed 2\nrouter R1\n10.0.12.0/24 connected 0/0 dev GigabitEthernet0/0\n",
+    ),
+    (
+        TRIANGLE,
+        "routes d --router R1",
+        "outcome fixed 2\nrouter R1\n3.3.3.3/32 ospf 110/3 via 10.0.12.2 dev GigabitEthernet0/0\n10.0.12.0/24 connected 0/0 dev GigabitEthernet0/0\n10.0.13.0/24 connected 0/0 dev GigabitEthernet0/1\n10.0.23.0/24 ospf 110/2 via 10.0.12.2 dev GigabitEthernet0/0\n",
+    ),
+    (
+        TRIANGLE,
+        "routes d --router R3",
+        "outcome fixed 2\nrouter R3\n3.3.3.3/32 connected 0/0 dev Loopback0\n10.0.12.0/24 ospf 110/2 via 10.0.13.1 dev GigabitEthernet0/0 via 10.0.23.2 dev GigabitEthernet0/1\n10.0.13.0/24 connected 0/0 dev GigabitEthernet0/0\n10.0.23.0/24 connected 0/0 dev GigabitEthernet0/1\n",
+    ),
+    (
+        TRIANGLE,
+        "trace d --from R1 --dst 3.3.3.3",
+        "outcome fixed 2\nat R1 self\nat R2 GigabitEthernet0/0\nat R3 GigabitEthernet0/1\nend accepted\n",
+    ),
+];
 
 #[test]
-fn a_packet_goes_by_the_longer_walk(rt: HostRuntime) -> Result<(), Fail> {
-    let walk =
-        "outcome fixed 2\nat R1 self\nat R2 GigabitEthernet0/0\nat R3 GigabitEthernet0/1\nend accepted\n";
-    check_three(&rt, TRIANGLE, "trace d --from R1 --dst 3.3.3.3", walk)
+fn least_walks_among_three_routers(rt: HostRuntime) -> Result<(), Fail> {
+    for (texts, line, answer) in LEAST_WALKS {
+        check_three(&rt, texts, line, answer)?;
+    }
+    Ok(())
 }
 
 /// A router in two areas.
@@ -325,14 +338,29 @@ fn check_areas(rt: &impl Host, two: u32, three: u32, route: &str) -> Result<(), 
     check_three(rt, texts, "routes d --router R1", answer.as_str())
 }
 
+/// The costs of a prefix in the first area and in the second one, and the route to it.
+const IN_TWO_AREAS: [(u32, u32, &str); 3] = [
+    (
+        5,
+        9,
+        "172.16.0.0/24 ospf 110/6 via 10.0.12.2 dev GigabitEthernet0/0\n",
+    ),
+    (
+        9,
+        5,
+        "172.16.0.0/24 ospf 110/6 via 10.0.13.3 dev GigabitEthernet0/1\n",
+    ),
+    (
+        5,
+        5,
+        "172.16.0.0/24 ospf 110/6 via 10.0.12.2 dev GigabitEthernet0/0 via 10.0.13.3 dev GigabitEthernet0/1\n",
+    ),
+];
+
 #[test]
 fn one_prefix_in_two_areas(rt: HostRuntime) -> Result<(), Fail> {
-    let route = "172.16.0.0/24 ospf 110/6 via 10.0.12.2 dev GigabitEthernet0/0\n";
-    check_areas(&rt, 5, 9, route)?;
-    let route = "172.16.0.0/24 ospf 110/6 via 10.0.13.3 dev GigabitEthernet0/1\n";
-    check_areas(&rt, 9, 5, route)?;
-    let route =
-        "172.16.0.0/24 ospf 110/6 via 10.0.12.2 dev GigabitEthernet0/0 via 10.0.13.3 dev GigabitEthernet0/1\n";
-    check_areas(&rt, 5, 5, route)?;
+    for (two, three, route) in IN_TWO_AREAS {
+        check_areas(&rt, two, three, route)?;
+    }
     Ok(())
 }

@@ -1,48 +1,70 @@
 //! Which packets get from a place to an ending: cubes, examples, made networks, and the table of nodes, from files to text.
-use crate::answers::{BASE, Host, NamedText, check_line, folder_of, sink_of};
-use rc_analyse::{Status, run};
+use crate::answers::{
+    BASE, Host, NamedText, Said, check_answers, check_line, check_said, folder_of, ran, sink_of,
+};
+use rc_analyse::Status;
 use rc_outside::MeetGate;
 use std::test::Fail;
 
-/// The cubes of the first router's subnet, from its interface.
-const SUBNET: &str = "outcome fixed 2\ncube dst=10.0.0.0&255.255.255.0\n";
+/// What is said of the first router: its subnet, from itself and from its interface; nothing behind it; no such router; one ending; one
+/// ending in too few rounds. A table of fewer nodes than the query's operations have trees may be too small, and one of as many isn't.
+const OF_THE_FIRST: [Said; 12] = [
+    ("reach d --from R1", Status::Done, SUBNET),
+    ("reach d --from R1:GigabitEthernet0/0", Status::Done, SUBNET),
+    (
+        "reach d --from R1 --end exits",
+        Status::Done,
+        "outcome fixed 2\n",
+    ),
+    ("reach d --from R9", Status::NoPlace, "no place R9\n"),
+    (
+        "reach d --from R1 --end accepted",
+        Status::Done,
+        "outcome fixed 2\ncube dst=10.0.0.1&255.255.255.255\n",
+    ),
+    (
+        "reach d --from R1 --end accepted --rounds 1",
+        Status::Limit,
+        "outcome limit 1\n",
+    ),
+    (
+        "reach d --from R1:GigabitEthernet0/0 --nodes 16",
+        Status::Nodes,
+        "",
+    ),
+    (
+        "reach d --from R1:GigabitEthernet0/0 --nodes 20",
+        Status::Nodes,
+        "",
+    ),
+    (
+        "reach d --from R1:GigabitEthernet0/0 --nodes 23",
+        Status::Nodes,
+        "",
+    ),
+    (
+        "reach d --from R1:GigabitEthernet0/0 --nodes 112",
+        Status::Done,
+        SUBNET,
+    ),
+    (
+        "reach d --from R1:GigabitEthernet0/0 --nodes 113",
+        Status::Done,
+        SUBNET,
+    ),
+    (
+        "reach d --from R1:GigabitEthernet0/0 --nodes 200",
+        Status::Done,
+        SUBNET,
+    ),
+];
 
-/// Asserts what words ask of the first router.
-fn check_base(rt: &impl Host, words: &str, status: Status, text: &str) -> Result<(), Fail> {
-    check_line(rt, &[("a.cfg", BASE)], words, status, text)
-}
+/// The cubes of the first router's subnet.
+const SUBNET: &str = "outcome fixed 2\ncube dst=10.0.0.0&255.255.255.0\n";
 
 #[test]
 fn the_subnet_is_reached(rt: HostRuntime) -> Result<(), Fail> {
-    check_base(&rt, "reach d --from R1", Status::Done, SUBNET)?;
-    let entering = "reach d --from R1:GigabitEthernet0/0";
-    check_base(&rt, entering, Status::Done, SUBNET)?;
-    let exits = "reach d --from R1 --end exits";
-    check_base(&rt, exits, Status::Done, "outcome fixed 2\n")?;
-    check_base(&rt, "reach d --from R9", Status::NoPlace, "no place R9\n")
-}
-
-#[test]
-fn one_ending_is_asked_for(rt: HostRuntime) -> Result<(), Fail> {
-    let accepted = "reach d --from R1 --end accepted";
-    let own = "outcome fixed 2\ncube dst=10.0.0.1&255.255.255.255\n";
-    check_base(&rt, accepted, Status::Done, own)?;
-    let few = "reach d --from R1 --end accepted --rounds 1";
-    check_base(&rt, few, Status::Limit, "outcome limit 1\n")
-}
-
-/// A table of fewer nodes than the query's operations have trees may be too small, and one of as many isn't.
-#[test]
-fn a_table_may_be_too_small(rt: HostRuntime) -> Result<(), Fail> {
-    for nodes in [16, 20, 23] {
-        let line = format!(in rt.alloc(); "reach d --from R1:GigabitEthernet0/0 --nodes {nodes}")?;
-        check_base(&rt, line.as_str(), Status::Nodes, "")?;
-    }
-    for nodes in [112, 113, 200] {
-        let line = format!(in rt.alloc(); "reach d --from R1:GigabitEthernet0/0 --nodes {nodes}")?;
-        check_base(&rt, line.as_str(), Status::Done, SUBNET)?;
-    }
-    Ok(())
+    check_said(&rt, &[("a.cfg", BASE)], &OF_THE_FIRST)
 }
 
 /// A router that lets no telnet in.
@@ -102,10 +124,8 @@ interface GigabitEthernet0/1
     ),
 ];
 
-/// An example goes the shortest walk, where the first one loops; and the text is the same for every number of workers.
-#[test]
-fn an_example_and_its_walk(rt: HostRuntime) -> Result<(), Fail> {
-    let text = "outcome fixed 3
+/// An example goes the shortest walk, where the first one loops.
+const EXAMPLE: &str = "outcome fixed 3
 cube dst=9.9.9.0&255.255.255.0
 example dst=9.9.9.0 src=0.0.0.0 proto=0 sport=0 dport=0
 at R1 self
@@ -114,11 +134,18 @@ end delivered
 cube dst=10.0.1.0&255.255.255.0
 cube dst=10.0.2.0&255.255.254.0
 ";
-    for workers in [1, 2, 3, 64] {
-        let line = format!(in rt.alloc(); "reach d --from R1 --examples 1 --workers {workers}")?;
-        check_line(&rt, &HALF_A_LOOP, line.as_str(), Status::Done, text)?;
-    }
-    Ok(())
+
+/// The text is the same for every number of workers.
+const BY_WORKERS: [NamedText<'static>; 4] = [
+    ("reach d --from R1 --examples 1 --workers 1", EXAMPLE),
+    ("reach d --from R1 --examples 1 --workers 2", EXAMPLE),
+    ("reach d --from R1 --examples 1 --workers 3", EXAMPLE),
+    ("reach d --from R1 --examples 1 --workers 64", EXAMPLE),
+];
+
+#[test]
+fn an_example_and_its_walk(rt: HostRuntime) -> Result<(), Fail> {
+    check_answers(&rt, &HALF_A_LOOP, &BY_WORKERS)
 }
 
 /// Two routers with default routes to each other.
@@ -152,7 +179,7 @@ fn check_meets(rt: &impl Host, words: &[&str], phase: u32) -> Result<(), Fail> {
     let gate = MeetGate::new(phase);
     let mut folder = folder_of(rt.alloc(), &IN_CIRCLES, &[])?;
     let mut out = sink_of(rt.alloc(), 4096)?;
-    let status = run(rt, words, &mut folder, &mut out, &gate);
+    let status = ran(rt, words, &mut folder, &mut out, &gate);
     assert!(rt; status == Status::Done);
     assert!(rt; gate.met(), "phase {phase}");
     Ok(())
@@ -163,13 +190,4 @@ fn workers_meet_at_the_gate(rt: HostRuntime) -> Result<(), Fail> {
     check_meets(&rt, &["routes", "d", "--workers", "2"], 1)?;
     let words = ["reach", "d", "--from", "R1", "--workers", "2"];
     check_meets(&rt, &words, 100_001)
-}
-
-#[test]
-fn a_made_network(rt: HostRuntime) -> Result<(), Fail> {
-    let text = "sample 4\noutcome fixed 2\nroutes 36\ncube dst=10.0.0.0&255.255.255.240\n";
-    check_base(&rt, "sample 4", Status::Done, text)?;
-    check_base(&rt, "sample 4 --workers 1 --nodes 2586", Status::Done, text)?;
-    let few = "sample 4 --rounds 1";
-    check_base(&rt, few, Status::Limit, "sample 4\noutcome limit 1\n")
 }

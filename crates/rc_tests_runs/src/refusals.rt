@@ -1,57 +1,73 @@
 //! How folders are refused: the first refusal alone is told, and nothing is read behind it.
 use crate::answers::{
-    BASE, Host, NOT_CONNECTED, check_files, check_refused, check_run, file_in, folder_of, sink_of,
+    BASE, Host, NOT_CONNECTED, NamedText, check_files, check_run, file_in, folder_of, ran, sink_of,
 };
-use rc_analyse::{Status, run};
+use rc_analyse::Status;
 use rc_outside::{MemFolder, OpenGate};
 use std::alloc::{AllocError, Global};
 use std::test::Fail;
 
+/// Folders, and how the first file in byte order that is refused is told.
+const FOLDERS: [(&[NamedText<'static>], &str); 3] = [
+    (&[("b.cfg", BASE), ("a.cfg", BASE)], "refused b.cfg:1: 8\n"),
+    (
+        &[
+            ("B.cfg", "hostname X\nfrobnicate\n"),
+            ("a.cfg", "hostname X\nfrobnicate\n"),
+        ],
+        "refused B.cfg:2: 1\n",
+    ),
+    (
+        &[
+            ("a.cfg", "hostname R2\n"),
+            ("b.cfg", "hostname R2\n"),
+            ("c.cfg", "x\n"),
+        ],
+        "refused c.cfg:1: 1\n",
+    ),
+];
+
 #[test]
 fn the_first_file_is_refused(rt: HostRuntime) -> Result<(), Fail> {
-    let wrong = "hostname X\nfrobnicate\n";
-    let same = [("b.cfg", BASE), ("a.cfg", BASE)];
-    check_files(&rt, &same, Status::Refused, "refused b.cfg:1: 8\n")?;
-    let two = [("B.cfg", wrong), ("a.cfg", wrong)];
-    check_files(&rt, &two, Status::Refused, "refused B.cfg:2: 1\n")?;
-    let three = [
-        ("a.cfg", "hostname R2\n"),
-        ("b.cfg", "hostname R2\n"),
-        ("c.cfg", "x\n"),
-    ];
-    check_files(&rt, &three, Status::Refused, "refused c.cfg:1: 1\n")
+    for (files, answer) in FOLDERS {
+        check_files(&rt, files, Status::Refused, answer)?;
+    }
+    Ok(())
 }
+
+/// Files, and the least line at which they are refused.
+const LINES: [NamedText<'static>; 10] = [
+    ("", "refused a.cfg:0: 6\n"),
+    ("interface Serial0\n", "refused a.cfg:0: 6\n"),
+    ("hostname R1\nhostname R1\n", "refused a.cfg:2: 3\n"),
+    (
+        "hostname R1\ninterface GigabitEthernet0/0\n ip address 10.0.0.1 255.255.255.0\n!\n!\n!\n!\n!\n!\n!\n!\n ip nat inside\n",
+        "refused a.cfg:12: 2\n",
+    ),
+    (
+        "hostname R1\ninterface GigabitEthernet0/0\n ip address 10.0.0.1",
+        "refused a.cfg:3: 3\n",
+    ),
+    (
+        "interface Serial0\nhostname R1\n ip address 10.0.0.1 255.255.255.0\n",
+        "refused a.cfg:3: 4\n",
+    ),
+    (" hostname R1\n", "refused a.cfg:1: 4\n"),
+    ("hostname R1\nbanner motd #\nx\n", "refused a.cfg:2: 7\n"),
+    (
+        "hostname R1\ninterface Tunnel0\n ip address 10.0.0.1 255.0.0.0\n",
+        "refused a.cfg:3: 2\n",
+    ),
+    (
+        "hostname a23456789b23456789c23456789d23456789e23456789f23456789g23456789x\n",
+        "refused a.cfg:1: 3\n",
+    ),
+];
 
 #[test]
 fn the_least_line_is_refused(rt: HostRuntime) -> Result<(), Fail> {
-    for (text, answer) in [
-        ("", "refused a.cfg:0: 6\n"),
-        ("interface Serial0\n", "refused a.cfg:0: 6\n"),
-        ("hostname R1\nhostname R1\n", "refused a.cfg:2: 3\n"),
-        (
-            "hostname R1\ninterface GigabitEthernet0/0\n ip address 10.0.0.1 255.255.255.0\n!\n!\n!\n!\n!\n!\n!\n!\n ip nat inside\n",
-            "refused a.cfg:12: 2\n",
-        ),
-        (
-            "hostname R1\ninterface GigabitEthernet0/0\n ip address 10.0.0.1",
-            "refused a.cfg:3: 3\n",
-        ),
-        (
-            "interface Serial0\nhostname R1\n ip address 10.0.0.1 255.255.255.0\n",
-            "refused a.cfg:3: 4\n",
-        ),
-        (" hostname R1\n", "refused a.cfg:1: 4\n"),
-        ("hostname R1\nbanner motd #\nx\n", "refused a.cfg:2: 7\n"),
-        (
-            "hostname R1\ninterface Tunnel0\n ip address 10.0.0.1 255.0.0.0\n",
-            "refused a.cfg:3: 2\n",
-        ),
-        (
-            "hostname a23456789b23456789c23456789d23456789e23456789f23456789g23456789x\n",
-            "refused a.cfg:1: 3\n",
-        ),
-    ] {
-        check_refused(&rt, text, answer)?;
+    for (text, answer) in LINES {
+        check_files(&rt, &[("a.cfg", text)], Status::Refused, answer)?;
     }
     Ok(())
 }
@@ -122,7 +138,7 @@ fn many_files(alloc: Global, count: u32, failures: &[u64]) -> Result<MemFolder, 
 fn as_many_files_as_may_be(rt: HostRuntime) -> Result<(), Fail> {
     let mut folder = many_files(rt.alloc(), 512, &[])?;
     let mut out = sink_of(rt.alloc(), 65_536)?;
-    let status = run(&rt, &["routes", "d"], &mut folder, &mut out, &OpenGate);
+    let status = ran(&rt, &["routes", "d"], &mut folder, &mut out, &OpenGate);
     assert!(rt; status == Status::Done);
     assert!(rt; folder.calls == 513);
     Ok(())

@@ -1,9 +1,9 @@
 //! Tables of folders of files: connected and static routes, and how rounds end.
 use crate::answers::{
-    BASE, CIRCLE, CONNECTED, Host, NOT_CONNECTED, check_done, check_files, check_line, folder_of,
-    sink_of,
+    BASE, CIRCLE, CONNECTED, Host, NOT_CONNECTED, NamedText, Said, check_done, check_files,
+    check_said, folder_of, ran, sink_of,
 };
-use rc_analyse::{Status, run};
+use rc_analyse::Status;
 use rc_outside::OpenGate;
 use std::alloc::{AllocError, Global};
 use std::test::Fail;
@@ -55,26 +55,29 @@ line vty 0 4
 end
 ";
 
-#[test]
-fn other_files_are_passed_over(rt: HostRuntime) -> Result<(), Fail> {
-    check_files(&rt, &[], Status::Done, "outcome fixed 1\n")?;
-    let files = [("readme", "x"), ("a.cfg", BASE), ("a.cfg.old", "x")];
-    check_files(&rt, &files, Status::Done, CONNECTED)
-}
+/// Folders and their answers: without a file; with files of other names; with routers whose names stand in another order.
+const FOLDERS: [(&[NamedText<'static>], &str); 3] = [
+    (&[], "outcome fixed 1\n"),
+    (
+        &[("readme", "x"), ("a.cfg", BASE), ("a.cfg.old", "x")],
+        CONNECTED,
+    ),
+    (
+        &[
+            ("a.cfg", "hostname R2\n"),
+            ("b.cfg", BASE),
+            ("c.cfg", "hostname R10\n"),
+        ],
+        "outcome fixed 2\nrouter R1\n10.0.0.0/24 connected 0/0 dev GigabitEthernet0/0\nrouter R10\nrouter R2\n",
+    ),
+];
 
 #[test]
-fn routers_stand_by_host_name(rt: HostRuntime) -> Result<(), Fail> {
-    let files = [
-        ("a.cfg", "hostname R2\n"),
-        ("b.cfg", BASE),
-        ("c.cfg", "hostname R10\n"),
-    ];
-    check_files(
-        &rt,
-        &files,
-        Status::Done,
-        "outcome fixed 2\nrouter R1\n10.0.0.0/24 connected 0/0 dev GigabitEthernet0/0\nrouter R10\nrouter R2\n",
-    )
+fn routers_of_configurations_by_host_name(rt: HostRuntime) -> Result<(), Fail> {
+    for (files, answer) in FOLDERS {
+        check_files(&rt, files, Status::Done, answer)?;
+    }
+    Ok(())
 }
 
 /// Asserts of each row the routes of one file.
@@ -135,24 +138,24 @@ fn static_routes_of_a_file(rt: HostRuntime) -> Result<(), Fail> {
     check_all_done(&rt, &STATIC_ROUTES)
 }
 
+/// How many rounds are asked for, and how they end.
+const REPEATING: [Said; 3] = [
+    (
+        "routes d --rounds 1000",
+        Status::Repeats,
+        "outcome repeats 4 7\n",
+    ),
+    (
+        "routes d --rounds 7",
+        Status::Repeats,
+        "outcome repeats 4 7\n",
+    ),
+    ("routes d --rounds 6", Status::Limit, "outcome limit 6\n"),
+];
+
 #[test]
 fn tables_that_repeat(rt: HostRuntime) -> Result<(), Fail> {
-    for (line, status, text) in [
-        (
-            "routes d --rounds 1000",
-            Status::Repeats,
-            "outcome repeats 4 7\n",
-        ),
-        (
-            "routes d --rounds 7",
-            Status::Repeats,
-            "outcome repeats 4 7\n",
-        ),
-        ("routes d --rounds 6", Status::Limit, "outcome limit 6\n"),
-    ] {
-        check_line(&rt, &[("a.cfg", CIRCLE)], line, status, text)?;
-    }
-    Ok(())
+    check_said(&rt, &[("a.cfg", CIRCLE)], &REPEATING)
 }
 
 /// A chain of so many routes, of which each has the next hop that the one before it holds.
@@ -174,7 +177,7 @@ fn lines_of_chain(rt: &impl Host, length: u32) -> Result<usize, Fail> {
     let text = chain(rt.alloc(), length)?;
     let mut folder = folder_of(rt.alloc(), &[("a.cfg", text.as_str())], &[])?;
     let mut out = sink_of(rt.alloc(), 4096)?;
-    let _ = run(rt, &["routes", "d"], &mut folder, &mut out, &OpenGate);
+    let _ = ran(rt, &["routes", "d"], &mut folder, &mut out, &OpenGate);
     Ok(out.bytes.iter().filter(|byte| **byte == b'\n').count())
 }
 

@@ -329,6 +329,85 @@ fn the_first_line_that_matches_decides(rt: HostRuntime) -> Result<(), Fail> {
     Ok(())
 }
 
+/// The odd addresses of 10.0.0.0/8.
+fn odd() -> AddressTest {
+    masked(TEN + 1, 0x00ff_fffe)
+}
+
+/// 10.0.0.7 whatever its third octet is.
+fn seventh() -> AddressTest {
+    masked(TEN + 7, 0x0000_ff00)
+}
+
+/// Every port, as an interval.
+fn every() -> PortTest {
+    PortTest::Within(0, 65535)
+}
+
+/// Every port but some.
+fn but(ports: Ports) -> PortTest {
+    PortTest::NotEqual(ports)
+}
+
+/// Thirteen lines: each kind of test of ports at its ends and in the midst, ten ports, and wildcards that are no front. What an earlier
+/// line takes a later one doesn't see.
+fn all_tests(ten: Ports) -> [AccessListLine; 13] {
+    let web = PortTest::Within(80, 81);
+    let names = PortTest::Within(53, 53);
+    [
+        ports_line(10, Action::Permit, 6, PortTest::Any, PortTest::Below(0)),
+        ports_line(20, Action::Permit, 6, PortTest::Above(65535), every()),
+        addresses_line(30, Action::Deny, seventh(), odd()),
+        ports_line(40, Action::Deny, 6, PortTest::Equal(ten), every()),
+        ports_line(50, Action::Permit, 6, PortTest::Any, but(ten)),
+        ports_line(60, Action::Permit, 6, PortTest::Above(1023), web),
+        ports_line(70, Action::Deny, 6, PortTest::Any, every()),
+        ports_line(80, Action::Permit, 17, PortTest::Below(1024), names),
+        ports_line(90, Action::Deny, 17, but(ten), PortTest::Above(442)),
+        addresses_line(100, Action::Permit, seventh(), AddressTest::any()),
+        ports_line(110, Action::Permit, 255, PortTest::Any, PortTest::Any),
+        addresses_line(120, Action::Deny, AddressTest::host(Addr::new(TEN)), odd()),
+        addresses_line(130, Action::Permit, AddressTest::any(), odd()),
+    ]
+}
+
+/// The list of some lines.
+fn list_of(alloc: Global, lines: &[AccessListLine]) -> Result<AccessList, AllocError> {
+    let mut list = AccessList::new(alloc, AccessListKind::Extended);
+    for line in lines {
+        list = list.with_line(*line)?;
+    }
+    Ok(list)
+}
+
+#[test]
+fn a_list_with_each_kind_of_test(rt: HostRuntime) -> Result<(), Fail> {
+    let ports = [0, 1, 22, 80, 81, 443, 8080, 49152, 65534, 65535];
+    let ten = Ports::from_slice(&ports).ok_or("ports")?;
+    let list = list_of(rt.alloc(), &all_tests(ten))?;
+    let corners = Corners {
+        to: [
+            TEN - 1,
+            TEN,
+            TEN + 1,
+            TEN + 2,
+            TEN + 0x00ff_ffff,
+            TEN + 0x0100_0000,
+            TEN + 0x0100_0001,
+            0,
+        ],
+        from: [TEN, TEN + 7, TEN + 0xff07, TEN + 0x0001_0007],
+        protocols: [0, 6, 17, 255],
+        from_ports: [0, 80, 1023, 1024],
+        to_ports: [0, 53, 79, 80, 442, 443, 444, 65535],
+    };
+    let Ok(same) = made_set_agrees(rt.alloc(), &list, &corners) else {
+        return Err("room".into());
+    };
+    assert!(rt; same);
+    Ok(())
+}
+
 #[test]
 fn all_but_telnet_is_24_cubes(rt: HostRuntime) -> Result<(), Fail> {
     let telnet = PortTest::Equal(Ports::new(23));

@@ -41,13 +41,43 @@ fn three_lines(alloc: Global, ports: Ports) -> Result<AccessList, AllocError> {
     access_list.with_line(AccessListLine::standard(20, Action::Deny, AddressTest::any()))
 }
 
+/// Asserts which lines are there.
 fn check_three(rt: &impl Abort, access_list: &AccessList) {
+    assert!(rt; access_list.lines.len() == 3);
     assert!(rt; access_list.greatest() == Some(30));
-    for (sequence, wanted) in [(10, true), (15, false), (30, true), (31, false)] {
+    for (sequence, wanted) in [(10, true), (15, false), (20, true), (30, true), (31, false)] {
         assert!(rt; access_list.has_line(sequence) == wanted, "at {sequence}");
     }
-    for (line, wanted) in access_list.lines.iter().zip([10, 20, 30]) {
-        assert!(rt; line.sequence == wanted);
+}
+
+/// Asserts the action of a line, and how many ports it names.
+fn check_line(
+    rt: &impl Abort,
+    access_list: &AccessList,
+    sequence: u32,
+    action: Action,
+    ports: usize,
+) {
+    match access_list.lines.get(sequence) {
+        Some(line) => {
+            assert!(rt; line.sequence == sequence);
+            assert!(rt; line.action == action);
+            assert!(rt; named_ports(&line.destination_port) == ports);
+        }
+        None => assert!(rt; false, "no line {sequence}"),
+    }
+}
+
+/// Asserts the lines 10, 20 and 30, and that they come in this order.
+fn check_lines(rt: &impl Abort, access_list: &AccessList) {
+    check_three(rt, access_list);
+    check_line(rt, access_list, 10, Action::Permit, 2);
+    check_line(rt, access_list, 20, Action::Deny, 0);
+    check_line(rt, access_list, 30, Action::Permit, 2);
+    let mut before = 0;
+    for line in access_list.lines.iter() {
+        assert!(rt; before < line.sequence);
+        before = line.sequence;
     }
 }
 
@@ -55,32 +85,33 @@ fn check_three(rt: &impl Abort, access_list: &AccessList) {
 fn lines_by_number(rt: HostRuntime) -> Result<(), Fail> {
     let ports = Ports::new(22).with_port(23).expect(&rt, "two ports");
     let access_list = three_lines(rt.alloc(), ports)?;
-    check_three(&rt, &access_list);
-    let second = access_list.lines.get(20);
-    assert!(rt; second.map(|l| l.action) == Some(Action::Deny));
-    let last = access_list.lines.get(30);
-    assert!(rt; last.map(|l| named_ports(&l.destination_port)) == Some(2));
+    check_lines(&rt, &access_list);
     Ok(())
 }
 
-/// Whether a list stood under the name before.
-fn put_list(
+/// Puts a list under a name, and then one without lines in its place.
+fn put_two(
+    rt: &impl Abort,
     access_lists: &mut Named<AccessList>,
     name: Name,
-    access_list: AccessList,
-) -> Result<bool, AllocError> {
-    Ok(access_lists.insert(name, access_list)?.is_some())
+    full: AccessList,
+) -> Result<(), AllocError> {
+    let before = access_lists.insert(name, full)?;
+    assert!(rt; before.is_none());
+    let empty = AccessList::new(access_lists.allocator(), AccessListKind::Standard);
+    let before = access_lists.insert(name, empty)?;
+    assert!(rt; before.is_some());
+    Ok(())
 }
 
 #[test]
-fn lists_under_names(rt: HostRuntime) {
+fn lists_under_names(rt: HostRuntime) -> Result<(), Fail> {
     let name = Name::new(b"101").expect(&rt, "101");
-    let full = three_lines(rt.alloc(), Ports::new(22)).expect(&rt, "memory");
-    let empty = AccessList::new(rt.alloc(), AccessListKind::Standard);
+    let full = three_lines(rt.alloc(), Ports::new(22))?;
     let mut access_lists = Named::new(rt.alloc());
-    assert!(rt; put_list(&mut access_lists, name, full) == Ok(false));
-    assert!(rt; put_list(&mut access_lists, name, empty) == Ok(true));
+    put_two(&rt, &mut access_lists, name, full)?;
     check_empty(&rt, access_lists.get(&name));
+    Ok(())
 }
 
 fn check_empty(rt: &impl Abort, access_list: Option<&AccessList>) {
@@ -102,9 +133,8 @@ fn replaced(alloc: Global) -> Result<AccessList, AllocError> {
 #[test]
 fn a_line_in_place_of_another(rt: HostRuntime) -> Result<(), Fail> {
     let access_list = replaced(rt.alloc())?;
-    assert!(rt; access_list.lines.len() == 3);
-    let first = access_list.lines.get(10);
-    assert!(rt; first.map(|l| l.action) == Some(Action::Deny));
+    check_three(&rt, &access_list);
+    check_line(&rt, &access_list, 10, Action::Deny, 0);
     Ok(())
 }
 
@@ -179,9 +209,13 @@ fn model(
 fn check_lists(rt: &impl Abort, access_lists: &Named<AccessList>, list: &Name, empty: &Name) {
     assert!(rt; access_lists.len() == 2);
     assert!(rt; access_lists.index_of(empty) == Some(1));
-    let found = access_lists.get(list);
-    assert!(rt; found.map(|l| l.lines.len()) == Some(2));
-    assert!(rt; found.map(|l| l.greatest()) == Some(Some(20)));
+    match access_lists.get(list) {
+        Some(found) => {
+            assert!(rt; found.lines.len() == 2);
+            assert!(rt; found.greatest() == Some(20));
+        }
+        None => assert!(rt; false, "no list"),
+    }
 }
 
 fn check_groups(rt: &impl Abort, block: &Interface, inbound: Name, outbound: Name) {

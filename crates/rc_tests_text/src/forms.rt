@@ -2,8 +2,9 @@
 ghost use Rattle.rc_config.specs.Lawful.{HasLawfulLists};
 
 use rc_config::{Context, OpenBlock, RouterText};
-use rc_lines::Lines;
+use rc_lines::{Line, Lines};
 use rc_openings::{Block, Decision, Form, Grammar, Words, number_in_front};
+use std::process::Abort;
 
 /// The form of which the openings of a block say that the line is.
 fn form_in(block: Block, line: &[u8]) -> Option<Form> {
@@ -50,27 +51,38 @@ fn forms_have_grammars(rt: HostRuntime) {
     assert!(rt; Form::SetCommunity.grammar() == Grammar::Policies);
 }
 
-/// Which grammars read the line as one of this form: the general one, that of access lists, and that of policies.
-fn readers(file: &RouterText, form: Form, behind: &[u8]) -> [bool; 3]
+/// A line of no meaning, which stands for the one that is read.
+fn some_line(rt: &impl Abort) -> Line<'static> {
+    Lines::new(b"!").next().expect(rt, "a line")
+}
+
+/// Whether the general grammar reads the line as one of this form.
+fn is_general(file: &RouterText, line: &Line<'_>, form: Form, behind: &[u8]) -> bool {
+    let block = OpenBlock::Global;
+    let context = Context { block, file };
+    rc_gram_if::read_form(form, Words::new(behind), line, context).is_ok()
+}
+
+/// Whether that of access lists does.
+fn is_of_lists(file: &RouterText, line: &Line<'_>, form: Form, behind: &[u8]) -> bool
     requires { HasLawfulLists file.now }
 {
-    let mut lines = Lines::new(b"!");
-    let Some(line) = lines.next() else {
-        return [false; 3];
-    };
-    let behind = Words::new(behind);
     let block = OpenBlock::Global;
-    let general = rc_gram_if::read_form(form, behind, &line, Context { block, file });
+    let context = Context { block, file };
+    rc_gram_acl::read_form(form, Words::new(behind), line, context).is_ok()
+}
+
+/// Whether that of policies does.
+fn is_of_policies(file: &RouterText, line: &Line<'_>, form: Form, behind: &[u8]) -> bool {
     let block = OpenBlock::Global;
-    let access_lists = rc_gram_acl::read_form(form, behind, &line, Context { block, file });
-    let block = OpenBlock::Global;
-    let policies = rc_gram_policy::read_form(form, behind, &line, Context { block, file });
-    [general.is_ok(), access_lists.is_ok(), policies.is_ok()]
+    let context = Context { block, file };
+    rc_gram_policy::read_form(form, Words::new(behind), line, context).is_ok()
 }
 
 #[test]
 fn a_form_is_read_by_its_grammar_alone(rt: HostRuntime) {
     let file = RouterText::new(rt.alloc());
+    let line = some_line(&rt);
     for (form, behind, wanted) in [
         (Form::Hostname, b"R1".as_slice(), [true, false, false]),
         (Form::AccessList, b"5 permit any", [false, true, false]),
@@ -80,6 +92,17 @@ fn a_form_is_read_by_its_grammar_alone(rt: HostRuntime) {
             [false, false, true],
         ),
     ] {
-        assert!(rt; readers(&file, form, behind) == wanted, "{behind:?}");
+        assert!(rt;
+            is_general(&file, &line, form, behind) == wanted[0],
+            "{behind:?}"
+        );
+        assert!(rt;
+            is_of_lists(&file, &line, form, behind) == wanted[1],
+            "{behind:?}"
+        );
+        assert!(rt;
+            is_of_policies(&file, &line, form, behind) == wanted[2],
+            "{behind:?}"
+        );
     }
 }

@@ -23,9 +23,13 @@ fn setting_in(file: &RouterText, block: &OpenBlock, text: &[u8]) -> Option<OspfS
 }
 
 #[test]
-fn numbers_of_an_interface(rt: HostRuntime) {
+fn settings_of_an_interface(rt: HostRuntime) {
     let file = RouterText::new(rt.alloc());
     let inside = OpenBlock::Interface(Name::new(b"Serial0").expect(&rt, "Serial0"));
+    let area = OspfArea {
+        process: 1,
+        area: 256,
+    };
     for (text, setting) in [
         (b" ip ospf cost 1".as_slice(), OspfSetting::Cost(1)),
         (b" ip ospf cost 65535", OspfSetting::Cost(65535)),
@@ -34,25 +38,8 @@ fn numbers_of_an_interface(rt: HostRuntime) {
             b" ip ospf dead-interval 65535",
             OspfSetting::DeadInterval(65535),
         ),
-    ] {
-        assert!(rt;
-            setting_in(&file, &inside, text) == Some(setting),
-            "{text:?}"
-        );
-    }
-}
-
-#[test]
-fn network_types_and_areas_of_an_interface(rt: HostRuntime) {
-    let file = RouterText::new(rt.alloc());
-    let inside = OpenBlock::Interface(Name::new(b"Serial0").expect(&rt, "Serial0"));
-    let area = OspfArea {
-        process: 1,
-        area: 256,
-    };
-    for (text, setting) in [
         (
-            b" ip ospf network broadcast".as_slice(),
+            b" ip ospf network broadcast",
             OspfSetting::NetworkType(NetworkType::Broadcast),
         ),
         (
@@ -68,53 +55,52 @@ fn network_types_and_areas_of_an_interface(rt: HostRuntime) {
     }
 }
 
-#[test]
-fn wrong_values_of_an_interface(rt: HostRuntime) {
-    let inside = OpenBlock::Interface(Name::new(b"Serial0").expect(&rt, "Serial0"));
-    let lines = [
-        (b"ip ospf cost 0".as_slice(), BAD),
-        (b"ip ospf cost 65536", BAD),
-        (b"ip ospf cost", BAD),
-        (b"ip ospf cost 1 2", BAD),
-        (b"ip ospf hello-interval 0", BAD),
-        (b"ip ospf dead-interval 65536", BAD),
-        (b"ip ospf network", BAD),
-        (b"ip ospf network ring", BAD),
-        (b"ip ospf network broadcast non-broadcast", BAD),
-    ];
-    check_lines(&rt, rt.alloc(), &inside, &lines);
-}
+/// A line, and how it is refused.
+type Row = (&'static [u8], Option<LineRefusal>);
+
+/// Wrong values.
+const WRONG_VALUES: [Row; 9] = [
+    (b"ip ospf cost 0", BAD),
+    (b"ip ospf cost 65536", BAD),
+    (b"ip ospf cost", BAD),
+    (b"ip ospf cost 1 2", BAD),
+    (b"ip ospf hello-interval 0", BAD),
+    (b"ip ospf dead-interval 65536", BAD),
+    (b"ip ospf network", BAD),
+    (b"ip ospf network ring", BAD),
+    (b"ip ospf network broadcast non-broadcast", BAD),
+];
+
+/// Wrong areas.
+const WRONG_AREAS: [Row; 6] = [
+    (b"ip ospf 0 area 0", BAD),
+    (b"ip ospf 65536 area 0", BAD),
+    (b"ip ospf 1 area", BAD),
+    (b"ip ospf 1 area 0 x", BAD),
+    (b"ip ospf cost area 0", BAD),
+    (b"ip ospf 1", UNSUPPORTED),
+];
+
+/// What isn't modelled, and what has no effect.
+const NOT_MODELLED: [Row; 7] = [
+    (b"ip ospf network non-broadcast", UNSUPPORTED),
+    (b"ip ospf network point-to-multipoint", UNSUPPORTED),
+    (
+        b"ip ospf dead-interval minimal hello-multiplier 4",
+        UNSUPPORTED,
+    ),
+    (b"ip ospf authentication", UNSUPPORTED),
+    (b"ip ospf priority 3", None),
+    (b"ip ospf mtu-ignore", None),
+    (b"no ip ospf cost", None),
+];
 
 #[test]
-fn wrong_areas_of_an_interface(rt: HostRuntime) {
+fn lines_of_ospf_that_are_refused(rt: HostRuntime) {
     let inside = OpenBlock::Interface(Name::new(b"Serial0").expect(&rt, "Serial0"));
-    let lines = [
-        (b"ip ospf 0 area 0".as_slice(), BAD),
-        (b"ip ospf 65536 area 0", BAD),
-        (b"ip ospf 1 area", BAD),
-        (b"ip ospf 1 area 0 x", BAD),
-        (b"ip ospf cost area 0", BAD),
-        (b"ip ospf 1", UNSUPPORTED),
-    ];
-    check_lines(&rt, rt.alloc(), &inside, &lines);
-}
-
-#[test]
-fn settings_that_are_not_modelled(rt: HostRuntime) {
-    let inside = OpenBlock::Interface(Name::new(b"Serial0").expect(&rt, "Serial0"));
-    let lines = [
-        (b"ip ospf network non-broadcast".as_slice(), UNSUPPORTED),
-        (b"ip ospf network point-to-multipoint", UNSUPPORTED),
-        (
-            b"ip ospf dead-interval minimal hello-multiplier 4",
-            UNSUPPORTED,
-        ),
-        (b"ip ospf authentication", UNSUPPORTED),
-        (b"ip ospf priority 3", None),
-        (b"ip ospf mtu-ignore", None),
-        (b"no ip ospf cost", None),
-    ];
-    check_lines(&rt, rt.alloc(), &inside, &lines);
+    check_lines(&rt, rt.alloc(), &inside, &WRONG_VALUES);
+    check_lines(&rt, rt.alloc(), &inside, &WRONG_AREAS);
+    check_lines(&rt, rt.alloc(), &inside, &NOT_MODELLED);
 }
 
 #[test]

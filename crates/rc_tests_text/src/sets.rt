@@ -52,19 +52,26 @@ fn check_union(rt: &impl Abort, three: &Communities, two: &Communities, both: &C
     assert!(rt; !both.has(Communities::NO_EXPORT));
 }
 
-#[test]
-fn unions_of_communities(rt: HostRuntime) {
-    let three = communities(rt.alloc(), &[30, 10, 20, 10]).expect(&rt, "memory");
-    let two = communities(rt.alloc(), &[40, 10]).expect(&rt, "memory");
-    let both = two.union(rt.alloc(), &three).expect(&rt, "memory");
-    check_union(&rt, &three, &two, &both);
-    let turned = three.union(rt.alloc(), &two).expect(&rt, "memory");
+/// Asserts that the union of two sets is one, whichever comes first.
+fn check_unions(
+    rt: &impl Abort,
+    alloc: Global,
+    three: &Communities,
+    two: &Communities,
+) -> Result<(), AllocError> {
+    let both = two.union(alloc, three)?;
+    check_union(rt, three, two, &both);
+    let turned = three.union(alloc, two)?;
     assert!(rt; both == turned);
+    Ok(())
 }
 
 #[test]
-fn copies_of_communities(rt: HostRuntime) {
-    let three = communities(rt.alloc(), &[30, 10, 20, 10]).expect(&rt, "memory");
-    let copied = three.copy(rt.alloc()).expect(&rt, "memory");
+fn unions_of_communities(rt: HostRuntime) -> Result<(), Fail> {
+    let three = communities(rt.alloc(), &[30, 10, 20, 10])?;
+    let two = communities(rt.alloc(), &[40, 10])?;
+    check_unions(&rt, rt.alloc(), &three, &two)?;
+    let copied = three.copy(rt.alloc())?;
     assert!(rt; three == copied);
+    Ok(())
 }

@@ -1,0 +1,211 @@
+//! `reach` beside `trace`: where each route has one hop, a header is in the set of the ending of its walk, and in no other.
+use crate::answers::{Host, NamedText, folder_of, ran, sink_of};
+use rc_openings::{word_addr, word_u32};
+use rc_outside::OpenGate;
+use std::alloc::Global;
+use std::str::from_utf8;
+use std::test::Fail;
+
+/// A router with lists at two of its interfaces, and one behind it. What goes to 10.2.64.0/18 goes round between them.
+const FILES: [NamedText<'_>; 2] = [
+    (
+        "a.cfg",
+        "hostname R1
+interface GigabitEthernet0/0
+ ip address 10.0.0.1 255.255.255.0
+ ip access-group 101 in
+interface GigabitEthernet0/1
+ ip address 10.0.1.1 255.255.255.0
+ ip access-group 102 out
+interface GigabitEthernet0/2
+ ip address 10.0.12.1 255.255.255.252
+interface Loopback0
+ ip address 1.1.1.1 255.255.255.0
+access-list 101 deny tcp any any lt 1024
+access-list 101 deny ip 128.0.0.0 127.255.255.255 any
+access-list 101 permit ip any any
+access-list 102 permit tcp any any
+ip route 192.168.0.0 255.255.0.0 Null0
+ip route 8.0.0.0 255.0.0.0 10.0.0.9
+ip route 10.2.0.0 255.255.0.0 10.0.12.2
+",
+    ),
+    (
+        "b.cfg",
+        "hostname R2
+interface GigabitEthernet0/0
+ ip address 10.0.12.2 255.255.255.252
+interface GigabitEthernet0/1
+ ip address 10.2.0.1 255.255.255.0
+ip route 10.2.64.0 255.255.192.0 10.0.12.1
+ip route 10.2.128.0 255.255.128.0 Null0
+",
+    ),
+];
+
+const PLACE: &str = "R1:GigabitEthernet0/0";
+
+const ENDINGS: [&str; 8] = [
+    "denied-in",
+    "accepted",
+    "no-route",
+    "null-routed",
+    "denied-out",
+    "unreachable",
+    "exits",
+    "delivered",
+];
+
+/// The first and the last address of each prefix of the folder.
+const PREFIXES: [(u32, u32); 12] = [
+    (0x0a00_0000, 0x0a00_00ff),
+    (0x0a00_0001, 0x0a00_0001),
+    (0x0a00_0100, 0x0a00_01ff),
+    (0x0a00_0101, 0x0a00_0101),
+    (0x0a00_0c00, 0x0a00_0c03),
+    (0x0101_0100, 0x0101_01ff),
+    (0x0101_0101, 0x0101_0101),
+    (0xc0a8_0000, 0xc0a8_ffff),
+    (0x0800_0000, 0x08ff_ffff),
+    (0x0a02_0000, 0x0a02_00ff),
+    (0x0a02_4000, 0x0a02_7fff),
+    (0x0a02_8000, 0x0a02_ffff),
+];
+
+/// Sources, protocols and destination ports at the corners of the lists' lines.
+const CORNERS: [(u32, u32, u32); 7] = [
+    (0, 6, 1023),
+    (0, 6, 1024),
+    (0, 5, 0),
+    (0x7fff_ffff, 17, 0),
+    (0x8000_0000, 17, 65535),
+    (0x7fff_ffff, 7, 1023),
+    (0xffff_ffff, 6, 65535),
+];
+
+/// The fields of a header, as cubes name them.
+const FIELDS: [&str; 5] = ["dst", "src", "proto", "sport", "dport"];
+
+/// The number that a word is, also as an address.
+fn number_of(word: &str) -> Option<u32> {
+    match word_addr(word.as_bytes()) {
+        Some(address) => Some(address.bits()),
+        None => word_u32(word.as_bytes()),
+    }
+}
+
+/// The field of this name.
+fn field_of(header: &[u32; 5], name: &str) -> Option<u32> {
+    for (field, value) in FIELDS.iter().zip(header.iter()) {
+        if *field == name {
+            return Some(*value);
+        }
+    }
+    None
+}
+
+/// Whether the header passes a test, as `dport=23&65535`. There is no answer where the text isn't one.
+fn passes(header: &[u32; 5], test: &str) -> Option<bool> {
+    let (name, pattern) = test.split_once('=')?;
+    let (value, mask) = pattern.split_once('&')?;
+    let field = field_of(header, name)?;
+    Some(field & number_of(mask)? == number_of(value)?)
+}
+
+/// Whether a line is a cube that holds the header.
+fn is_cube_of(header: &[u32; 5], line: &str) -> bool {
+    let Some(tests) = line.strip_prefix("cube ") else {
+        return false;
+    };
+    tests
+        .split(' ')
+        .all(|test| passes(header, test) == Some(true))
+}
+
+/// Whether a cube among these lines holds the header.
+fn is_held(header: &[u32; 5], cubes: &str) -> bool {
+    cubes.lines().any(|line| is_cube_of(header, line))
+}
+
+/// What the words of a line say over the files.
+fn said(rt: &impl Host, line: &str) -> Result<String, Fail> {
+    let words: Vec<&str> = line.split(' ').collect(rt.alloc())?;
+    let mut folder = folder_of(rt.alloc(), &FILES, &[])?;
+    let mut out = sink_of(rt.alloc(), 1_048_576)?;
+    let _ = ran(rt, words.as_slice(), &mut folder, &mut out, &OpenGate);
+    let text = from_utf8(out.bytes.as_slice()).unwrap_or("");
+    Ok(String::from_str(rt.alloc(), text)?)
+}
+
+/// An address in dotted decimal.
+fn dotted(alloc: Global, bits: u32) -> Result<String, Fail> {
+    let (first, second) = (bits >> 24, (bits >> 16) & 255);
+    let (third, fourth) = ((bits >> 8) & 255, bits & 255);
+    Ok(format!(in alloc; "{first}.{second}.{third}.{fourth}")?)
+}
+
+/// How many headers are tried.
+const HEADERS: usize = 4 * 7 * 12;
+
+/// One of the headers, by its number: its destination is at an end of a prefix or beside it.
+fn header_at(number: usize) -> [u32; 5] {
+    let (first, last) = PREFIXES[number / 28 % 12];
+    let (source, protocol, port) = CORNERS[number / 4 % 7];
+    let destination = match number % 4 {
+        0 => first.wrapping_sub(1),
+        1 => first,
+        2 => last,
+        _ => last.wrapping_add(1),
+    };
+    [destination, source, protocol, 5, port]
+}
+
+/// What is said of the walk of a packet.
+fn walk_of(rt: &impl Host, header: &[u32; 5]) -> Result<String, Fail> {
+    let destination = dotted(rt.alloc(), header[0])?;
+    let source = dotted(rt.alloc(), header[1])?;
+    let line = format!(in rt.alloc();
+        "trace d --from {PLACE} --workers 1 --dst {destination} --src {source} --proto {} --sport {} --dport {}",
+        header[2], header[3], header[4]
+    )?;
+    said(rt, line.as_str())
+}
+
+/// The walks of all headers.
+fn walks_of_all(rt: &impl Host) -> Result<Vec<String>, Fail> {
+    let mut walks = Vec::new(rt.alloc());
+    for number in 0..HEADERS {
+        walks.push(walk_of(rt, &header_at(number))?)?;
+    }
+    Ok(walks)
+}
+
+/// Whether a walk ends so.
+fn ends_at(walk: &str, ending: &str) -> bool {
+    walk.lines()
+        .any(|line| line.strip_prefix("end ") == Some(ending))
+}
+
+/// Asserts that the set of an ending holds just the headers whose walks end so, and that there are some.
+fn check_ending(rt: &impl Host, ending: &str, walks: &[String]) -> Result<(), Fail> {
+    let line = format!(in rt.alloc(); "reach d --from {PLACE} --workers 1 --end {ending}")?;
+    let cubes = said(rt, line.as_str())?;
+    let mut some = false;
+    for (number, walk) in walks.iter().enumerate() {
+        let ends = ends_at(walk.as_str(), ending);
+        let held = is_held(&header_at(number), cubes.as_str());
+        assert!(rt; held == ends, "{ending}: header {number}");
+        some = some || ends;
+    }
+    assert!(rt; some, "{ending}");
+    Ok(())
+}
+
+#[test]
+fn walks_end_where_their_headers_are_held(rt: HostRuntime) -> Result<(), Fail> {
+    let walks = walks_of_all(&rt)?;
+    for ending in ENDINGS {
+        check_ending(&rt, ending, walks.as_slice())?;
+    }
+    Ok(())
+}
