@@ -3,4 +3,5 @@ pub mod CheckpointLaws
 mod RoundLaws
 mod ProgressLaws
 mod SettingLaws
+mod SilentLaws
 pub mod OutcomeLaws

@@ -1,4 +1,5 @@
 pub mod Rounds
+pub mod Silent
 pub mod Setting
 pub mod Shares
 pub mod Parts

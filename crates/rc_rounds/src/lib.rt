@@ -12,6 +12,7 @@ mod progress;
 mod round;
 mod rounds;
 mod shares;
+mod silent;
 
 pub use outcome::Outcome;
 pub use rounds::{one_outcome, run_rounds};

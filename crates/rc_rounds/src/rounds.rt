@@ -3,17 +3,17 @@ ghost use Rattle.std.specs.Prelude.{◌≡◌, ◌≤◌, All, IfOk, length};
 ghost use Rattle.rc_config.specs.Lawful.{IsLawful};
 ghost use Rattle.rc_ospf.specs.Internal.{IsInternal};
 ghost use Rattle.rc_route.specs.Tables.{IsTable};
-ghost use Rattle.rc_topology.specs.Ports.{links_of};
 ghost use Rattle.rc_rounds.specs.Rounds.{EndsAs, IsInOrder, IsOutcome, HasOneOutcome};
 ghost use Rattle.rc_rounds.specs.Setting.{IsSetting};
+ghost use Rattle.rc_rounds.specs.Silent.{AreAsked};
 
 use crate::Outcome;
 use crate::progress::{Progress, Same};
+use crate::silent::links_asked;
 use rc_bgp::{Sessions, sessions};
 use rc_config::Network;
 use rc_ospf::{Internal, internal};
 use rc_outside::Gate;
-use rc_topology::Links;
 use std::alloc::{AllocError, AllocGlobal, Global};
 use std::thread::Threads;
 
@@ -59,11 +59,11 @@ fn internal_of<R: Threads + Sync>(
     workers: u32,
 ) -> Result<Internal, AllocError>
     requires { IsLawful net.now }
-    ensures links { IfOk result (λ i. i.links ≡ links_of net.now) }
+    ensures links { IfOk result (λ i. AreAsked net.now i.links) }
     ensures internal { IfOk result (IsInternal net.now) }
     ensures in_order { IfOk result (λ i. All IsTable i.routes) }
 {
-    let links = Links::of(alloc, net)?;
+    let links = links_asked(alloc, net)?;
     internal(rt, alloc, net, links, workers)
 }
 

@@ -1,10 +1,13 @@
 use Rattle.std.proofs.lemmas.Result.{IfOk-weaker}
 use Rattle.rc_rounds.specs.Rounds.{IsOutcome}
 use Rattle.rc_rounds.proofs.SettingLaws.{own_in_order}
+use Rattle.rc_rounds.proofs.SilentLaws.{outcome_over}
 use Rattle.rc_rounds.proofs.rounds.run_rounds.Goals as goal
 
 pub returns-clause-outcome : goal.returns-clause-outcome
-returns-clause-outcome g c = IfOk-weaker _ _ (IsOutcome c.args.net.now c.args.limit) (λ outcome ends. record { internal = c.in_ok-internal.internal; links = c.in_ok-internal.ensures.links; is_internal = c.in_ok-internal.ensures.internal; ends = ends }) c.rounds_within.ensures.outcome
+returns-clause-outcome g c =
+    let made = c.in_ok-internal.ensures in
+    IfOk-weaker _ _ (IsOutcome c.args.net.now c.args.limit) (outcome_over c.args.net.now c.in_ok-internal.internal c.args.limit made.links made.internal) c.rounds_within.ensures.outcome
 
 pub rounds_within-requires-clause-setting : goal.rounds_within-requires-clause-setting
 rounds_within-requires-clause-setting g c κs within = record {
