@@ -1,4 +1,5 @@
 mod Numbers
+mod ArgumentLaws
 mod Rules
 mod PlainWalk
 mod KeptValues

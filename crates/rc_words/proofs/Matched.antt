@@ -15,8 +15,8 @@ use Rattle.rc_openings.specs.Values.{address_of}
 use Rattle.rc_base.specs.declared.ending.Ends.{Ends}
 use Rattle.rc_words.specs.App.{netcheck_app}
 use Rattle.rc_words.specs.Endings.{ending_named, endings_of, only}
-use Rattle.rc_words.specs.Plain.{CommandName, routes, trace, reach, sample, command_word, from, dst, src, proto, sport, dport, end, examples, rounds, workers, nodes, limit_options}
-use Rattle.rc_words.specs.Request.{address_at, place_of, place_at, limits_at, header_at, ends_at, trace_at, reach_at, sample_at, request_at, is_read, texts_are_read, AreInRange, IsHeaderInRange, IsAskInRange}
+use Rattle.rc_words.specs.Plain.{CommandName, routes, trace, reach, sample, command_word, from, dst, src, proto, sport, dport, examples, rounds, workers, nodes, limit_options}
+use Rattle.rc_words.specs.Request.{address_at, place_of, place_at, limits_at, header_at, ends_at, trace_at, reach_at, request_at, is_read, texts_are_read, AreInRange, IsHeaderInRange, IsAskInRange}
 use Rattle.rc_words.specs.declared.request.Ask.TheVariants.{Routes, Trace, Reach, Sample}
 use Rattle.rc_words.specs.declared.request.Limits.{Limits}
 use Rattle.rc_words.specs.declared.request.PlaceName.{PlaceName}

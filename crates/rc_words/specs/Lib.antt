@@ -1,4 +1,5 @@
 pub mod App
+pub mod Arguments
 pub mod Request
 pub mod Plain
 pub mod Laws

@@ -1,8 +1,11 @@
 //! The command that the words are read by, as clap is told it.
-ghost use Rattle.std.specs.Prelude.{◌≡◌, false, codes, IfOk};
-ghost use Rattle.clap.specs.Words.{app_of, rule_of, new_app, with_subcommand};
-ghost use Rattle.clap.specs.declared.builder.command.Command.TheViews.{out-Command};
-ghost use Rattle.rc_words.specs.App.{number_option, text_option, wanted_option, default_option, dir_argument, count_argument, with_limits, with_addresses, with_protocol, with_reach, on_folder, routes_app, trace_app, reach_app, sample_app, with_settings, tables_app, netcheck_app};
+//!
+//! Each command is a list of arguments, and one loop tells clap of them. A step takes what the one before it gave, want of
+//! memory too, so no function above the loop and the joining of two commands has a way on of its own.
+ghost use Rattle.std.specs.Prelude.{◌≡◌, false, codes, fold, map, IfOk};
+ghost use Rattle.clap.specs.Words.{App, rule_of, new_app, with_rule, with_subcommand};
+ghost use Rattle.rc_words.specs.App.{number_option, text_option, wanted_option, default_option, dir_argument, count_argument, routes_app, trace_app, reach_app, sample_app, with_settings, netcheck_app};
+ghost use Rattle.rc_words.specs.Arguments.{IsTold, rule_told};
 
 use clap::builder::ValueParser;
 use clap::{Arg, Command};
@@ -61,97 +64,168 @@ fn count_of_routers<'a>(alloc: Global) -> Arg<'a>
         .required(true)
 }
 
-// The options of every command, behind its own.
-fn limited<'a>(alloc: Global, command: Command<'a>) -> Result<Command<'a>, AllocError>
-    requires { (out-Command command).has_globals ≡ false }
-    ensures app { IfOk result (λ c. app_of c ≡ with_limits (app_of command.entry)) }
-    ensures local { IfOk result (λ c. (out-Command c).has_globals ≡ false) }
-{
-    command
-        .arg(limit_option(alloc, "rounds", 1, 100_000, "1000"))?
-        .arg(limit_option(alloc, "workers", 1, 64, "4"))?
-        .arg(limit_option(alloc, "nodes", 16, 16_777_216, "1048576"))
+/// An argument of a command.
+#[derive(Clone, Copy)]
+pub(crate) enum Argument {
+    /// `--NAME N`: a number from least to most, and what stands for it where it isn't given.
+    Number {
+        name: &'static str,
+        least: u64,
+        most: u64,
+        default: &'static str,
+    },
+    /// `--NAME TEXT`, which may be left out.
+    Text(&'static str),
+    /// `--NAME TEXT`, which has to be there.
+    Wanted(&'static str),
+    /// The source address of a packet.
+    Source,
+    /// DIR.
+    Folder,
+    /// N, the number of routers of a made network.
+    Count,
 }
 
-// The addresses of a packet.
-fn addressed<'a>(alloc: Global, command: Command<'a>) -> Result<Command<'a>, AllocError>
-    requires { (out-Command command).has_globals ≡ false }
-    ensures app { IfOk result (λ c. app_of c ≡ with_addresses (app_of command.entry)) }
-    ensures local { IfOk result (λ c. (out-Command c).has_globals ≡ false) }
+// The same argument, as clap is told it.
+fn told<'a>(alloc: Global, argument: &Argument) -> Arg<'a>
+    ensures rule { rule_of result ≡ rule_told argument.now }
+    ensures local { result.global ≡ false }
 {
-    command
-        .arg(required_option(alloc, "dst"))?
-        .arg(source_option(alloc))
+    match argument {
+        Argument::Number {
+            name,
+            least,
+            most,
+            default,
+        } => limit_option(alloc, name, *least, *most, default),
+        Argument::Text(name) => plain_option(alloc, name),
+        Argument::Wanted(name) => required_option(alloc, name),
+        Argument::Source => source_option(alloc),
+        Argument::Folder => folder_argument(alloc),
+        Argument::Count => count_of_routers(alloc),
+    }
 }
 
-// Its protocol and ports.
-fn protocolled<'a>(alloc: Global, command: Command<'a>) -> Result<Command<'a>, AllocError>
-    requires { (out-Command command).has_globals ≡ false }
-    ensures app { IfOk result (λ c. app_of c ≡ with_protocol (app_of command.entry)) }
-    ensures local { IfOk result (λ c. (out-Command c).has_globals ≡ false) }
+// A command with these arguments.
+fn command_of<'a>(
+    alloc: Global,
+    name: &'static str,
+    arguments: &[Argument],
+) -> Result<Command<'a>, AllocError>
+    ensures { IfOk result (λ c. IsTold c (fold with_rule (new_app name.now) (map rule_told arguments.now))) }
 {
-    command
-        .arg(limit_option(alloc, "proto", 0, 255, "0"))?
-        .arg(limit_option(alloc, "sport", 0, 65_535, "0"))?
-        .arg(limit_option(alloc, "dport", 0, 65_535, "0"))
+    let mut command = Command::new(alloc, name);
+    for argument in arguments {
+        command = command.arg(told(alloc, argument))?;
+    }
+    Ok(command)
 }
 
-fn folder_command<'a>(alloc: Global, name: &'a str) -> Result<Command<'a>, AllocError>
-    ensures app { IfOk result (λ c. app_of c ≡ on_folder name.entry.now) }
-    ensures local { IfOk result (λ c. (out-Command c).has_globals ≡ false) }
-{
-    Command::new(alloc, name).arg(folder_argument(alloc))
-}
+const ROUNDS: Argument = Argument::Number {
+    name: "rounds",
+    least: 1,
+    most: 100_000,
+    default: "1000",
+};
+
+const WORKERS: Argument = Argument::Number {
+    name: "workers",
+    least: 1,
+    most: 64,
+    default: "4",
+};
+
+const NODES: Argument = Argument::Number {
+    name: "nodes",
+    least: 16,
+    most: 16_777_216,
+    default: "1048576",
+};
 
 fn routes_command<'a>(alloc: Global) -> Result<Command<'a>, AllocError>
-    ensures app { IfOk result (λ c. app_of c ≡ routes_app) }
-    ensures local { IfOk result (λ c. (out-Command c).has_globals ≡ false) }
+    ensures { IfOk result (λ c. IsTold c routes_app) }
 {
-    let command = folder_command(alloc, "routes")?.arg(plain_option(alloc, "router"))?;
-    limited(alloc, command)
+    command_of(
+        alloc,
+        "routes",
+        &[
+            Argument::Folder,
+            Argument::Text("router"),
+            ROUNDS,
+            WORKERS,
+            NODES,
+        ],
+    )
 }
 
 fn trace_command<'a>(alloc: Global) -> Result<Command<'a>, AllocError>
-    ensures app { IfOk result (λ c. app_of c ≡ trace_app) }
-    ensures local { IfOk result (λ c. (out-Command c).has_globals ≡ false) }
+    ensures { IfOk result (λ c. IsTold c trace_app) }
 {
-    let command = folder_command(alloc, "trace")?.arg(required_option(alloc, "from"))?;
-    let command = protocolled(alloc, addressed(alloc, command)?)?;
-    limited(alloc, command)
-}
-
-// Which packets are asked about: those from a place to an ending.
-fn reaching<'a>(alloc: Global, command: Command<'a>) -> Result<Command<'a>, AllocError>
-    requires { (out-Command command).has_globals ≡ false }
-    ensures app { IfOk result (λ c. app_of c ≡ with_reach (app_of command.entry)) }
-    ensures local { IfOk result (λ c. (out-Command c).has_globals ≡ false) }
-{
-    command
-        .arg(required_option(alloc, "from"))?
-        .arg(plain_option(alloc, "end"))?
-        .arg(limit_option(alloc, "examples", 0, 1000, "0"))
+    command_of(
+        alloc,
+        "trace",
+        &[
+            Argument::Folder,
+            Argument::Wanted("from"),
+            Argument::Wanted("dst"),
+            Argument::Source,
+            Argument::Number {
+                name: "proto",
+                least: 0,
+                most: 255,
+                default: "0",
+            },
+            Argument::Number {
+                name: "sport",
+                least: 0,
+                most: 65_535,
+                default: "0",
+            },
+            Argument::Number {
+                name: "dport",
+                least: 0,
+                most: 65_535,
+                default: "0",
+            },
+            ROUNDS,
+            WORKERS,
+            NODES,
+        ],
+    )
 }
 
 fn reach_command<'a>(alloc: Global) -> Result<Command<'a>, AllocError>
-    ensures app { IfOk result (λ c. app_of c ≡ reach_app) }
-    ensures local { IfOk result (λ c. (out-Command c).has_globals ≡ false) }
+    ensures { IfOk result (λ c. IsTold c reach_app) }
 {
-    let command = reaching(alloc, folder_command(alloc, "reach")?)?;
-    limited(alloc, command)
+    command_of(
+        alloc,
+        "reach",
+        &[
+            Argument::Folder,
+            Argument::Wanted("from"),
+            Argument::Text("end"),
+            Argument::Number {
+                name: "examples",
+                least: 0,
+                most: 1000,
+                default: "0",
+            },
+            ROUNDS,
+            WORKERS,
+            NODES,
+        ],
+    )
 }
 
 fn sample_command<'a>(alloc: Global) -> Result<Command<'a>, AllocError>
-    ensures app { IfOk result (λ c. app_of c ≡ sample_app) }
-    ensures local { IfOk result (λ c. (out-Command c).has_globals ≡ false) }
+    ensures { IfOk result (λ c. IsTold c sample_app) }
 {
-    let command = Command::new(alloc, "sample").arg(count_of_routers(alloc))?;
-    limited(alloc, command)
+    command_of(alloc, "sample", &[Argument::Count, ROUNDS, WORKERS, NODES])
 }
 
 // The words begin with a command's name, and there is no help to ask for.
 fn settings<'a>(alloc: Global) -> Command<'a>
-    ensures app { app_of result ≡ with_settings (new_app (codes "netcheck")) }
-    ensures local { (out-Command result).has_globals ≡ false }
+    ensures { IsTold result (with_settings (new_app (codes "netcheck"))) }
 {
     Command::new(alloc, "netcheck")
         .no_binary_name(true)
@@ -160,30 +234,28 @@ fn settings<'a>(alloc: Global) -> Command<'a>
         .subcommand_required(true)
 }
 
-// A command with one more command below it.
-fn with_command<'a>(command: Command<'a>, below: Command<'a>) -> Result<Command<'a>, AllocError>
-    requires above { (out-Command command).has_globals ≡ false }
-    requires below { (out-Command below).has_globals ≡ false }
-    ensures app { IfOk result (λ c. app_of c ≡ with_subcommand (app_of command.entry) (app_of below.entry).top) }
-    ensures local { IfOk result (λ c. (out-Command c).has_globals ≡ false) }
+// A command with one more command below it, where there was memory for both.
+fn with_command<'a>(
+    command: Result<Command<'a>, AllocError>,
+    below: Result<Command<'a>, AllocError>,
+) -> Result<Command<'a>, AllocError>
+    ensures { (a b : App) → IfOk command.entry (λ c. IsTold c a) → IfOk below.entry (λ c. IsTold c b) → IfOk result (λ c. IsTold c (with_subcommand a b.top)) }
 {
-    command.subcommand(below)
-}
-
-// The commands that ask about tables and walks.
-fn table_commands<'a>(alloc: Global) -> Result<Command<'a>, AllocError>
-    ensures app { IfOk result (λ c. app_of c ≡ tables_app) }
-    ensures local { IfOk result (λ c. (out-Command c).has_globals ≡ false) }
-{
-    let command = with_command(settings(alloc), routes_command(alloc)?)?;
-    with_command(command, trace_command(alloc)?)
+    match command {
+        Ok(command) => match below {
+            Ok(below) => command.subcommand(below),
+            Err(error) => Err(error),
+        },
+        Err(error) => Err(error),
+    }
 }
 
 /// The whole command line.
 pub(crate) fn netcheck_command<'a>(alloc: Global) -> Result<Command<'a>, AllocError>
-    ensures { IfOk result (λ c. app_of c ≡ netcheck_app) }
+    ensures { IfOk result (λ c. IsTold c netcheck_app) }
 {
-    let command = table_commands(alloc)?;
-    let command = with_command(command, reach_command(alloc)?)?;
-    with_command(command, sample_command(alloc)?)
+    let command = with_command(Ok(settings(alloc)), routes_command(alloc));
+    let command = with_command(command, trace_command(alloc));
+    let command = with_command(command, reach_command(alloc));
+    with_command(command, sample_command(alloc))
 }

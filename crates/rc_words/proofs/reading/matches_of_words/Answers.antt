@@ -10,19 +10,19 @@ none_in k (x ∷ xs) h e = cc
 
 pub returns-in-Ok-try_get_matches_from-clause-taken : goal.returns-in-Ok-try_get_matches_from-clause-taken
 returns-in-Ok-try_get_matches_from-clause-taken c =
-    let app = c.in-Ok.ensures in
+    let app = c.in-Ok.ensures.app in
     let words : List Text = map {A = Bor Text} {B = Text} (λ s. s.now) c.args.words.now in
     ap (λ a. fault_of a words) (sym app) ∙ c.in-Ok-try_get_matches_from.ensures.kinds (ap is_simple_and_free app ∙ simple_and_free)
 
 pub returns-in-Ok-try_get_matches_from-clause-rows : goal.returns-in-Ok-try_get_matches_from-clause-rows
 returns-in-Ok-try_get_matches_from-clause-rows c =
-    let app = c.in-Ok.ensures in
+    let app = c.in-Ok.ensures.app in
     let words : List Text = map {A = Bor Text} {B = Text} (λ s. s.now) c.args.words.now in
     (c.in-Ok-try_get_matches_from.ensures.matches (ap is_simple app ∙ simple)).1 ∙ ap (λ a. subcommand_of a words) app
 
 pub returns-in-Err-clause-usage : goal.returns-in-Err-clause-usage
 returns-in-Err-clause-usage c = λ e none.
-    let app = c.in-Ok.ensures in
+    let app = c.in-Ok.ensures.app in
     let words : List Text = map {A = Bor Text} {B = Text} (λ s. s.now) c.args.words.now in
     let usage = c.fault_from.ensures (search (rules, e)) in
     ⊎_elim usage (λ h. none_in _ _ h (ap (λ a. fault_of a words) app ∙ none))

@@ -109,8 +109,18 @@ fn is_out_of_memory(error: &io::Error) -> bool {
 }
 
 impl<R: Files + AllocGlobal + Clone + Drop> RealFolder<R> {
-    pub fn new(rt: R) -> RealFolder<R> {
+    /// The folders of the system, which have not failed yet.
+    pub fn new(rt: R) -> RealFolder<R>
+        ensures { result.faults ≡ 0 }
+    {
         RealFolder { rt, faults: 0 }
+    }
+
+    /// How often it has failed, up to 2^64 - 1.
+    pub fn faults(&self) -> u64
+        ensures { result ≡ self.now.faults }
+    {
+        self.faults
     }
 }
 
@@ -151,80 +161,5 @@ impl<R: Files + AllocGlobal + Clone + Drop> Folder for RealFolder<R> {
                 Err(SourceError::Failed)
             }
         }
-    }
-}
-
-#[cfg(test)]
-mod tests {
-    use super::RealFolder;
-    use rc_outside::{Folder, SourceError};
-    use std::fs;
-    use std::os::unix::fs::symlink;
-    use std::process::Abort;
-    use std::rt::Files;
-    use std::test::Fail;
-
-    /// A file, a link to it and one that leads nowhere, each of a configuration's name, and a folder of such a name.
-    fn make_files<R: Files + AllocGlobal>(rt: &R) -> Result<(), Fail> {
-        let _ = fs::remove_dir_all(rt, "tried");
-        fs::create_dir(rt, "tried")?;
-        fs::write(rt, "tried/a.cfg", "hostname R1\n")?;
-        symlink(rt, "a.cfg", "tried/b.cfg")?;
-        fs::create_dir(rt, "tried/c.cfg")?;
-        Ok(())
-    }
-
-    fn names_are_files<R: Files + AllocGlobal + Abort + Clone + Drop>(
-        rt: &R,
-        folder: &mut RealFolder<R>,
-    ) -> Result<(), Fail> {
-        let names = folder.names(rt.alloc(), "tried/").ok().ok_or("names")?;
-        let mut names = names.into_vec();
-        names.sort()?;
-        assert!(rt; names.len() == 2);
-        assert!(rt; names[0].as_str() == "a.cfg");
-        assert!(rt; names[1].as_str() == "b.cfg");
-        Ok(())
-    }
-
-    fn fronts_are_read<R: Files + AllocGlobal + Abort + Clone + Drop>(
-        rt: &R,
-        folder: &mut RealFolder<R>,
-    ) -> Result<(), Fail> {
-        for (most, text) in [(0, "h"), (7, "hostname"), (100, "hostname R1\n")] {
-            let read = folder.read(rt.alloc(), "tried", "b.cfg", most);
-            let bytes = read.ok().ok_or("read")?;
-            assert!(rt; bytes.as_slice() == text.as_bytes());
-        }
-        assert!(rt; folder.faults == 0);
-        Ok(())
-    }
-
-    /// A folder that isn't there, a file in the place of a folder, a link that leads nowhere, and a file that isn't there.
-    fn failures_are_counted<R: Files + AllocGlobal + Abort + Clone + Drop>(
-        rt: &R,
-        folder: &mut RealFolder<R>,
-    ) -> Result<(), Fail> {
-        symlink(rt, "gone.cfg", "tried/d.cfg")?;
-        for (dir, faults) in [("none", 1), ("tried/a.cfg", 2), ("tried", 3)] {
-            let listing = folder.names(rt.alloc(), dir);
-            assert!(rt; listing.err() == Some(SourceError::Failed));
-            assert!(rt; folder.faults == faults);
-        }
-        let read = folder.read(rt.alloc(), "tried", "none.cfg", 100);
-        assert!(rt; read.err() == Some(SourceError::Failed));
-        assert!(rt; folder.faults == 4);
-        Ok(())
-    }
-
-    #[test]
-    fn a_real_folder(rt: HostRuntime) -> Result<(), Fail> {
-        make_files(&rt)?;
-        let mut folder = RealFolder::new(rt.clone()?);
-        names_are_files(&rt, &mut folder)?;
-        fronts_are_read(&rt, &mut folder)?;
-        failures_are_counted(&rt, &mut folder)?;
-        fs::remove_dir_all(&rt, "tried")?;
-        Ok(())
     }
 }

@@ -1,0 +1,15 @@
+use Rattle.std.proofs.Common.{codes}
+use Rattle.clap.specs.Words.{App, new_app, with_subcommand}
+use Rattle.rc_words.specs.App.{routes_app, trace_app, reach_app, sample_app, with_settings}
+use Rattle.rc_words.proofs.app.netcheck_command.Goals as goal
+
+pub returns : goal.returns
+returns c =
+    let alone : App = with_settings (new_app (codes "netcheck")) in
+    let one : App = with_subcommand alone routes_app.top in
+    let two : App = with_subcommand one trace_app.top in
+    let three : App = with_subcommand two reach_app.top in
+    let first = c.with_command-command.ensures alone routes_app c.settings.ensures c.routes_command.ensures in
+    let second = c.with_command-command-2.ensures one trace_app first c.trace_command.ensures in
+    let third = c.with_command-command-3.ensures two reach_app second c.reach_command.ensures in
+    c.with_command.ensures three sample_app third c.sample_command.ensures
