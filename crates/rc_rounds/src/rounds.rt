@@ -8,6 +8,7 @@ ghost use Rattle.rc_rounds.specs.Rounds.{EndsAs, IsInOrder, IsOutcome, HasOneOut
 ghost use Rattle.rc_rounds.specs.Setting.{IsSetting};
 
 use crate::Outcome;
+use crate::parts::Round;
 use crate::progress::{Progress, Same};
 use rc_bgp::{Sessions, sessions};
 use rc_config::Network;
@@ -82,12 +83,16 @@ fn rounds_within<R: Threads + Sync, G: Gate>(
 {
     let mut progress = Progress::start(alloc, net)?;
     for done in 0..limit {
-        let next = progress.next(rt, alloc, net, internal, sessions, workers, gate)?;
+        let round = progress.next(rt, alloc, net, internal, sessions, workers, gate)?;
+        let Round {
+            state: next,
+            changes,
+        } = round;
         let same = progress.same(&next);
         match same {
             Same::Last => return Ok(Outcome::Fixed(done + 1, next)),
             Same::Checkpoint => return Ok(Outcome::Repeats(progress.checkpoint, done + 1)),
-            Same::Neither => progress = progress.after(next),
+            Same::Neither => progress = progress.after(next, changes),
         }
     }
     Ok(Outcome::Limit(limit))
