@@ -136,14 +136,9 @@ pub(crate) fn reads_alike(
     requires previous { All IsRouterState previous.now }
     ensures { IfOk result (λ is. is ≡ true → ReadsAlike net.now sessions.now earlier.now previous.now router) }
 {
-    if !originates_alike(alloc, net, earlier, previous, router)? {
+    let sessions = sessions_of(sessions, router);
+    if !are_heard_alike(alloc, earlier, previous, router, sessions)? {
         return Ok(false);
     }
-    are_heard_alike(
-        alloc,
-        earlier,
-        previous,
-        router,
-        sessions_of(sessions, router),
-    )
+    originates_alike(alloc, net, earlier, previous, router)
 }
