@@ -5,3 +5,7 @@ mod KnownLaws
 mod RangeLaws
 mod BestLaws
 mod WayLaws
+mod ChangeLaws
+mod PartLaws
+mod ListedLaws
+mod AlikeLaws

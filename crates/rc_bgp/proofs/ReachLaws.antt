@@ -1,12 +1,12 @@
 -- The longest prefix of an address as a scan, and resolving level by level.
-use Rattle.std.proofs.Common.{refl, ◌≡◌, ap, sym, ◌∙◌, ℕ, zero, suc, ◌+◌, ◌-◌, ◌<◌, ◌≤◌, Bool, true, false, cond, ◌||◌, ◌&&◌, List, [], ◌∷◌, ◌++◌, map, append-nil, Option, Some, None, nat_lt, arith}
-use Rattle.std.specs.List.{filter, filter_map, flat_map, fold, list_any, reduce, cons_option}
-use Rattle.std.specs.Option.{option_map_or}
+use Rattle.std.proofs.Common.{refl, ◌≡◌, ap, sym, ◌∙◌, ℕ, suc, ◌+◌, ◌-◌, ◌<◌, ◌≤◌, Bool, true, false, cond, ◌||◌, ◌&&◌, List, [], ◌∷◌, ◌++◌, map, append-nil, Option, Some, None, nat_lt, arith}
+use Rattle.std.specs.List.{filter, flat_map, list_any, reduce, cons_option}
+use Rattle.std.specs.Option.{option_map, option_map_or}
 use Rattle.std.specs.Ordering.{nat_cmp}
 use Rattle.std.specs.FinMap.{nat_cmp-IsAntisymmetric}
 use Rattle.std.proofs.lemmas.List.Sums.{fold-append}
 use Rattle.std.proofs.lemmas.List.Folds.{list_any-append}
-use Rattle.rc_base.specs.Lists.{first_seen, in_order}
+use Rattle.rc_base.specs.Lists.{in_order}
 use Rattle.rc_base.specs.Prefix.{contains}
 use Rattle.rc_base.proofs.OrderedLaws.{any-in_order}
 use Rattle.rc_base.proofs.FirstSeenLaws.{any-first_seen}
@@ -16,9 +16,9 @@ use Rattle.rc_route.specs.declared.route.Hop.{Hop}
 use Rattle.rc_route.specs.declared.route.Hop.TheVariants.{Null, Dev, Via}
 use Rattle.rc_route.specs.declared.route.Route.{Route}
 use Rattle.rc_fib.specs.Entries.{gateway_of}
-use Rattle.rc_fib.specs.Forwarding.{has_interface, hops_of, hops_within, longest, resolve_all, resolve_hop, with_gateway}
-use Rattle.rc_bgp.specs.Levels.{is_longer, longer, first_hops, is_direct, gateways, gateways_of}
-use Rattle.rc_bgp.specs.Reaching.{reaches}
+use Rattle.rc_fib.specs.Forwarding.{has_interface, hops_within, longest, resolve_all, resolve_hop, with_gateway}
+use Rattle.rc_bgp.specs.Levels.{longer, is_direct, gateways, gateways_of}
+use Rattle.rc_bgp.specs.Reaching.{metric_to, reaches}
 
 -- ---- the longest as a scan
 
@@ -163,3 +163,20 @@ module _ (table : List Route) where
   -- an address that is direct resolves
   pub direct_reaches : (a : ℕ) → is_direct table a ≡ true → true ≡ reaches table a
   direct_reaches a is = sym (one_level 15 a ∙ ap (λ b. b || list_any (within table 15) (gateways_of table a)) is)
+
+  -- ---- the metric, by the route of the address
+  pub reached_metric : (a : ℕ) (r : Route) → longest table a ≡ Some r → reaches table a ≡ true → Some r.metric ≡ metric_to table a
+  reached_metric a r found is = sym (ap (λ b. cond b (option_map (λ (x : Route). x.metric) (longest table a)) None) is ∙ ap (option_map (λ (x : Route). x.metric)) found)
+
+  pub direct_metric : (a : ℕ) (r : Route) → longest table a ≡ Some r → list_any has_interface r.hops ≡ true → Some r.metric ≡ metric_to table a
+  direct_metric a r found is = reached_metric a r found (sym (direct_reaches a (ap (λ o. list_any has_interface (option_map_or (λ (x : Route). x.hops) o [])) found ∙ is)))
+
+  pub unreached_metric : (a : ℕ) → reaches table a ≡ false → None ≡ metric_to table a
+  unreached_metric a is = sym (ap (λ b. cond b (option_map (λ (x : Route). x.metric) (longest table a)) None) is)
+
+  pub no_metric : (a : ℕ) → longest table a ≡ None → None ≡ metric_to table a
+  no_metric a none = sym (ap (λ o. cond (reaches table a) (option_map (λ (x : Route). x.metric) o) None) none ∙ either (reaches table a))
+    where
+      either : (b : Bool) → cond b (option_map (λ (x : Route). x.metric) None) None ≡ None
+      either true = refl
+      either false = refl

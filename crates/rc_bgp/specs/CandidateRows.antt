@@ -1,15 +1,13 @@
 -- Worked cases of origination, candidates and best paths, each by computation.
-use Rattle.std.specs.Prelude.{◌≡◌, ℕ, ◌+◌, ◌*◌, true, false, List, [], ◌∷◌, Option, Some, None, codes, refl}
-use Rattle.rc_base.specs.Prefix.{Cidr, prefix_at}
-use Rattle.rc_config.specs.IfType.{type_of}
-use Rattle.rc_config.specs.declared.bgp.BgpProcess.{BgpProcess}
+use Rattle.std.specs.Prelude.{◌≡◌, true, List, [], ◌∷◌, refl}
+use Rattle.rc_base.specs.Prefix.{prefix_at}
 use Rattle.rc_config.specs.declared.bgp.Neighbor.{Neighbor}
 use Rattle.rc_config.specs.declared.network.Network.{Network}
 use Rattle.rc_config.specs.declared.router_text.RouterText.{RouterText}
 use Rattle.rc_fib.specs.Forwarding.{hops_within}
 use Rattle.rc_route.specs.declared.path.BgpPath.{BgpPath}
 use Rattle.rc_route.specs.declared.path.PathSource.TheVariants.{Network as ByNetwork, External, Internal}
-use Rattle.rc_route.specs.declared.route.Hop.TheVariants.{Null, Via}
+use Rattle.rc_route.specs.declared.route.Hop.TheVariants.{Null}
 use Rattle.rc_route.specs.declared.route.Route.{Route}
 use Rattle.rc_route.specs.declared.route.Source.TheVariants.{Ebgp, Ospf}
 use Rattle.rc_route.specs.declared.state.RouterState.{RouterState}

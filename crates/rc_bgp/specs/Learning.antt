@@ -1,5 +1,5 @@
 -- The route that a best path gives its router's table.
-use Rattle.std.specs.Prelude.{ℕ, List, [], ◌∷◌, Option, Some, None}
+use Rattle.std.specs.Prelude.{ℕ, [], ◌∷◌, Option, Some, None}
 use Rattle.rc_route.specs.declared.path.BgpPath.{BgpPath}
 use Rattle.rc_route.specs.declared.path.PathSource.{PathSource}
 use Rattle.rc_route.specs.declared.path.PathSource.TheVariants.{External, Internal}

@@ -10,8 +10,11 @@ pub mod Redistributing
 pub mod Own
 pub mod Candidates
 pub mod Learning
+pub mod Mending
+pub mod Changes
 pub mod Nets
 pub mod SessionRows
 pub mod PassingRows
 pub mod CandidateRows
 pub mod RedistributionRows
+pub mod ChangeRows

@@ -1,8 +1,7 @@
 -- Small networks for worked cases.
-use Rattle.std.specs.Prelude.{ℕ, ◌+◌, ◌*◌, true, false, List, [], ◌∷◌, Option, Some, None, codes}
+use Rattle.std.specs.Prelude.{ℕ, ◌+◌, ◌*◌, true, false, List, [], ◌∷◌, Some, None, codes}
 use Rattle.rc_base.specs.Prefix.{Cidr, prefix_at}
 use Rattle.rc_base.specs.declared.origin.Origin.TheVariants.{Igp}
-use Rattle.rc_base.specs.declared.position.IfId.{IfId}
 use Rattle.rc_config.specs.Bgp.{no_lines, no_settings}
 use Rattle.rc_config.specs.Interface.{fresh}
 use Rattle.rc_config.specs.Update.{empty}
@@ -15,7 +14,6 @@ use Rattle.rc_route.specs.declared.path.BgpPath.{BgpPath}
 use Rattle.rc_route.specs.declared.path.PathSource.{PathSource}
 use Rattle.rc_route.specs.declared.route.Hop.TheVariants.{Dev, Via}
 use Rattle.rc_route.specs.declared.route.Route.{Route}
-use Rattle.rc_route.specs.declared.route.Source.{Source}
 use Rattle.rc_route.specs.declared.route.Source.TheVariants.{Connected, Static}
 use Rattle.rc_route.specs.declared.state.RouterState.{RouterState}
 use Rattle.rc_bgp.specs.declared.session.Session.{Session}

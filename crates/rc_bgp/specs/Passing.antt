@@ -1,9 +1,9 @@
 -- What a session makes of a path: what its sender exports (RFC 4271 s.9.2, s.5.1) and what its receiver imports (s.9.1).
 use Rattle.std.specs.Prelude.{ℕ, ◌==◌, Bool, true, not, ◌&&◌, ◌||◌, if◌then◌else◌, List, [], ◌∷◌, Option, Some, None, option_and_then}
 use Rattle.std.specs.List.{list_any}
-use Rattle.std.specs.Option.{option_map, option_map_or}
+use Rattle.std.specs.Option.{option_map}
 use Rattle.rc_base.specs.Communities.{has_community}
-use Rattle.rc_base.specs.Prefix.{Cidr, prefix_at, same_prefix}
+use Rattle.rc_base.specs.Prefix.{Cidr, prefix_at}
 use Rattle.rc_base.specs.declared.origin.Origin.TheVariants.{Igp}
 use Rattle.rc_bgp_decide.specs.Decision.{is_internal, is_originated}
 use Rattle.rc_config.specs.Bgp.{address_of}

@@ -1,15 +1,12 @@
 -- Worked cases of export, import and the routes of best paths, each by computation.
-use Rattle.std.specs.Prelude.{◌≡◌, ℕ, ◌+◌, ◌*◌, true, false, List, [], ◌∷◌, Option, Some, None, codes, refl}
-use Rattle.rc_base.specs.Prefix.{prefix_at}
+use Rattle.std.specs.Prelude.{◌≡◌, ℕ, true, List, [], ◌∷◌, Option, Some, None, codes, refl}
 use Rattle.rc_base.specs.declared.origin.Origin.TheVariants.{Egp, Incomplete}
 use Rattle.rc_config.specs.PrefixList.{no_lines as no_prefix_lines, with_line}
 use Rattle.rc_config.specs.RouteMap.{fresh_entry}
 use Rattle.rc_config.specs.Sets.{no_sets}
 use Rattle.rc_config.specs.Update.{empty}
-use Rattle.rc_config.specs.declared.access_list.Action.{Action}
-use Rattle.rc_config.specs.declared.access_list.Action.TheVariants.{Permit, Deny}
+use Rattle.rc_config.specs.declared.access_list.Action.TheVariants.{Permit}
 use Rattle.rc_config.specs.declared.bgp.Neighbor.{Neighbor}
-use Rattle.rc_config.specs.declared.route_map.MapEntry.{MapEntry}
 use Rattle.rc_config.specs.declared.route_map.Mention.{Mention}
 use Rattle.rc_config.specs.declared.route_map.RouteMap.{RouteMap}
 use Rattle.rc_config.specs.declared.router_text.RouterText.{RouterText}

@@ -2,7 +2,7 @@
 use Rattle.std.specs.Prelude.{ℕ, ◌==◌, Bool, true, false, not, ◌&&◌, if◌then◌else◌, List, [], Option, None, map, option_and_then, unwrap_or}
 use Rattle.std.specs.List.{filter_map, flat_map, list_any}
 use Rattle.std.specs.Option.{option_map_or}
-use Rattle.rc_base.specs.Prefix.{Cidr, prefix_at, same_prefix}
+use Rattle.rc_base.specs.Prefix.{Cidr, same_prefix}
 use Rattle.rc_base.specs.declared.origin.Origin.TheVariants.{Incomplete}
 use Rattle.rc_config.specs.Bgp.{process_of}
 use Rattle.rc_config.specs.ByNumber.{with_number}

@@ -1,6 +1,6 @@
 -- Worked cases of redistribution into BGP, each by computation.
-use Rattle.std.specs.Prelude.{◌≡◌, ℕ, ◌+◌, ◌*◌, true, false, List, [], ◌∷◌, Option, Some, None, codes, refl}
-use Rattle.rc_base.specs.Prefix.{Cidr, prefix_at}
+use Rattle.std.specs.Prelude.{◌≡◌, ℕ, true, false, List, [], ◌∷◌, Some, None, codes, refl}
+use Rattle.rc_base.specs.Prefix.{prefix_at}
 use Rattle.rc_base.specs.declared.origin.Origin.TheVariants.{Incomplete}
 use Rattle.rc_config.specs.Bgp.{no_lines}
 use Rattle.rc_config.specs.Ospf.{no_lines as no_ospf_lines}
@@ -9,10 +9,8 @@ use Rattle.rc_config.specs.Sets.{no_sets}
 use Rattle.rc_config.specs.Update.{empty}
 use Rattle.rc_config.specs.IfType.{type_of}
 use Rattle.rc_config.specs.declared.access_list.Action.TheVariants.{Permit}
-use Rattle.rc_config.specs.declared.bgp.BgpProcess.{BgpProcess}
 use Rattle.rc_config.specs.declared.bgp.BgpRedistribution.{BgpRedistribution}
 use Rattle.rc_config.specs.declared.bgp.OspfKinds.{OspfKinds}
-use Rattle.rc_config.specs.declared.bgp.OspfRedistribution.{OspfRedistribution}
 use Rattle.rc_config.specs.declared.network.Network.{Network}
 use Rattle.rc_config.specs.declared.router_text.RouterText.{RouterText}
 use Rattle.rc_route.specs.declared.path.BgpPath.{BgpPath}
@@ -22,7 +20,7 @@ use Rattle.rc_route.specs.declared.route.Route.{Route}
 use Rattle.rc_route.specs.declared.route.Source.{Source}
 use Rattle.rc_route.specs.declared.route.Source.TheVariants as source
 use Rattle.rc_ospf.specs.Interfaces.{ospf_interfaces}
-use Rattle.rc_bgp.specs.Nets.{ip, subnet, gigabit, loopback, on, ninth}
+use Rattle.rc_bgp.specs.Nets.{subnet, gigabit, loopback, on}
 use Rattle.rc_bgp.specs.Originating.{originated}
 use Rattle.rc_bgp.specs.Own.{own_paths}
 use Rattle.rc_bgp.specs.Redistributing.{no_kinds, redistributed_paths}

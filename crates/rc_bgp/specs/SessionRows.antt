@@ -1,5 +1,5 @@
 -- Worked cases of identifiers and sessions, each by computation.
-use Rattle.std.specs.Prelude.{◌≡◌, ℕ, ◌+◌, ◌*◌, true, false, List, [], ◌∷◌, Option, Some, None, codes, refl}
+use Rattle.std.specs.Prelude.{◌≡◌, ℕ, true, false, List, [], ◌∷◌, Some, None, codes, refl}
 use Rattle.rc_base.specs.Prefix.{prefix_at}
 use Rattle.rc_config.specs.Bgp.{no_lines}
 use Rattle.rc_config.specs.IfType.{type_of}

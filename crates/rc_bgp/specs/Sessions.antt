@@ -1,7 +1,7 @@
 -- BGP sessions (RFC 4271 s.8.2.1): which pairs of `neighbor` statements make one, and which of them are up in a state.
 use Rattle.std.specs.Prelude.{ℕ, ◌==◌, Bool, not, ◌&&◌, ◌||◌, if◌then◌else◌, List, [], map, Option, Some, None, option_and_then, slice_get, unwrap_or}
 use Rattle.std.specs.List.{filter, filter_map, flat_map, list_any}
-use Rattle.rc_base.specs.Prefix.{Cidr, same_prefix}
+use Rattle.rc_base.specs.Prefix.{same_prefix}
 use Rattle.rc_config.specs.declared.network.Network.{Network}
 use Rattle.rc_route.specs.declared.state.RouterState.{RouterState}
 use Rattle.rc_topology.specs.Links.{are_linked}

@@ -1,10 +1,10 @@
 -- What each router says in BGP: its AS, its identifier (RFC 4271 s.4.2), its own addresses and those from which it speaks.
-use Rattle.std.specs.Prelude.{ℕ, ◌==◌, max, Bool, if◌then◌else◌, List, [], map, length, Option, Some, None, unwrap_or, option_and_then, slice_get}
+use Rattle.std.specs.Prelude.{ℕ, max, if◌then◌else◌, List, [], map, length, Option, Some, None, unwrap_or, option_and_then, slice_get}
 use Rattle.std.specs.List.{filter, filter_map, flat_map, find, fold, range_with_len}
 use Rattle.std.specs.Option.{option_map, option_map_or, option_or}
 use Rattle.std.specs.Ordering.{nat_cmp}
 use Rattle.rc_base.specs.Lists.{in_order}
-use Rattle.rc_base.specs.Prefix.{Cidr, contains}
+use Rattle.rc_base.specs.Prefix.{contains}
 use Rattle.rc_base.specs.declared.position.IfId.{IfId}
 use Rattle.rc_config.specs.Bgp.{address_of}
 use Rattle.rc_config.specs.ByNumber.{with_number}

@@ -10,7 +10,7 @@ ghost use Rattle.rc_bgp.specs.Candidates as spec;
 
 use crate::hearing::candidates_at;
 use crate::known::{at_path, paths_of, table_of};
-use crate::originating::listed;
+use crate::originating::{insert, listed};
 use crate::own_paths::own_paths;
 use crate::passing::default_prefix;
 use crate::resolver::Resolver;
@@ -42,7 +42,7 @@ fn best_of(alloc: Global, paths: &[BgpPath]) -> Result<Option<BgpPath>, AllocErr
 }
 
 /// The best path for a prefix.
-fn best_among(
+pub(crate) fn best_among(
     alloc: Global,
     net: &Network,
     state: &State,
@@ -60,16 +60,8 @@ fn best_among(
     best_of(alloc, paths.as_slice())
 }
 
-/// Puts a prefix into a set.
-fn insert(set: &mut BTreeSet<Prefix>, prefix: Prefix) -> Result<(), AllocError>
-    ensures { OnOk result (keys set.new ≡ insert_key prefix_cmp (keys set.old) prefix) }
-{
-    set.insert(prefix)?;
-    Ok(())
-}
-
 /// Puts the prefixes of paths into a set.
-fn add_prefixes(set: &mut BTreeSet<Prefix>, paths: &[BgpPath]) -> Result<(), AllocError>
+pub(crate) fn add_prefixes(set: &mut BTreeSet<Prefix>, paths: &[BgpPath]) -> Result<(), AllocError>
     ensures { OnOk result (keys set.new ≡ fold (insert_key prefix_cmp) (keys set.old) (spec.prefixes_of paths.now)) }
 {
     for path in paths {
@@ -122,7 +114,7 @@ fn prefixes_seen(
 }
 
 /// One path more, if there is one.
-fn push_some(paths: &mut Items<BgpPath>, path: Option<BgpPath>) -> Result<(), AllocError>
+pub(crate) fn push_some(paths: &mut Items<BgpPath>, path: Option<BgpPath>) -> Result<(), AllocError>
     ensures { OnOk result (paths.new ≡ paths.old ++ option_to_list path) }
 {
     match path {
@@ -157,7 +149,7 @@ fn best_for(
 /// The best paths of a router after a state: for each prefix that has a candidate the best of them (RFC 4271 s.9.1), by address,
 /// then length. It errs only where memory runs out.
 #[tactic(auto, using(crate::proofs::BestLaws::best_in_order), unfolding(crate::specs::Candidates::best_paths))]
-pub fn best_paths(
+pub(crate) fn best_paths(
     alloc: Global,
     net: &Network,
     sessions: &Sessions,

@@ -5,10 +5,13 @@
 //! candidates and best paths as functions of the network, the sessions and what all routers knew before, in their order.
 #![tactic(auto)]
 
+mod alike;
+mod changes;
 mod deciding;
 mod hearing;
 mod known;
 mod learning;
+mod mending;
 mod originating;
 mod own;
 mod own_paths;
@@ -17,14 +20,17 @@ mod passing;
 mod policy;
 mod reaching;
 mod redistributing;
+mod renewing;
 mod resolver;
 mod session;
 mod speaker;
 mod statement;
 mod up;
 
-pub use deciding::{best_paths, candidates};
+pub use changes::{Changes, Renewed};
+pub use deciding::candidates;
 pub use learning::learned_route;
 pub use pairing::sessions;
 pub use passing::{export, import};
+pub use renewing::{first_paths, renewed_paths};
 pub use session::{Session, Sessions};

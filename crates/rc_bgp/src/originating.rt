@@ -82,22 +82,21 @@ fn by_network(alloc: Global, router: RouterId, table: &[Route], prefix: &Prefix)
 }
 
 /// Puts a prefix into a set.
-fn insert(set: &mut BTreeSet<Prefix>, prefix: Prefix) -> Result<(), AllocError>
+pub(crate) fn insert(set: &mut BTreeSet<Prefix>, prefix: Prefix) -> Result<(), AllocError>
     ensures { OnOk result (keys set.new ≡ insert_key prefix_cmp (keys set.old) prefix) }
 {
     set.insert(prefix)?;
     Ok(())
 }
 
-/// Prefixes as a set.
-fn prefix_set(alloc: Global, prefixes: &[Prefix]) -> Result<BTreeSet<Prefix>, AllocError>
-    ensures { IfOk result (λ set. keys set ≡ in_order prefix_cmp prefixes.now) }
+/// Puts prefixes into a set.
+pub(crate) fn insert_all(set: &mut BTreeSet<Prefix>, prefixes: &[Prefix]) -> Result<(), AllocError>
+    ensures { OnOk result (keys set.new ≡ fold (insert_key prefix_cmp) (keys set.old) prefixes.now) }
 {
-    let mut set = BTreeSet::new(alloc);
     for prefix in prefixes {
-        insert(&mut set, *prefix)?;
+        insert(set, *prefix)?;
     }
-    Ok(set)
+    Ok(())
 }
 
 /// The prefixes of a set as a list.
@@ -144,7 +143,8 @@ pub(crate) fn by_networks(
     ensures value { IfOk result (λ paths. paths ≡ spec.by_networks router table.now networks.now) }
     ensures in_order { IfOk result IsPathList }
 {
-    let set = prefix_set(alloc, networks)?;
+    let mut set = BTreeSet::new(alloc);
+    insert_all(&mut set, networks)?;
     let prefixes = listed(alloc, set)?;
     paths_for(alloc, router, table, prefixes.as_slice())
 }

@@ -1,5 +1,5 @@
 //! Whether an address resolves in a table that isn't prepared, and the metric of the route to it.
-ghost use Rattle.std.specs.Prelude.{◌≡◌, IfOk, OnOk};
+ghost use Rattle.std.specs.Prelude.{◌≡◌, IfOk, OnOk, Some};
 ghost use Rattle.std.specs.List.{fold, flat_map, list_any};
 ghost use Rattle.std.specs.Option.{option_copied};
 ghost use Rattle.std.specs.Ordering.{nat_cmp};
@@ -168,7 +168,28 @@ pub(crate) fn reaches(alloc: Global, table: &[Route], addr: Addr) -> Result<bool
     reaches_on(alloc, table, addr)
 }
 
+/// The metric of the route of an address, where the address resolves.
+#[tactic(auto, using(crate::proofs::ReachLaws::direct_metric, crate::proofs::ReachLaws::reached_metric, crate::proofs::ReachLaws::unreached_metric))]
+fn metric_over(
+    alloc: Global,
+    table: &[Route],
+    addr: Addr,
+    route: &Route,
+) -> Result<Option<u32>, AllocError>
+    requires { longest table.now addr ≡ Some route.now }
+    ensures { IfOk result (λ metric. metric ≡ spec.metric_to table.now addr) }
+{
+    if some_interface(route.hops.as_slice()) {
+        return Ok(Some(route.metric));
+    }
+    if !reaches_on(alloc, table, addr)? {
+        return Ok(None);
+    }
+    Ok(Some(route.metric))
+}
+
 /// The metric of the route to an address that resolves, or `None` exactly where it doesn't.
+#[tactic(auto, using(crate::proofs::ReachLaws::no_metric))]
 pub(crate) fn metric_to(
     alloc: Global,
     table: &[Route],
@@ -176,12 +197,9 @@ pub(crate) fn metric_to(
 ) -> Result<Option<u32>, AllocError>
     ensures { IfOk result (λ metric. metric ≡ spec.metric_to table.now addr) }
 {
-    if !reaches(alloc, table, addr)? {
-        return Ok(None);
-    }
     let found = longest_route(table, addr);
     match found {
-        Some(route) => Ok(Some(route.metric)),
         None => Ok(None),
+        Some(route) => metric_over(alloc, table, addr, route),
     }
 }

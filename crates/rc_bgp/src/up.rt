@@ -32,7 +32,7 @@ fn is_far_up(alloc: Global, state: &State, session: &Session) -> Result<bool, Al
 }
 
 /// Whether a session is up in a state.
-fn is_up(alloc: Global, state: &State, session: &Session) -> Result<bool, AllocError>
+pub(crate) fn is_up(alloc: Global, state: &State, session: &Session) -> Result<bool, AllocError>
     requires { All IsRouterState state.now }
     ensures { IfOk result (λ is. is ≡ spec.is_up state.now session.now) }
 {
@@ -43,7 +43,7 @@ fn is_up(alloc: Global, state: &State, session: &Session) -> Result<bool, AllocE
 }
 
 /// The sessions to a router.
-fn sessions_of(sessions: &Sessions, router: RouterId) -> &[Session]
+pub(crate) fn sessions_of(sessions: &Sessions, router: RouterId) -> &[Session]
     ensures { result.now ≡ spec.sessions_of sessions.now router }
 {
     let found = sessions.as_slice().get(router.index());

@@ -1,11 +1,13 @@
 -- A router that reads what it read a round earlier knows the same again.
-use Rattle.std.proofs.Common.{refl, ◌≡◌, ◌⊎◌, inl, inr, ap, sym, ◌∙◌, subst, ℕ, ◌+◌, ◌<◌, List, [], ◌∷◌, ◌++◌, All, Option, Some, None, IfSome, length, arith}
+use Rattle.std.proofs.Common.{refl, ◌≡◌, ◌⊎◌, inl, inr, ap, sym, ◌∙◌, subst, ℕ, zero, suc, ◌+◌, ◌<◌, List, [], ◌∷◌, ◌++◌, All, Option, Some, None, IfSome, length, arith}
 use Rattle.std.specs.List.{cons_option, filter, filter_map, range_with_len, slice_get}
 use Rattle.std.specs.Option.{option_map, option_map_or}
 use Rattle.std.proofs.lemmas.Option.{same_Some, slice_get-map, slice_get-get_or, slice_get_within, get_or_from_slice_get}
 use Rattle.std.proofs.lemmas.List.FromFn.{length-range_with_len, get_or-range_with_len}
+use Rattle.rc_base.specs.Prefix.{Cidr}
 use Rattle.rc_bgp.specs.Candidates.{all_best, best_paths}
-use Rattle.rc_bgp.specs.Known.{table_of}
+use Rattle.rc_bgp.specs.Changes.{CoversChange}
+use Rattle.rc_bgp.specs.Known.{path_at, paths_of, table_of}
 use Rattle.rc_bgp.specs.Own.{own_paths, paths_of_process}
 use Rattle.rc_bgp.specs.Sessions.{is_up, sessions, sessions_of}
 use Rattle.rc_bgp.specs.declared.session.Session.{Session}
@@ -68,6 +70,27 @@ module _ (net : Network) (internal : Internal) (all : List (List Session)) (r : 
   row old =
       slice_get-map (next_router net internal old) (router_ids net) r ∙ ap (option_map (next_router net internal old)) (numbered (length net.routers) r here)
 
+  within : {X : Type 0} (xs : List X) (k : ℕ) → k < length xs → slice_get xs k ≡ None → ⊥
+  within [] k less none = absurd (omega arith)
+  within (x ∷ xs) zero less none = absurd (cc)
+  within (x ∷ xs) (suc k) less none = within xs k (omega arith) none
+
+  -- it has a file
+  pub has_file : router_at net r ≡ None → ⊥
+  has_file none = by (slice_get net.routers r) refl none
+    where
+      by : (o : Option (List ℕ × RouterText)) → slice_get net.routers r ≡ o → option_map (λ e. e.1) o ≡ None → ⊥
+      by None e none = within net.routers r here e
+      by (Some f) e none = absurd (cc)
+
+  -- its best paths in a state that came from an earlier one
+  pub known_paths : all ≡ sessions net internal.links → (state before : List RouterState) → state ≡ next_state net internal before → paths_of state r ≡ best_paths net all before r
+  known_paths these state before is = ap (λ all. paths_of all r) is ∙ ap (λ o. option_map_or (λ (s : RouterState). s.paths) o []) (row before) ∙ by (router_at net r) refl
+    where
+      by : (o : Option RouterText) → router_at net r ≡ o → (option_map_or (router_after net internal before r) o (record { table = []; paths = [] })).paths ≡ best_paths net all before r
+      by None e = absurd (has_file e)
+      by (Some file) e = ap (λ ss. best_paths net ss before r) (sym these)
+
   -- with this file, from its previous table, its best paths and what comes from outside of the AS
   after : RouterText → List Route → List BgpPath → List Route → RouterState
   after file table paths outside = record {
@@ -108,3 +131,7 @@ module _ (net : Network) (internal : Internal) (all : List (List Session)) (r : 
 pub known_in_order : (state : List RouterState) (r : ℕ) (s : RouterState) → All IsRouterState state → slice_get state r ≡ Some s → IsRouterState s
 known_in_order state r s all is =
     subst IsRouterState (get_or_from_slice_get state r s s is) (all r s (slice_get_within state r s is))
+
+-- the same paths say the same
+pub nothing_changed : (state : List RouterState) (r : ℕ) (s : RouterState) (paths : List BgpPath) (changed : List Cidr) → slice_get state r ≡ Some s → paths ≡ s.paths → CoversChange changed (paths_of state r) paths
+nothing_changed state r s paths changed known same = record { elsewhere = λ p none. ap (λ l. path_at l p) (ap (λ o. option_map_or (λ (t : RouterState). t.paths) o []) known ∙ sym same) }

@@ -1,7 +1,8 @@
 -- The static route of a prefix is what its active lines make, one after another.
 use Rattle.std.proofs.Common.{refl, ◌≡◌, ap, sym, ◌∙◌, ℕ, ◌<◌, ◌≤◌, min, ◌==◌, Bool, true, false, cond, List, [], ◌∷◌, ◌++◌, map, nat_lt, Some, None, append_assoc, arith}
-use Rattle.std.specs.List.{fold, filter_map, cons_option}
+use Rattle.std.specs.List.{fold, filter_map, cons_option, list_any}
 use Rattle.std.specs.Option.{option_map}
+use Rattle.std.proofs.lemmas.Bool.{or_parts}
 use Rattle.std.proofs.lemmas.Bool.Decides.{nat_tests}
 use Rattle.std.proofs.lemmas.Grind.{common_steps}
 use Rattle.std.proofs.lemmas.List.{map-append}
@@ -11,11 +12,13 @@ use Rattle.rc_base.specs.Lists.{in_order}
 use Rattle.rc_base.specs.Prefix.{Cidr, prefix_cmp}
 use Rattle.rc_config.specs.Down.{Entries}
 use Rattle.rc_config.specs.declared.static_route.StaticRoute.{StaticRoute}
+use Rattle.rc_config.specs.declared.static_route.Target.{Target}
+use Rattle.rc_config.specs.declared.static_route.Target.TheVariants as target
 use Rattle.rc_fib.specs.declared.entry.Entry.{Entry}
 use Rattle.rc_route.specs.declared.route.Hop.{Hop}
 use Rattle.rc_base.specs.Groups.{grouped, value_of, value_at}
 use Rattle.rc_rib.specs.Offers.{line_prefix, with_line, route_of_hops}
-use Rattle.rc_rib.specs.Static.{least_distance, lines_of, lines_at, active_lines, static_route, static_routes}
+use Rattle.rc_rib.specs.Static.{active_hop, asks_table, least_distance, lines_of, lines_at, active_lines, static_route, static_routes}
 use Rattle.rc_rib.specs.declared.active.ActiveLine.{ActiveLine}
 use Rattle.rc_rib.specs.declared.grouping.StaticHops.{StaticHops}
 use Rattle.rc_base.proofs.GroupLaws.{grouped_rows}
@@ -128,3 +131,18 @@ routes_of_lines lines = grouped_rows line_prefix with_line route_of_hops lines �
 pub no_lines : (r : ℕ) (entries : Entries) (old : List Entry) (lines : List StaticRoute) → lines ≡ [] → [] ≡ static_routes (active_lines r entries old lines)
 unfolding static_routes
 no_lines r entries old lines none = rw none refl
+
+-- lines that ask no table are active alike beside every one
+module _ (r : ℕ) (entries : Entries) (a b : List Entry) where
+  alike : (p : Cidr) (t : Target) → asks_table t ≡ false → active_hop r entries a p t ≡ active_hop r entries b p t
+  alike p target.Null none = refl
+  alike p (target.Dev name) none = refl
+  alike p (target.ViaDev g name) none = refl
+  alike p (target.Via g) none = absurd (cc)
+
+  pub none_asks : (lines : List StaticRoute) → list_any (λ (s : StaticRoute). asks_table s.target) lines ≡ false → active_lines r entries a lines ≡ active_lines r entries b lines
+  none_asks [] none = refl
+  none_asks (s ∷ ss) none =
+      let parts = or_parts (asks_table s.target) (list_any (λ (t : StaticRoute). asks_table t.target) ss) none in
+      let hops = alike s.prefix s.target parts.0 in
+      λ i. cons_option (cond (s.distance == 255) None (option_map (λ hop. record { prefix = s.prefix; distance = s.distance; hop = hop }) (hops i))) (none_asks ss parts.1 i)

@@ -1,5 +1,5 @@
 -- The static routes of a router, from the lines of its file and its previous table.
-use Rattle.std.specs.Prelude.{ℕ, min, ◌==◌, Bool, false, not, ◌&&◌, if◌then◌else◌, List, [], ◌∷◌, map, filter, Option, Some, None}
+use Rattle.std.specs.Prelude.{ℕ, min, ◌==◌, Bool, true, false, not, ◌&&◌, if◌then◌else◌, List, [], ◌∷◌, map, filter, Option, Some, None}
 use Rattle.std.specs.List.{filter_map, fold}
 use Rattle.std.specs.Option.{option_map, option_map_or}
 use Rattle.rc_base.specs.Lists.{in_order}
@@ -34,6 +34,13 @@ active_hop r entries old p target.Null = Some Null
 active_hop r entries old p (target.Dev name) = option_map Dev (up_interface r entries name)
 active_hop r entries old p (target.ViaDev g name) = option_map (λ i. Via g (Some i)) (up_interface r entries name)
 active_hop r entries old p (target.Via g) = if is_reachable old p g then Some (Via g None) else None
+
+-- whether a line of this target is active is for the previous table to say: it names a next hop alone
+abbrev pub asks_table : Target → Bool
+asks_table target.Null = false
+asks_table (target.Dev name) = false
+asks_table (target.ViaDev g name) = false
+asks_table (target.Via g) = true
 
 -- a line that is active, with its hop; distance 255 is never used
 abbrev pub active_line : ℕ → Entries → List Entry → StaticRoute → Option ActiveLine

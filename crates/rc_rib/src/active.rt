@@ -1,8 +1,9 @@
 //! Which lines `ip route` are active, and over which hops.
 ghost use Rattle.std.specs.Prelude.{◌≡◌, false, IfOk};
 ghost use Rattle.std.specs.Option.{option_map_or};
-ghost use Rattle.std.specs.List.{filter_map};
+ghost use Rattle.std.specs.List.{filter_map, list_any};
 ghost use Rattle.rc_base.specs.Prefix.{same_prefix};
+ghost use Rattle.rc_config.specs.declared.static_route.StaticRoute.{StaticRoute as Line};
 ghost use Rattle.rc_rib.specs.Static as spec;
 
 use rc_base::{Addr, IfId, Name, Prefix, RouterId};
@@ -75,6 +76,25 @@ fn active_hop(
             }
         }
     }
+}
+
+/// Whether a line of this target asks the previous table.
+fn asks_table(target: &Target) -> bool
+    ensures { result ≡ spec.asks_table target.now }
+{
+    match target {
+        Target::Null => false,
+        Target::Dev(_) => false,
+        Target::ViaDev(_, _) => false,
+        Target::Via(_) => true,
+    }
+}
+
+/// Whether one of some lines asks the previous table.
+pub(crate) fn some_ask_table(lines: &[StaticRoute]) -> bool
+    ensures { result ≡ list_any (λ (s : Line). spec.asks_table s.target) lines.now }
+{
+    lines.iter().any(|line| asks_table(&line.target))
 }
 
 /// A line with its hop, where it is active. Distance 255 is never used.

@@ -1,9 +1,17 @@
 //! What tables are made from.
-use rc_bgp::Sessions;
+use rc_bgp::{Changes, Sessions};
 use rc_config::Network;
 use rc_external::Externals;
 use rc_ospf::Internal;
 use rc_route::State;
+
+/// What each router knew a round earlier yet, and what changed from there to the round before.
+#[derive(Drop)]
+pub struct Earlier<'a> {
+    pub state: &'a State,
+    /// The prefixes whose best path may be another since.
+    pub changes: &'a Changes,
+}
 
 /// What the next tables are made from: all routers of a round read the same.
 #[derive(Drop)]
@@ -17,6 +25,6 @@ pub struct Inputs<'a> {
     pub externals: &'a Externals,
     /// What each router knows after the round before.
     pub previous: &'a State,
-    /// What each router knew a round earlier yet, where there was such a round. Who read the same then knows the same again.
-    pub earlier: Option<&'a State>,
+    /// What there was a round earlier yet, where there was such a round. Who read the same then knows the same again.
+    pub earlier: Option<Earlier<'a>>,
 }

@@ -9,10 +9,12 @@ mod active;
 mod connected_routes;
 mod grouping;
 mod inputs;
+mod made;
 mod merging;
 mod next;
 mod outside;
 mod rows;
 
-pub use inputs::Inputs;
+pub use inputs::{Earlier, Inputs};
+pub use made::Made;
 pub use next::table;

@@ -100,7 +100,8 @@ pub(crate) fn merged(alloc: Global, first: Table, second: Table) -> Result<Table
     if second.is_empty() {
         return Ok(first);
     }
-    let mut routes = Items::new(alloc);
+    let room = first.len().saturating_add(second.len());
+    let mut routes = Items::from_vec(Vec::with_capacity(alloc, room)?);
     let mut first = VecDeque::from(first.into_vec());
     let mut second = VecDeque::from(second.into_vec());
     while let Some(route) = take_next(&mut first, &mut second) {

@@ -1,10 +1,14 @@
 //! One router's next table and best paths.
-ghost use Rattle.std.specs.Prelude.{◌≡◌, ◌++◌, ◌∷◌, [], All, IfOk, IfSome, IsTrue, OnOk, None, slice_get};
+ghost use Rattle.std.specs.Prelude.{◌≡◌, ◌++◌, ◌∷◌, [], All, IfOk, IfSome, IsTrue, OnOk, None, false, slice_get};
+ghost use Rattle.std.specs.List.{list_any};
 ghost use Rattle.std.specs.Option.{option_map, option_map_or};
-ghost use Rattle.rc_bgp.specs.Known.{table_of};
+ghost use Rattle.rc_bgp.specs.Candidates as bgp_spec;
+ghost use Rattle.rc_bgp.specs.Changes.{CoversChange};
+ghost use Rattle.rc_bgp.specs.Known.{paths_of, table_of};
 ghost use Rattle.rc_bgp.specs.Sessions.{sessions_of};
 ghost use Rattle.rc_config.specs.Lawful.{IsRouter};
 ghost use Rattle.rc_config.specs.Members.{router_at};
+ghost use Rattle.rc_config.specs.declared.static_route.StaticRoute.{StaticRoute as Line};
 ghost use Rattle.rc_external.specs.Routes.{boundaries_of, external_routes};
 ghost use Rattle.rc_fib.specs.Forwarding.{resolved};
 ghost use Rattle.rc_route.specs.Tables.{IsRouterState, IsPathList, IsTable};
@@ -13,24 +17,54 @@ ghost use Rattle.rc_rib.specs.Again.{HasNoLines, IsUnchanged, ReadsNoOthers};
 ghost use Rattle.rc_rib.specs.Inputs.{AreInputs};
 ghost use Rattle.rc_rib.specs.Merging as merging_spec;
 ghost use Rattle.rc_rib.specs.Next as spec;
-ghost use Rattle.rc_rib.specs.Static.{active_lines, static_routes};
+ghost use Rattle.rc_rib.specs.Static.{active_lines, asks_table, static_routes};
 
-use crate::Inputs;
-use crate::active::active_lines;
+use crate::active::{active_lines, some_ask_table};
 use crate::connected_routes::connected;
 use crate::grouping::static_routes;
 use crate::merging::merged;
 use crate::outside::{outside_routes, routes_of};
+use crate::{Inputs, Made};
 use rc_base::{Items, RouterId};
-use rc_bgp::{Sessions, best_paths, learned_route};
+use rc_bgp::{Renewed, Sessions, first_paths, learned_route, renewed_paths};
 use rc_config::{Network, RouterText};
 use rc_fib::Fib;
 use rc_ospf::Internal;
 use rc_route::{BgpPath, Route, RouterState, State, Table, copy, same_table};
 use std::alloc::{AllocError, Global};
 
-/// The static routes of a file that its router's previous table makes active. Only where the file has some, that table is
-/// prepared for look-ups.
+/// The static routes of a file that its router's previous table makes active, from that table prepared for look-ups.
+fn routes_from(
+    alloc: Global,
+    router: RouterId,
+    file: &RouterText,
+    old: &Table,
+) -> Result<Table, AllocError>
+    requires { IsTable old.now }
+    ensures { IfOk result (λ routes. routes ≡ static_routes (active_lines router file.now.interfaces (resolved old.now) file.now.static_routes)) }
+{
+    let fib = Fib::of(alloc, old)?;
+    let lines = active_lines(alloc, router, file, &fib)?;
+    static_routes(alloc, lines.as_slice())
+}
+
+/// The same where no line asks the table: it isn't prepared.
+fn routes_of_lines(
+    alloc: Global,
+    router: RouterId,
+    file: &RouterText,
+    old: &Table,
+) -> Result<Table, AllocError>
+    requires { list_any (λ (s : Line). asks_table s.target) file.now.static_routes ≡ false }
+    ensures { IfOk result (λ routes. routes ≡ static_routes (active_lines router file.now.interfaces (resolved old.now) file.now.static_routes)) }
+{
+    let none = Items::new(alloc);
+    let routes = routes_from(alloc, router, file, &none)?;
+    Ok(routes)
+}
+
+/// The static routes of a file that its router's previous table makes active. Only where a line asks that table, it is prepared
+/// for look-ups.
 #[tactic(auto, using(crate::proofs::StaticLaws::no_lines))]
 fn active_routes(
     alloc: Global,
@@ -44,9 +78,11 @@ fn active_routes(
     if file.static_routes.is_empty() {
         return Ok(Items::new(alloc));
     }
-    let fib = Fib::of(alloc, old)?;
-    let lines = active_lines(alloc, router, file, &fib)?;
-    static_routes(alloc, lines.as_slice())
+    if some_ask_table(file.static_routes.as_slice()) {
+        routes_from(alloc, router, file, old)
+    } else {
+        routes_of_lines(alloc, router, file, old)
+    }
 }
 
 /// The connected and the static routes of a file, from its router's previous table.
@@ -96,7 +132,7 @@ fn push_learned(routes: &mut Table, path: &BgpPath) -> Result<(), AllocError>
 fn learned_routes(alloc: Global, paths: &[BgpPath]) -> Result<Table, AllocError>
     ensures { IfOk result (λ routes. routes ≡ spec.learned_routes paths.now) }
 {
-    let mut routes = Items::new(alloc);
+    let mut routes = Items::from_vec(Vec::with_capacity(alloc, paths.len())?);
     for path in paths {
         push_learned(&mut routes, path)?;
     }
@@ -115,7 +151,7 @@ fn with_learned(alloc: Global, table: Table, paths: &[BgpPath]) -> Result<Table,
 fn copied(alloc: Global, routes: &[Route]) -> Result<Table, AllocError>
     ensures { IfOk result (λ copied. copied ≡ routes.now) }
 {
-    let mut copied = Items::new(alloc);
+    let mut copied = Items::from_vec(Vec::with_capacity(alloc, routes.len())?);
     for route in routes {
         copied.push(route.copy(alloc)?)?;
     }
@@ -169,42 +205,87 @@ fn table_beside(
     with_outside(alloc, table, inputs, router)
 }
 
+/// The best paths of a router after a round, and what changed in them.
+fn paths_after(alloc: Global, inputs: &Inputs<'_>, router: RouterId) -> Result<Renewed, AllocError>
+    requires inputs { AreInputs inputs.now }
+    requires router { IsRouter inputs.now.network.now router }
+    ensures paths { IfOk result (λ r. r.paths ≡ bgp_spec.best_paths inputs.now.network.now inputs.now.sessions.now inputs.now.previous.now router) }
+    ensures in_order { IfOk result (λ r. IsPathList r.paths) }
+    ensures changed { IfOk result (λ r. CoversChange r.changed (paths_of inputs.now.previous.now router) r.paths) }
+{
+    match &inputs.earlier {
+        None => first_paths(
+            alloc,
+            inputs.network,
+            inputs.sessions,
+            inputs.previous,
+            router,
+        ),
+        Some(earlier) => renewed_paths(
+            alloc,
+            inputs.network,
+            inputs.sessions,
+            earlier.state,
+            earlier.changes,
+            inputs.previous,
+            router,
+        ),
+    }
+}
+
 /// What a router of this file knows after a round, made anew.
-fn made(
+fn made_of(
     alloc: Global,
     inputs: &Inputs<'_>,
     router: RouterId,
     file: &RouterText,
-) -> Result<RouterState, AllocError>
-    requires { AreInputs inputs.now }
-    ensures next { IfOk result (λ s. s ≡ spec.router_after inputs.now.network.now inputs.now.internal.now inputs.now.previous.now router file.now) }
-    ensures in_order { IfOk result IsRouterState }
+) -> Result<Made, AllocError>
+    requires inputs { AreInputs inputs.now }
+    requires router { IsRouter inputs.now.network.now router }
+    ensures next { IfOk result (λ m. m.state ≡ spec.router_after inputs.now.network.now inputs.now.internal.now inputs.now.previous.now router file.now) }
+    ensures in_order { IfOk result (λ m. IsRouterState m.state) }
+    ensures changed { IfOk result (λ m. CoversChange m.changed (paths_of inputs.now.previous.now router) m.state.paths) }
 {
-    let paths = best_paths(
-        alloc,
-        inputs.network,
-        inputs.sessions,
-        inputs.previous,
-        router,
-    )?;
+    let renewed = paths_after(alloc, inputs, router)?;
+    let Renewed { paths, changed } = renewed;
     let table = table_beside(alloc, inputs, router, file, paths.as_slice())?;
-    Ok(RouterState { table, paths })
+    Ok(Made {
+        state: RouterState { table, paths },
+        changed,
+    })
 }
 
 /// What a router knows after a round, made anew.
-fn anew(alloc: Global, inputs: &Inputs<'_>, router: RouterId) -> Result<RouterState, AllocError>
-    requires { AreInputs inputs.now }
-    ensures next { IfOk result (λ s. s ≡ spec.next_router inputs.now.network.now inputs.now.internal.now inputs.now.previous.now router) }
-    ensures in_order { IfOk result IsRouterState }
+fn anew(alloc: Global, inputs: &Inputs<'_>, router: RouterId) -> Result<Made, AllocError>
+    requires inputs { AreInputs inputs.now }
+    requires router { IsRouter inputs.now.network.now router }
+    ensures next { IfOk result (λ m. m.state ≡ spec.next_router inputs.now.network.now inputs.now.internal.now inputs.now.previous.now router) }
+    ensures in_order { IfOk result (λ m. IsRouterState m.state) }
+    ensures changed { IfOk result (λ m. CoversChange m.changed (paths_of inputs.now.previous.now router) m.state.paths) }
 {
     let found = inputs.network.router_at(router);
     match found {
-        Some(file) => made(alloc, inputs, router, file),
-        None => Ok(RouterState {
-            table: Items::new(alloc),
-            paths: Items::new(alloc),
+        Some(file) => made_of(alloc, inputs, router, file),
+        None => Ok(Made {
+            state: RouterState {
+                table: Items::new(alloc),
+                paths: Items::new(alloc),
+            },
+            changed: Items::new(alloc),
         }),
     }
+}
+
+/// What a router knows once more: nothing changed.
+fn again(alloc: Global, known: &RouterState) -> Result<Made, AllocError>
+    ensures state { IfOk result (λ m. m.state ≡ known.now) }
+    ensures changed { IfOk result (λ m. m.changed ≡ []) }
+{
+    let state = copy(alloc, known)?;
+    Ok(Made {
+        state,
+        changed: Items::new(alloc),
+    })
 }
 
 /// What a router knows in a state, or `None` exactly past its end.
@@ -286,29 +367,26 @@ fn unchanged<'a>(inputs: &Inputs<'a>, earlier: &State, router: RouterId) -> Opti
     }
 }
 
-/// What a router knows after a round in which all routers read these inputs: its table, and its best BGP paths.
+/// What a router knows after a round in which all routers read these inputs: its table, and its best BGP paths; and the prefixes
+/// at which these are others than before.
 ///
 /// Its connected routes, its static routes that its previous table makes active, and its routes by BGP and by OSPF; for each prefix
 /// the least administrative distance wins, and at one distance the source that stands first. A router that reads no more than its
 /// own table, and reads what it read a round earlier, knows the same again, and nothing is made anew for it. It errs only where
 /// memory runs out.
-pub fn table(
-    alloc: Global,
-    inputs: &Inputs<'_>,
-    router: RouterId,
-) -> Result<RouterState, AllocError>
+pub fn table(alloc: Global, inputs: &Inputs<'_>, router: RouterId) -> Result<Made, AllocError>
     requires inputs { AreInputs inputs.now }
     requires router { IsRouter inputs.now.network.now router }
-    ensures next { IfOk result (λ s. s ≡ spec.next_router inputs.now.network.now inputs.now.internal.now inputs.now.previous.now router) }
-    ensures in_order { IfOk result IsRouterState }
+    ensures next { IfOk result (λ m. m.state ≡ spec.next_router inputs.now.network.now inputs.now.internal.now inputs.now.previous.now router) }
+    ensures in_order { IfOk result (λ m. IsRouterState m.state) }
+    ensures changed { IfOk result (λ m. CoversChange m.changed (paths_of inputs.now.previous.now router) m.state.paths) }
 {
-    let earlier = inputs.earlier;
-    match earlier {
+    match &inputs.earlier {
         None => anew(alloc, inputs, router),
         Some(earlier) => {
-            let known = unchanged(inputs, earlier, router);
+            let known = unchanged(inputs, earlier.state, router);
             match known {
-                Some(known) => copy(alloc, known),
+                Some(known) => again(alloc, known),
                 None => anew(alloc, inputs, router),
             }
         }

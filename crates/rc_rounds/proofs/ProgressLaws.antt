@@ -2,10 +2,13 @@
 use Rattle.std.proofs.Common.{refl, ◌≡◌, ◌≢◌, ◌⊎◌, inl, inr, sym, ap, ◌∙◌, subst, ℕ, ◌+◌, ◌-◌, ◌≤◌, ◌<◌, ◌==◌, Bool, true, false, if◌then◌else◌, List, length, arith}
 use Rattle.std.proofs.lemmas.Bool.Decides.{Decides-eqb}
 use Rattle.std.proofs.Math.Decide.{dec_lt}
+use Rattle.rc_base.specs.Prefix.{Cidr}
+use Rattle.rc_bgp.specs.Changes.{AreChanges}
 use Rattle.rc_config.specs.declared.network.Network.{Network}
 use Rattle.rc_ospf.specs.declared.model.Internal.{Internal}
 use Rattle.rc_route.specs.Tables.{IsStateOf}
 use Rattle.rc_route.specs.declared.state.RouterState.{RouterState}
+use Rattle.rc_rib.specs.Inputs.{IsEarlier}
 use Rattle.rc_rib.specs.Next.{next_state}
 use Rattle.rc_rounds.specs.declared.progress.Progress.{Progress}
 use Rattle.rc_rounds.specs.Progress.{IsProgress, IsPowerBelow, checkpoint_state}
@@ -47,11 +50,11 @@ module _ (net : Network) (internal : Internal) (p : Progress) (at : IsProgress n
               absurd (cc (e, told))
 
   -- the last state is made from the one before
-  pub last_is_next : 1 ≤ p.done → p.last ≡ next_state net internal p.before
+  pub last_is_next : 1 ≤ p.done → IsEarlier net internal p.last p.before p.changes
   last_is_next some =
       let more : p.done - 1 + 1 ≡ p.done = omega arith in
       let made = next_is net internal (p.done - 1) (next_state net internal p.before) p.before refl (at.before some) in
-      at.last ∙ ap (state_after net internal) (sym more) ∙ sym made
+      record { made = at.last ∙ ap (state_after net internal) (sym more) ∙ sym made; in_order = at.before_in_order; told = at.changes some }
 
   -- the rounds go on where the next state is neither
   pub goes_on : (next : List RouterState) → next ≡ next_state net internal p.last → next ≢ p.last → next ≢ checkpoint_state p → GoesOn net internal (p.done + 1)
@@ -66,7 +69,7 @@ module _ (net : Network) (internal : Internal) (p : Progress) (at : IsProgress n
       (omega arith, omega (arith, e, within), at.earlier, power-is (p.done + 1) p.checkpoint at.checkpoint, changed net internal p.done next p.last new at.last changes, sym new ∙ same ∙ checkpoint_state-is)
 
   -- one round further: the last state becomes the one before, and that one is kept where it is the checkpoint's
-  module _ (next : List RouterState) (made : next ≡ next_state net internal p.last) (ordered : IsStateOf (length net.routers) next) (goes : GoesOn net internal (p.done + 1)) (c : ℕ) (power : IsPowerBelow (p.done + 1 + 1) c) (one_of_both : (c ≡ p.done + 1) ⊎ (c ≡ p.checkpoint)) where
+  module _ (next : List RouterState) (made : next ≡ next_state net internal p.last) (ordered : IsStateOf (length net.routers) next) (changes : List (List Cidr)) (told : AreChanges changes p.last next) (goes : GoesOn net internal (p.done + 1)) (c : ℕ) (power : IsPowerBelow (p.done + 1 + 1) c) (one_of_both : (c ≡ p.done + 1) ⊎ (c ≡ p.checkpoint)) where
     kept : List RouterState
     kept = if p.checkpoint + 1 == p.done then p.before else p.kept
 
@@ -78,7 +81,7 @@ module _ (net : Network) (internal : Internal) (p : Progress) (at : IsProgress n
         there true e = let same : p.checkpoint ≡ p.done = (Decides-eqb p.checkpoint p.done).0 e in absurd (let none : ⊥ = omega (arith, less, same) in none)
         there false e = refl
 
-    pub one_further : IsProgress net internal (record { done = p.done + 1; checkpoint = c; last = next; before = p.last; kept = if p.checkpoint + 1 == p.done then p.before else p.kept })
+    pub one_further : IsProgress net internal (record { done = p.done + 1; checkpoint = c; last = next; before = p.last; changes = changes; kept = if p.checkpoint + 1 == p.done then p.before else p.kept })
     unfolding kept
     one_further = record {
       last = next_is net internal p.done next p.last made at.last;
@@ -86,6 +89,8 @@ module _ (net : Network) (internal : Internal) (p : Progress) (at : IsProgress n
       before = λ some. at.last ∙ ap (state_after net internal) (let e : p.done ≡ p.done + 1 - 1 = omega arith in e);
       checkpoint = power;
       within = within one_of_both;
+      before_in_order = at.in_order.each;
+      changes = λ some. told;
       kept = λ less. elim one_of_both [ inl same ↦ absurd (let none : ⊥ = omega (arith, less, same) in none) | inr same ↦ stays same (omega (arith, less, same)) ];
       earlier = further net internal (p.done + 1) at.earlier goes;
     }

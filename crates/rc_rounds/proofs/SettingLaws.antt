@@ -1,9 +1,9 @@
 -- What the routers of a round read, from what no round changes and the state before.
-use Rattle.std.proofs.Common.{◌≡◌, ◌∙◌, ap, sym, subst, Bool, true, List, All, Option, Some, None, IfSome, length, map, get_or, Bor}
+use Rattle.std.proofs.Common.{◌≡◌, ◌∙◌, sym, subst, Bool, true, List, All, Option, Some, None, IfSome, length, map, get_or}
 use Rattle.std.specs.List.{flat_map}
 use Rattle.std.specs.List.Sorted.{IsStrictlySortedBy}
 use Rattle.std.proofs.lemmas.List.Elements.{All-map}
-use Rattle.rc_base.specs.Prefix.{prefix_cmp}
+use Rattle.rc_base.specs.Prefix.{Cidr, prefix_cmp}
 use Rattle.rc_base.proofs.OrderedLaws.{in_order-sorted, prefix_cmp_total}
 use Rattle.rc_bgp.specs.Sessions.{sessions}
 use Rattle.rc_bgp.specs.declared.session.Session.{Session}
@@ -19,8 +19,8 @@ use Rattle.rc_ospf.specs.Routes.{advert_prefix, own_prefixes}
 use Rattle.rc_ospf.specs.declared.model.Internal.{Internal}
 use Rattle.rc_route.specs.Tables.{IsStateOf, IsTable}
 use Rattle.rc_route.specs.declared.state.RouterState.{RouterState}
-use Rattle.rc_rib.specs.Inputs.{AreInputs}
-use Rattle.rc_rib.specs.Next.{next_state}
+use Rattle.rc_rib.specs.Inputs.{AreInputs, IsEarlier}
+use Rattle.rc_rib.specs.declared.inputs.Earlier.{Earlier}
 use Rattle.rc_rib.specs.declared.inputs.Inputs.{Inputs}
 use Rattle.rc_rounds.specs.Setting.{IsSetting}
 
@@ -30,22 +30,24 @@ own_in_order net i is =
     subst (All (IsStrictlySortedBy prefix_cmp)) (sym is.own)
     (All-map (IsStrictlySortedBy prefix_cmp) (own_prefixes net) (router_ids net) (λ k d less. in_order-sorted prefix_cmp prefix_cmp_total (map advert_prefix (flat_map (adverts_of net) (interfaces_at net (get_or (router_ids net) k d))))))
 
--- the state a round earlier, where it is told
-pub told_earlier : (net : Network) (internal : Internal) (state : List RouterState) (o : Option (Bor (List RouterState))) (has : Bool) (old : List RouterState)
-    → IfSome o (λ r. (has ≡ true) × (r.now ≡ old)) → (has ≡ true → state ≡ next_state net internal old) → IfSome o (λ r. state ≡ next_state net internal r.now)
-told_earlier net internal state None has old told is = tt
-told_earlier net internal state (Some r) has old told is = is told.0 ∙ ap (next_state net internal) (sym told.1)
+-- the state a round earlier and what changed since, where they are told
+pub told_earlier : (net : Network) (internal : Internal) (state : List RouterState) (o : Option Earlier) (has : Bool) (old : List RouterState) (changes : List (List Cidr))
+    → IfSome o (λ (e : Earlier). (has ≡ true) × (e.state.now ≡ old) × (e.changes.now ≡ changes)) → (has ≡ true → IsEarlier net internal state old changes) → IfSome o (λ (e : Earlier). IsEarlier net internal state e.state.now e.changes.now)
+told_earlier net internal state None has old changes told is = tt
+told_earlier net internal state (Some e) has old changes told is = subst (λ s. IsEarlier net internal state s e.changes.now) (sym told.1) (subst (IsEarlier net internal state old) (sym told.2) (is told.0))
 
 module _ (i : Inputs) (net : Network) (internal : Internal) (all : List (List Session)) (rows : List ExternalRow) (state : List RouterState)
     (same_net : i.network.now ≡ net) (same_internal : i.internal.now ≡ internal) (same_sessions : i.sessions.now ≡ all) (same_rows : i.externals.now ≡ rows) (same_state : i.previous.now ≡ state) where
-  earlier_read : IfSome i.earlier (λ old. state ≡ next_state net internal old.now) → IfSome i.earlier (λ old. i.previous.now ≡ next_state i.network.now i.internal.now old.now)
+  earlier_read : IfSome i.earlier (λ (e : Earlier). IsEarlier net internal state e.state.now e.changes.now) → IfSome i.earlier (λ (e : Earlier). IsEarlier i.network.now i.internal.now i.previous.now e.state.now e.changes.now)
   earlier_read = by i.earlier
     where
-      by : (o : Option (Bor (List RouterState))) → IfSome o (λ old. state ≡ next_state net internal old.now) → IfSome o (λ old. i.previous.now ≡ next_state i.network.now i.internal.now old.now)
+      by : (o : Option Earlier) → IfSome o (λ (e : Earlier). IsEarlier net internal state e.state.now e.changes.now) → IfSome o (λ (e : Earlier). IsEarlier i.network.now i.internal.now i.previous.now e.state.now e.changes.now)
       by None is = tt
-      by (Some old) is = same_state ∙ is ∙ sym (λ k. next_state (same_net k) (same_internal k) old.now)
+      by (Some e) is =
+          subst (λ (n : Network). IsEarlier n i.internal.now i.previous.now e.state.now e.changes.now) (sym same_net)
+          (subst (λ (x : Internal). IsEarlier net x i.previous.now e.state.now e.changes.now) (sym same_internal) (subst (λ s. IsEarlier net internal s e.state.now e.changes.now) (sym same_state) is))
 
-  pub are_inputs : IsSetting net internal all → IsStateOf (length net.routers) state → rows ≡ externals net state → IsByPrefix rows → IfSome i.earlier (λ old. state ≡ next_state net internal old.now) → AreInputs i
+  pub are_inputs : IsSetting net internal all → IsStateOf (length net.routers) state → rows ≡ externals net state → IsByPrefix rows → IfSome i.earlier (λ (e : Earlier). IsEarlier net internal state e.state.now e.changes.now) → AreInputs i
   are_inputs s ordered made by_prefix earlier = record {
     lawful = subst IsLawful (sym same_net) s.lawful;
     state = subst (λ (n : Network). IsStateOf (length n.routers) i.previous.now) (sym same_net) (subst (IsStateOf (length net.routers)) (sym same_state) ordered);

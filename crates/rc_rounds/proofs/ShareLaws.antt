@@ -1,39 +1,24 @@
--- Rows put together, and where shares begin.
-use Rattle.std.proofs.Common.{◌≡◌, ℕ, zero, suc, ◌+◌, ◌-◌, ◌*◌, ◌<◌, ◌≤◌, List, [], ◌∷◌, ◌++◌, length, map, refl, sym, ap, ◌∙◌, arith, All}
-use Rattle.std.specs.List.{range_with_len}
+-- What the workers of a round make, put together, and where shares begin.
+use Rattle.std.proofs.Common.{◌≡◌, ℕ, zero, suc, ◌+◌, ◌-◌, ◌*◌, ◌<◌, ◌≤◌, List, [], ◌∷◌, ◌++◌, length, map, refl, sym, ap, subst, ◌∙◌, arith, All}
+use Rattle.std.specs.List.{AllByRecursion, range_with_len}
+use Rattle.std.specs.Option.{option_map_or}
 use Rattle.std.proofs.Math.Nat.{mul-le-mul_left, div-mul-le_self, mul-div_cancel, zero-div}
 use Rattle.std.proofs.lemmas.Nat.{le-div}
 use Rattle.std.specs.List.Sorted.{IsStrictlySortedBy}
-use Rattle.std.proofs.lemmas.List.Elements.{All-append, All-map}
+use Rattle.std.proofs.lemmas.List.Elements.{All-from_recursion, All-map}
 use Rattle.std.proofs.lemmas.List.FromFn.{map-range_with_len_more, length-map-range_with_len}
+use Rattle.std.proofs.lemmas.Option.{slice_get_past}
+use Rattle.rc_base.specs.Prefix.{Cidr}
+use Rattle.rc_bgp.specs.Changes.{AreChanges, CoversChange, changes_of}
+use Rattle.rc_bgp.specs.Known.{path_at, paths_of}
 use Rattle.rc_config.specs.declared.network.Network.{Network}
 use Rattle.rc_ospf.specs.declared.model.Internal.{Internal}
 use Rattle.rc_route.specs.declared.state.RouterState.{RouterState}
 use Rattle.rc_rib.specs.Next.{next_router, next_state}
+use Rattle.rc_rib.specs.declared.made.Made.{Made}
 use Rattle.rc_route.specs.Tables.{IsRouterState, IsStateOf}
 use Rattle.rc_rounds.specs.Rounds.{empty_state}
-use Rattle.rc_rounds.specs.Shares.{rows, share_start, IsShare, IsStretch}
-
-pub rows-none : (known : ℕ → RouterState) (a n : ℕ) → n ≡ 0 → rows known a n ≡ []
-unfolding rows
-rows-none known a n e = rw e refl
-
-pub rows-more : (known : ℕ → RouterState) (a n j : ℕ) → a + n ≡ j → rows known a (n + 1) ≡ rows known a n ++ known j ∷ []
-unfolding rows
-rows-more known a n j e = map-range_with_len_more known a n j e
-
--- two neighbouring stretches
-rows-append : (known : ℕ → RouterState) (a m n : ℕ) → rows known a m ++ rows known (a + m) n ≡ rows known a (m + n)
-unfolding rows
-rows-append known a zero n = let e : a + 0 ≡ a = omega arith in let f : 0 + n ≡ n = omega arith in rw (e, f) refl
-rows-append known a (suc m) n =
-    let e : a + suc m ≡ a + 1 + m = omega arith in let f : suc m + n ≡ suc (m + n) = omega arith in
-    rw (e, f) (ap (λ l. known a ∷ l) (rows-append known (a + 1) m n))
-
-rows-join : (known : ℕ → RouterState) (a b e : ℕ) → a ≤ b → b ≤ e → rows known a (b - a) ++ rows known b (e - b) ≡ rows known a (e - a)
-rows-join known a b e low high =
-    let f : a + (b - a) ≡ b = omega arith in let g : b - a + (e - b) ≡ e - a = omega arith in
-    ap (λ k. rows known a (b - a) ++ rows known k (e - b)) (sym f) ∙ rows-append known a (b - a) (e - b) ∙ ap (λ k. rows known a k) g
+use Rattle.rc_rounds.specs.Shares.{share_start, IsMade, IsShare, IsStretch}
 
 pub share_start-up : (n w a b : ℕ) → 0 < w → a ≤ b → share_start n w a ≤ share_start n w b
 share_start-up n w a b pos le =
@@ -77,34 +62,92 @@ empty-in_order net = record {
   each = All-map IsRouterState (λ _. record { table = []; paths = [] }) (range_with_len 0 (length net.routers)) (λ k d less. nothing-in_order);
 }
 
-pub next-as_long : (net : Network) (internal : Internal) (old : List RouterState) → length (next_state net internal old) ≡ length net.routers
-next-as_long net internal old = length-map-range_with_len (next_router net internal old) 0 (length net.routers)
+-- ---- what is made of routers, stretch by stretch
 
-pub one-more : (state : List RouterState) (s : RouterState) → All IsRouterState state → IsRouterState s → All IsRouterState (state ++ s ∷ [])
-one-more state s all last = All-append IsRouterState state (s ∷ []) all (λ k d less. let first : k ≡ 0 = omega (arith, less) in rw first last)
+module _ (makes : ℕ → Made → Type 0) where
+  pub nothing_made : (a : ℕ) → IsStretch makes a a []
+  unfolding IsStretch
+  nothing_made a = refl
 
--- ---- the shares of workers
+  -- two neighbouring stretches
+  pub stretches_join : (a b c : ℕ) (xs ys : List Made) → IsStretch makes a b xs → IsStretch makes b c ys → IsStretch makes a c (xs ++ ys)
+  unfolding IsStretch
+  stretches_join a b c [] ys left right = subst (λ k. IsStretch makes k c ys) (sym left) right
+  stretches_join a b c (x ∷ xs) ys left right = (left.0, stretches_join (a + 1) b c xs ys left.1 right)
 
--- those of two neighbouring stretches of workers, one behind the other
-pub put_together : (known : ℕ → RouterState) (n workers first middle last : ℕ) (left right all : List RouterState) → 0 < workers → first ≤ middle → middle ≤ last →
-    IsShare known n workers first middle left → IsShare known n workers middle last right → all ≡ left ++ right → IsShare known n workers first last all
-put_together known n workers first middle last left right all some low high l r e = record {
-  value = e ∙ (λ i. l.value i ++ r.value i)
-      ∙ rows-join known (share_start n workers first) (share_start n workers middle) (share_start n workers last)
-      (share_start-up n workers first middle some low) (share_start-up n workers middle last some high);
-  in_order = rw e (All-append IsRouterState left right l.in_order r.in_order);
-}
+  -- one router more
+  pub one_made : (a b : ℕ) (xs : List Made) (m : Made) → IsStretch makes a b xs → makes b m → IsStretch makes a (b + 1) (xs ++ m ∷ [])
+  unfolding IsStretch
+  one_made a b xs m so_far is = stretches_join a b (b + 1) xs (m ∷ []) so_far (is, refl)
 
--- that of all workers
-pub whole : (known : ℕ → RouterState) (n workers : ℕ) (s : List RouterState) → 0 < workers → IsShare known n workers 0 workers s → IsStretch known 0 n s
-whole known n workers s some share = record {
-  value = share.value ∙ (λ i. rows known (share_start-first n workers some i) (share_start-end n workers some i - share_start-first n workers some i));
-  in_order = share.in_order;
-}
+  stretch_up : (a b : ℕ) (xs : List Made) → IsStretch makes a b xs → a ≤ b
+  unfolding IsStretch
+  stretch_up a b [] is = omega (arith, is)
+  stretch_up a b (x ∷ xs) is = (let up = stretch_up (a + 1) b xs is.1 in omega (arith, up))
 
--- all rows are the next state
-pub all_rows : (net : Network) (internal : Internal) (old s : List RouterState) → IsStretch (next_router net internal old) 0 (length net.routers) s → s ≡ next_state net internal old
-unfolding rows
-all_rows net internal old s all =
-    let e : length net.routers - 0 ≡ length net.routers = omega arith in
-    all.value ∙ ap (rows (next_router net internal old) 0) e
+  -- ---- the shares of workers
+
+  -- those of two neighbouring stretches of workers, one behind the other
+  pub put_together : (n workers first middle last : ℕ) (left right all : List Made) → IsShare makes n workers first middle left → IsShare makes n workers middle last right → all ≡ left ++ right → IsShare makes n workers first last all
+  put_together n workers first middle last left right all l r e =
+      subst (IsShare makes n workers first last) (sym e) (stretches_join (share_start n workers first) (share_start n workers middle) (share_start n workers last) left right l r)
+
+  -- that of all workers
+  pub whole : (n workers : ℕ) (s : List Made) → 0 < workers → IsShare makes n workers 0 workers s → IsStretch makes 0 n s
+  whole n workers s some share = subst (λ k. IsStretch makes k n s) (share_start-first n workers some) (subst (λ k. IsStretch makes (share_start n workers 0) k s) (share_start-end n workers some) share)
+
+-- ---- what is made of all routers is the next state, in order, and what changed
+
+module _ (net : Network) (internal : Internal) (old : List RouterState) where
+  abbrev Makes : ℕ → Made → Type 0
+  Makes = IsMade net internal old
+
+  abbrev states : List Made → List RouterState
+  states all = map (λ (m : Made). m.state) all
+
+  abbrev told : List Made → List (List Cidr)
+  told all = map (λ (m : Made). m.changed) all
+
+  states_are : (a b : ℕ) (all : List Made) → IsStretch Makes a b all → states all ≡ map (next_router net internal old) (range_with_len a (b - a))
+  unfolding IsStretch
+  states_are a b [] is = (let none : b - a ≡ 0 = omega (arith, is) in sym (ap (λ n. map (next_router net internal old) (range_with_len a n)) none))
+  states_are a b (m ∷ ms) is =
+      let up = stretch_up Makes (a + 1) b ms is.1 in
+      let more : b - a ≡ suc (b - (a + 1)) = omega (arith, up) in
+      (λ i. is.0.state i ∷ states_are (a + 1) b ms is.1 i) ∙ sym (ap (λ n. map (next_router net internal old) (range_with_len a n)) more)
+
+  pub all_made : (all : List Made) (state : List RouterState) → IsStretch Makes 0 (length net.routers) all → state ≡ states all → state ≡ next_state net internal old
+  all_made all state is parts =
+      let e : length net.routers - 0 ≡ length net.routers = omega arith in
+      parts ∙ states_are 0 (length net.routers) all is ∙ ap (λ n. map (next_router net internal old) (range_with_len 0 n)) e
+
+  each_in_order : (a b : ℕ) (all : List Made) → IsStretch Makes a b all → AllByRecursion IsRouterState (states all)
+  unfolding IsStretch
+  each_in_order a b [] is = tt
+  each_in_order a b (m ∷ ms) is = (is.0.in_order, each_in_order (a + 1) b ms is.1)
+
+  pub all_in_order : (all : List Made) (state : List RouterState) → IsStretch Makes 0 (length net.routers) all → state ≡ states all → IsStateOf (length net.routers) state
+  all_in_order all state is parts = record {
+    as_long = ap length (all_made all state is parts) ∙ length-map-range_with_len (next_router net internal old) 0 (length net.routers);
+    each = subst (All IsRouterState) (sym parts) (All-from_recursion IsRouterState (states all) (each_in_order 0 (length net.routers) all is));
+  }
+
+  past : (k : ℕ) → length old ≤ k → paths_of old k ≡ []
+  past k beyond = ap (λ o. option_map_or (λ (s : RouterState). s.paths) o []) (slice_get_past old k beyond)
+
+  -- the router at a place of a stretch
+  told_from : (a b : ℕ) (all : List Made) → IsStretch Makes a b all → length old ≡ b → (k : ℕ) → CoversChange (changes_of (told all) k) (paths_of old (a + k)) (paths_of (states all) k)
+  unfolding IsStretch
+  told_from a b [] is as_long k = record { elsewhere = λ p none. ap (λ paths. path_at paths p) (past (a + k) (omega (arith, is, as_long))) }
+  told_from a b (m ∷ ms) is as_long zero = (let e : a + 0 ≡ a = omega arith in subst (λ r. CoversChange m.changed (paths_of old r) m.state.paths) (sym e) is.0.changed)
+  told_from a b (m ∷ ms) is as_long (suc k) =
+      let e : a + 1 + k ≡ a + suc k = omega arith in
+      subst (λ r. CoversChange (changes_of (told ms) k) (paths_of old r) (paths_of (states ms) k)) e (told_from (a + 1) b ms is.1 as_long k)
+
+  pub all_told : (all : List Made) (state : List RouterState) (changes : List (List Cidr)) → IsStretch Makes 0 (length net.routers) all → IsStateOf (length net.routers) old → state ≡ states all → changes ≡ told all → AreChanges changes old state
+  all_told all state changes is ordered parts changed = record {
+    each = λ r. (let e : 0 + r ≡ r = omega arith in
+        subst (λ k. CoversChange (changes_of changes r) (paths_of old k) (paths_of state r)) e
+        (subst (λ c. CoversChange (changes_of c r) (paths_of old (0 + r)) (paths_of state r)) (sym changed)
+        (subst (λ s. CoversChange (changes_of (told all) r) (paths_of old (0 + r)) (paths_of s r)) (sym parts) (told_from 0 (length net.routers) all is ordered.as_long r))));
+  }

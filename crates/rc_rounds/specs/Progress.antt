@@ -1,8 +1,9 @@
 -- How far the rounds are, and what is kept of them.
-use Rattle.std.specs.Prelude.{◌≡◌, ◌≢◌, ◌⊎◌, ◌==◌, ℕ, ◌+◌, ◌-◌, ◌*◌, ◌^◌, ◌≤◌, ◌<◌, List, length, if◌then◌else◌}
+use Rattle.std.specs.Prelude.{◌≡◌, ◌≢◌, ◌⊎◌, ◌==◌, ℕ, ◌+◌, ◌-◌, ◌*◌, ◌^◌, ◌≤◌, ◌<◌, List, All, length, if◌then◌else◌}
+use Rattle.rc_bgp.specs.Changes.{AreChanges}
 use Rattle.rc_config.specs.declared.network.Network.{Network}
 use Rattle.rc_ospf.specs.declared.model.Internal.{Internal}
-use Rattle.rc_route.specs.Tables.{IsStateOf}
+use Rattle.rc_route.specs.Tables.{IsRouterState, IsStateOf}
 use Rattle.rc_route.specs.declared.state.RouterState.{RouterState}
 use Rattle.rc_rounds.specs.Rounds.{state_after, GoesOnBelow}
 use Rattle.rc_rounds.specs.declared.progress.Progress.{Progress}
@@ -17,11 +18,14 @@ IsPowerBelow k c = ((k ≡ 1) × (c ≡ 0)) ⊎ ((n : ℕ) × (c ≡ 2 ^ n) × (
 abbrev pub checkpoint_state : Progress → List RouterState
 checkpoint_state p = if p.checkpoint == p.done then p.last else (if p.checkpoint + 1 == p.done then p.before else p.kept)
 
--- the states are those after the rounds that they are kept of, and no round so far has ended the rounds
+-- the states are those after the rounds that they are kept of, all that the last round changed in best paths is told, and no round so
+-- far has ended the rounds
 pub record IsProgress (net : Network) (internal : Internal) (p : Progress) : Type 0 where
   pub last : p.last ≡ state_after net internal p.done
   pub in_order : IsStateOf (length net.routers) p.last
   pub before : 1 ≤ p.done → p.before ≡ state_after net internal (p.done - 1)
+  pub before_in_order : All IsRouterState p.before
+  pub changes : 1 ≤ p.done → AreChanges p.changes p.before p.last
   pub checkpoint : IsPowerBelow (p.done + 1) p.checkpoint
   pub within : p.checkpoint ≤ p.done
   pub kept : p.checkpoint + 1 < p.done → p.kept ≡ state_after net internal p.checkpoint

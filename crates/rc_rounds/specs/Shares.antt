@@ -1,22 +1,29 @@
 -- Where the shares of a round's workers begin, and what they make.
-use Rattle.std.specs.Prelude.{◌≡◌, ℕ, ◌-◌, ◌*◌, ◌/◌, List, map, All}
-use Rattle.std.specs.List.{range_with_len}
+use Rattle.std.specs.Prelude.{◌≡◌, ℕ, ◌+◌, ◌*◌, ◌/◌, List, [], ◌∷◌}
+use Rattle.rc_bgp.specs.Changes.{CoversChange}
+use Rattle.rc_bgp.specs.Known.{paths_of}
+use Rattle.rc_config.specs.declared.network.Network.{Network}
+use Rattle.rc_ospf.specs.declared.model.Internal.{Internal}
 use Rattle.rc_route.specs.Tables.{IsRouterState}
 use Rattle.rc_route.specs.declared.state.RouterState.{RouterState}
-
--- what so many routers from an index on know
-unfoldable pub rows : (ℕ → RouterState) → ℕ → ℕ → List RouterState
-rows known from count = map known (range_with_len from count)
+use Rattle.rc_rib.specs.Next.{next_router}
+use Rattle.rc_rib.specs.declared.made.Made.{Made}
 
 -- worker w of W has the n routers from n w / W up to n (w + 1) / W, rounded down
 abbrev pub share_start : ℕ → ℕ → ℕ → ℕ
 share_start n workers w = n * w / workers
 
--- what the routers from one index up to another know, in order
-pub record IsStretch (known : ℕ → RouterState) (from to : ℕ) (s : List RouterState) : Type 0 where
-  pub value : s ≡ rows known from (to - from)
-  pub in_order : All IsRouterState s
+-- this is what a router knows after a round in which all read the old state, in order, and all is told that changed in its best paths
+pub record IsMade (net : Network) (internal : Internal) (old : List RouterState) (r : ℕ) (m : Made) : Type 0 where
+  pub state : m.state ≡ next_router net internal old r
+  pub in_order : IsRouterState m.state
+  pub changed : CoversChange m.changed (paths_of old r) m.state.paths
 
--- what the n routers of the workers from one up to another know
-abbrev pub IsShare : (ℕ → RouterState) → ℕ → ℕ → ℕ → ℕ → List RouterState → Type 0
-IsShare known n workers first last s = IsStretch known (share_start n workers first) (share_start n workers last) s
+-- what is made of the routers from one index up to another, in order
+unfoldable pub IsStretch : (ℕ → Made → Type 0) → ℕ → ℕ → List Made → Type 0
+IsStretch makes from to [] = from ≡ to
+IsStretch makes from to (m ∷ ms) = makes from m × IsStretch makes (from + 1) to ms
+
+-- what is made of the n routers of the workers from one up to another
+abbrev pub IsShare : (ℕ → Made → Type 0) → ℕ → ℕ → ℕ → ℕ → List Made → Type 0
+IsShare makes n workers first last s = IsStretch makes (share_start n workers first) (share_start n workers last) s

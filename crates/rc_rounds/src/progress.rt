@@ -1,5 +1,6 @@
 //! What the rounds keep from one to the next.
 ghost use Rattle.std.specs.Prelude.{◌≡◌, ◌+◌, ◌≤◌, ◌<◌, ◌⊎◌, IfOk, IfSome, length, if◌then◌else◌};
+ghost use Rattle.rc_bgp.specs.Changes.{AreChanges};
 ghost use Rattle.rc_config.specs.declared.network.Network.{Network as NetworkModel};
 ghost use Rattle.rc_rib.specs.Next as rib;
 ghost use Rattle.rc_ospf.specs.declared.model.Internal.{Internal as InternalModel};
@@ -8,10 +9,10 @@ ghost use Rattle.rc_rounds.specs.Progress.{IsProgress, IsPowerBelow, IsSame, che
 ghost use Rattle.rc_rounds.specs.Rounds.{GoesOn};
 ghost use Rattle.rc_rounds.specs.Setting.{IsSetting};
 
-use crate::parts::Setting;
+use crate::parts::{Round, Setting};
 use crate::round::{empty_state, next_state};
 use rc_base::Items;
-use rc_bgp::Sessions;
+use rc_bgp::{Changes, Sessions};
 use rc_config::Network;
 use rc_external::externals;
 use rc_ospf::Internal;
@@ -33,6 +34,8 @@ pub(crate) struct Progress {
     pub last: State,
     /// The state of the round before the last one, where two are made: a router that reads the same as there isn't made anew.
     pub before: State,
+    /// What changed in best paths from there to the last round, where two are made: only that is decided anew.
+    pub changes: Changes,
     /// The state of the checkpoint, where that is an earlier round yet.
     pub kept: State,
 }
@@ -45,6 +48,7 @@ impl Drop for Progress {
             checkpoint: _,
             last: _,
             before: _,
+            changes: _,
             kept: _,
         } = self;
     }
@@ -93,6 +97,7 @@ impl Progress {
             checkpoint: 0,
             last,
             before: Items::new(alloc),
+            changes: Items::new(alloc),
             kept: Items::new(alloc),
         })
     }
@@ -125,7 +130,7 @@ impl Progress {
         Same::Neither
     }
 
-    /// The state after the next round, whose number is the phase of its workers at the gate.
+    /// What the next round makes, whose number is the phase of its workers at the gate.
     pub fn next<R: Threads + Sync, G: Gate>(
         &self,
         rt: &R,
@@ -135,14 +140,15 @@ impl Progress {
         sessions: &Sessions,
         workers: u32,
         gate: &G,
-    ) -> Result<State, AllocError>
+    ) -> Result<Round, AllocError>
         requires setting { IsSetting net.now internal.now sessions.now }
         requires made { IsProgress net.now internal.now self.now }
         requires few { self.now.done < 100000 }
         requires some_workers { 1 ≤ workers }
         requires few_workers { workers ≤ 64 }
-        ensures value { IfOk result (λ s. s ≡ rib.next_state net.now internal.now self.now.last) }
-        ensures in_order { IfOk result (IsStateOf (length net.now.routers)) }
+        ensures value { IfOk result (λ r. r.state ≡ rib.next_state net.now internal.now self.now.last) }
+        ensures in_order { IfOk result (λ r. IsStateOf (length net.now.routers) r.state) }
+        ensures changes { IfOk result (λ r. AreChanges r.changes self.now.last r.state) }
     {
         let externals = externals(alloc, net, &self.last)?;
         let setting = Setting {
@@ -151,6 +157,7 @@ impl Progress {
             sessions,
             externals: &externals,
             has_earlier: self.done > 0,
+            changes: &self.changes,
         };
         next_state(
             rt,
@@ -165,17 +172,18 @@ impl Progress {
     }
 
     /// One round further.
-    pub fn after(self, next: State) -> Progress
+    pub fn after(self, next: State, changed: Changes) -> Progress
         requires few { self.done < 100000 }
         requires checkpoint { self.checkpoint ≤ 100000 }
         ensures done { result.done ≡ self.done + 1 }
-        ensures made { (net : NetworkModel) (internal : InternalModel) → IsProgress net internal self → IsStateOf (length net.routers) next → next ≡ rib.next_state net internal self.last → GoesOn net internal (self.done + 1) → IsProgress net internal result }
+        ensures made { (net : NetworkModel) (internal : InternalModel) → IsProgress net internal self → IsStateOf (length net.routers) next → next ≡ rib.next_state net internal self.last → AreChanges changed self.last next → GoesOn net internal (self.done + 1) → IsProgress net internal result }
     {
         let Progress {
             done,
             checkpoint,
             last,
             before,
+            changes: _,
             kept,
         } = self;
         let round = done + 1;
@@ -183,6 +191,7 @@ impl Progress {
             done: round,
             checkpoint: next_checkpoint(round, checkpoint),
             last: next,
+            changes: changed,
             kept: kept_of(checkpoint + 1 == done, before, kept),
             before: last,
         }

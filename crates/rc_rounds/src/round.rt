@@ -1,15 +1,18 @@
 //! One round of all routers, which its workers share.
-ghost use Rattle.std.specs.Prelude.{◌≡◌, ◌≤◌, IfOk, length};
+ghost use Rattle.std.specs.Prelude.{◌≡◌, ◌≤◌, IfOk, length, map};
+ghost use Rattle.rc_bgp.specs.Changes.{AreChanges};
 ghost use Rattle.rc_route.specs.Tables.{IsStateOf};
 ghost use Rattle.rc_rib.specs.Next as rib;
+ghost use Rattle.rc_rib.specs.declared.made.Made.{Made as MadeModel};
 ghost use Rattle.rc_rounds.specs.Rounds.{empty_state};
 ghost use Rattle.rc_rounds.specs.Parts.{AreRead};
 
-use crate::parts::Setting;
+use crate::parts::{Round, Setting};
 use crate::shares::next_shares;
 use rc_base::Items;
 use rc_config::Network;
 use rc_outside::Gate;
+use rc_rib::Made;
 use rc_route::{RouterState, State};
 use std::alloc::{AllocError, Global};
 use std::thread::Threads;
@@ -29,7 +32,25 @@ pub(crate) fn empty_state(alloc: Global, net: &Network) -> Result<State, AllocEr
     Ok(state)
 }
 
-/// The state after a round in which all routers read the same states.
+/// What was made of each router, as one state and what changed in it.
+fn put_together(alloc: Global, all: Vec<Made>) -> Result<Round, AllocError>
+    ensures state { IfOk result (λ r. r.state ≡ map (λ (m : MadeModel). m.state) all.items) }
+    ensures changes { IfOk result (λ r. r.changes ≡ map (λ (m : MadeModel). m.changed) all.items) }
+{
+    let mut state = Items::from_vec(Vec::with_capacity(alloc, all.len())?);
+    let mut changes = Items::from_vec(Vec::with_capacity(alloc, all.len())?);
+    for made in all {
+        let Made {
+            state: known,
+            changed,
+        } = made;
+        state.push(known)?;
+        changes.push(changed)?;
+    }
+    Ok(Round { state, changes })
+}
+
+/// The state after a round in which all routers read the same states, and what changed from the one that they read.
 ///
 /// Workers share the routers and work at once. Each worker passes the gate before its work, also where its share is empty.
 pub(crate) fn next_state<R: Threads + Sync, G: Gate>(
@@ -41,13 +62,15 @@ pub(crate) fn next_state<R: Threads + Sync, G: Gate>(
     workers: u32,
     phase: u32,
     gate: &G,
-) -> Result<State, AllocError>
+) -> Result<Round, AllocError>
     requires read { AreRead setting.now read.now earlier.now }
     requires some_workers { 1 ≤ workers }
     requires few_workers { workers ≤ 64 }
-    ensures value { IfOk result (λ s. s ≡ rib.next_state setting.now.network.now setting.now.internal.now read.now) }
-    ensures in_order { IfOk result (IsStateOf (length setting.now.network.now.routers)) }
+    ensures value { IfOk result (λ r. r.state ≡ rib.next_state setting.now.network.now setting.now.internal.now read.now) }
+    ensures in_order { IfOk result (λ r. IsStateOf (length setting.now.network.now.routers) r.state) }
+    ensures changes { IfOk result (λ r. AreChanges r.changes read.now r.state) }
 {
     let all = next_shares(rt, alloc, setting, read, earlier, workers, phase, gate)?;
-    Ok(Items::from_vec(all))
+    let round = put_together(alloc, all)?;
+    Ok(round)
 }

@@ -8,6 +8,7 @@ ghost use Rattle.rc_rounds.specs.Setting.{IsSetting};
 ghost use Rattle.rc_rounds.specs.Silent.{AreAsked};
 
 use crate::Outcome;
+use crate::parts::Round;
 use crate::progress::{Progress, Same};
 use crate::silent::links_asked;
 use rc_bgp::{Sessions, sessions};
@@ -87,12 +88,16 @@ fn rounds_within<R: Threads + Sync, G: Gate>(
 {
     let mut progress = Progress::start(alloc, net)?;
     for done in 0..limit {
-        let next = progress.next(rt, alloc, net, internal, sessions, workers, gate)?;
+        let round = progress.next(rt, alloc, net, internal, sessions, workers, gate)?;
+        let Round {
+            state: next,
+            changes,
+        } = round;
         let same = progress.same(&next);
         match same {
             Same::Last => return Ok(Outcome::Fixed(done + 1, next)),
             Same::Checkpoint => return Ok(Outcome::Repeats(progress.checkpoint, done + 1)),
-            Same::Neither => progress = progress.after(next),
+            Same::Neither => progress = progress.after(next, changes),
         }
     }
     Ok(Outcome::Limit(limit))

@@ -4,19 +4,18 @@
 //! alone. All of them read the state before, which nobody changes, and each makes a list of its own, so nothing has to be
 //! locked; the lists are put together in the order of the routers. Where a half has one router or none, no thread is started for it:
 //! its workers pass the gate one after another, and the router is made.
-ghost use Rattle.std.specs.Prelude.{◌≡◌, ◌++◌, ◌≤◌, ◌<◌, IfOk, IfSome, length, map, true};
-ghost use Rattle.std.specs.List.{range_with_len};
+ghost use Rattle.std.specs.Prelude.{◌≡◌, ◌++◌, ◌≤◌, ◌<◌, IfOk, IfSome, length, true};
 ghost use Rattle.std.specs.Thread.{IsSync};
 ghost use Rattle.rc_rib.specs.Inputs.{AreInputs};
-ghost use Rattle.rc_rib.specs.Next.{next_router};
 ghost use Rattle.rc_rounds.specs.Parts.{IsReady};
-ghost use Rattle.rc_rounds.specs.Shares.{IsShare, IsStretch, share_start};
+ghost use Rattle.rc_rounds.specs.Shares.{IsMade, IsShare, IsStretch, share_start};
 
 use crate::parts::Setting;
 use rc_base::RouterId;
+use rc_bgp::Changes;
 use rc_outside::Gate;
-use rc_rib::{Inputs, table};
-use rc_route::{RouterState, State};
+use rc_rib::{Earlier, Inputs, Made, table};
+use rc_route::State;
 use std::alloc::{AllocError, Global};
 use std::thread::{Threads, join};
 
@@ -38,31 +37,35 @@ fn share_of(
     inputs: &Inputs<'_>,
     from: usize,
     to: usize,
-) -> Result<Vec<RouterState>, AllocError>
+) -> Result<Vec<Made>, AllocError>
     requires read { AreInputs inputs.now }
     requires up { from ≤ to }
     requires end { to ≤ length inputs.now.network.now.routers }
-    ensures { IfOk result (λ s. IsStretch (next_router inputs.now.network.now inputs.now.internal.now inputs.now.previous.now) from to s.items) }
+    ensures { IfOk result (λ s. IsStretch (IsMade inputs.now.network.now inputs.now.internal.now inputs.now.previous.now) from to s.items) }
 {
-    let mut state = Vec::new(alloc);
+    let mut made = Vec::new(alloc);
     for index in from..to {
-        state.push(table(alloc, inputs, RouterId::at(index))?)?;
+        made.push(table(alloc, inputs, RouterId::at(index))?)?;
     }
-    Ok(state)
+    Ok(made)
 }
 
-/// A state, where there was a round earlier yet.
-fn earlier_of(has_earlier: bool, earlier: &State) -> Option<&State>
-    ensures { IfSome result (λ old. (has_earlier ≡ true) × (old.now ≡ earlier.now)) }
+/// A state and what changed since, where there was a round earlier yet.
+fn earlier_of<'a>(has_earlier: bool, state: &'a State, changes: &'a Changes) -> Option<Earlier<'a>>
+    ensures { IfSome result (λ e. (has_earlier ≡ true) × (e.state.now ≡ state.now) × (e.changes.now ≡ changes.now)) }
 {
-    if has_earlier { Some(earlier) } else { None }
+    if has_earlier {
+        Some(Earlier { state, changes })
+    } else {
+        None
+    }
 }
 
 /// What makes anew what each router knows, from what all workers read: this, what a round reads, and what was read a round earlier.
 /// These are parts, so that each by itself is shown to be shared by workers.
 pub(crate) trait Makes<B>: Sync {
     ghost use Rattle.std.specs.Prelude.{ℕ};
-    ghost use Rattle.rc_route.specs.declared.state.RouterState.{RouterState as Known};
+    ghost use Rattle.rc_rib.specs.declared.made.Made.{Made as Known};
 
     /// How many routers there are.
     ghost count: { Self → ℕ };
@@ -70,8 +73,8 @@ pub(crate) trait Makes<B>: Sync {
     /// What is read is as it has to be.
     ghost ready: { Self → B → B → Type 0 };
 
-    /// What a router knows then, by its index.
-    ghost known: { Self → B → ℕ → Known };
+    /// That this is made of a router then, by its index.
+    ghost makes: { Self → B → ℕ → Known → Type 0 };
 
     /// How many routers there are.
     fn routers(&self) -> usize
@@ -86,23 +89,23 @@ pub(crate) trait Makes<B>: Sync {
         alloc: Global,
         from: usize,
         to: usize,
-    ) -> Result<Vec<RouterState>, AllocError>
+    ) -> Result<Vec<Made>, AllocError>
         requires ready { ready self.now read.now earlier.now }
         requires up { from ≤ to }
         requires end { to ≤ count self.now }
-        ensures { IfOk result (λ s. IsStretch (known self.now read.now) from to s.items) };
+        ensures { IfOk result (λ s. IsStretch (makes self.now read.now) from to s.items) };
 }
 
 impl<'a> Makes<State> for Setting<'a> {
     ghost use Rattle.std.specs.Prelude.{length};
-    ghost use Rattle.rc_rib.specs.Next.{next_router};
     ghost use Rattle.rc_rounds.specs.Parts.{IsReady};
+    ghost use Rattle.rc_rounds.specs.Shares.{IsMade};
 
     ghost count = { λ s. length s.network.now.routers };
 
     ghost ready = { IsReady };
 
-    ghost known = { λ s b. next_router s.network.now s.internal.now b };
+    ghost makes = { λ s b. IsMade s.network.now s.internal.now b };
 
     fn routers(&self) -> usize
         ensures { result ≡ length self.now.network.now.routers }
@@ -118,11 +121,11 @@ impl<'a> Makes<State> for Setting<'a> {
         alloc: Global,
         from: usize,
         to: usize,
-    ) -> Result<Vec<RouterState>, AllocError>
+    ) -> Result<Vec<Made>, AllocError>
         requires ready { IsReady self.now read.now earlier.now }
         requires up { from ≤ to }
         requires end { to ≤ length self.now.network.now.routers }
-        ensures { IfOk result (λ s. IsStretch (next_router self.now.network.now self.now.internal.now read.now) from to s.items) }
+        ensures { IfOk result (λ s. IsStretch (IsMade self.now.network.now self.now.internal.now read.now) from to s.items) }
     {
         let inputs = Inputs {
             network: self.network,
@@ -130,7 +133,7 @@ impl<'a> Makes<State> for Setting<'a> {
             sessions: self.sessions,
             externals: self.externals,
             previous: read,
-            earlier: earlier_of(self.has_earlier, earlier),
+            earlier: earlier_of(self.has_earlier, earlier, self.changes),
         };
         share_of(alloc, &inputs, from, to)
     }
@@ -146,11 +149,8 @@ fn share_start(routers: usize, workers: u32, worker: u32) -> usize
     routers * worker as usize / workers as usize
 }
 
-/// Two parts of a state, one behind the other.
-fn appended(
-    mut left: Vec<RouterState>,
-    mut right: Vec<RouterState>,
-) -> Result<Vec<RouterState>, AllocError>
+/// What is made of the routers of two stretches, one behind the other.
+fn appended(mut left: Vec<Made>, mut right: Vec<Made>) -> Result<Vec<Made>, AllocError>
     ensures { IfOk result (λ all. all.items ≡ left.items ++ right.items) }
 {
     left.append(&mut right)?;
@@ -169,13 +169,13 @@ fn work<R: Threads + Sync, W: Makes<B>, B: Sync, G: Gate>(
     last: u32,
     phase: u32,
     gate: &G,
-) -> Result<Vec<RouterState>, AllocError>
+) -> Result<Vec<Made>, AllocError>
     requires ready { W.ready round.now read.now earlier.now }
     requires few { W.count round.now ≤ 512 }
     requires some { first < last }
     requires end { last ≤ workers }
     requires few_workers { workers ≤ 64 }
-    ensures { IfOk result (λ s. IsShare (W.known round.now read.now) (W.count round.now) workers first last s.items) }
+    ensures { IfOk result (λ s. IsShare (W.makes round.now read.now) (W.count round.now) workers first last s.items) }
 {
     let routers = round.routers();
     let from = share_start(routers, workers, first);
@@ -187,17 +187,17 @@ fn work<R: Threads + Sync, W: Makes<B>, B: Sync, G: Gate>(
     let middle = first + (last - first) / 2;
     let (left, right) = join(
         rt,
-        || -> Result<Vec<RouterState>, AllocError>
+        || -> Result<Vec<Made>, AllocError>
             requires { IsSync R.row × IsSync W.row × IsSync B.row × W.ready round.now read.now earlier.now × (W.count round.now ≤ 512) × (workers ≤ 64) × (first < middle) × (middle ≤ workers) }
-            ensures { IfOk result (λ s. IsShare (W.known round.entry.now read.entry.now) (W.count round.entry.now) workers first middle s.items) }
+            ensures { IfOk result (λ s. IsShare (W.makes round.entry.now read.entry.now) (W.count round.entry.now) workers first middle s.items) }
         {
             work(
                 rt, alloc, round, read, earlier, workers, first, middle, phase, gate,
             )
         },
-        || -> Result<Vec<RouterState>, AllocError>
+        || -> Result<Vec<Made>, AllocError>
             requires { IsSync R.row × IsSync W.row × IsSync B.row × W.ready round.now read.now earlier.now × (W.count round.now ≤ 512) × (workers ≤ 64) × (middle < last) × (last ≤ workers) }
-            ensures { IfOk result (λ s. IsShare (W.known round.entry.now read.entry.now) (W.count round.entry.now) workers middle last s.items) }
+            ensures { IfOk result (λ s. IsShare (W.makes round.entry.now read.entry.now) (W.count round.entry.now) workers middle last s.items) }
         {
             work(
                 rt, alloc, round, read, earlier, workers, middle, last, phase, gate,
@@ -219,12 +219,12 @@ pub(crate) fn all_shares<R: Threads + Sync, W: Makes<B>, B: Sync, G: Gate>(
     workers: u32,
     phase: u32,
     gate: &G,
-) -> Result<Vec<RouterState>, AllocError>
+) -> Result<Vec<Made>, AllocError>
     requires ready { W.ready round.now read.now earlier.now }
     requires few { W.count round.now ≤ 512 }
     requires some_workers { 1 ≤ workers }
     requires few_workers { workers ≤ 64 }
-    ensures { IfOk result (λ s. IsStretch (W.known round.now read.now) 0 (W.count round.now) s.items) }
+    ensures { IfOk result (λ s. IsStretch (W.makes round.now read.now) 0 (W.count round.now) s.items) }
 {
     work(
         rt, alloc, round, read, earlier, workers, 0, workers, phase, gate,
@@ -241,12 +241,12 @@ pub(crate) fn next_shares<R: Threads + Sync, G: Gate>(
     workers: u32,
     phase: u32,
     gate: &G,
-) -> Result<Vec<RouterState>, AllocError>
+) -> Result<Vec<Made>, AllocError>
     requires ready { IsReady setting.now read.now earlier.now }
     requires few { length setting.now.network.now.routers ≤ 512 }
     requires some_workers { 1 ≤ workers }
     requires few_workers { workers ≤ 64 }
-    ensures { IfOk result (λ s. IsStretch (next_router setting.now.network.now setting.now.internal.now read.now) 0 (length setting.now.network.now.routers) s.items) }
+    ensures { IfOk result (λ s. IsStretch (IsMade setting.now.network.now setting.now.internal.now read.now) 0 (length setting.now.network.now.routers) s.items) }
 {
     all_shares(rt, alloc, setting, read, earlier, workers, phase, gate)
 }

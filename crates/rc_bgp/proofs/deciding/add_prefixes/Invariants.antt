@@ -1,4 +1,4 @@
-use Rattle.std.proofs.Common.{◌≡◌, drop, map}
+use Rattle.std.proofs.Common.{◌≡◌, drop}
 use Rattle.std.specs.List.{fold}
 use Rattle.std.specs.BTreeSet.{keys, insert_key}
 use Rattle.rc_base.specs.Prefix.{prefix_cmp}

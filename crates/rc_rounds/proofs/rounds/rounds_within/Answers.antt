@@ -12,7 +12,7 @@ pub returns-in-Checkpoint-clause-outcome : goal.returns-in-Checkpoint-clause-out
 returns-in-Checkpoint-clause-outcome g c =
     let p = c.loop-done.progress in
     let same = c.in-Checkpoint.ensures in
-    repeats c.args.net.now c.args.internal.now p c.loop-done.invariant.made c.in_ok-next.next c.in_ok-next.ensures.value same.0 same.1 c.args.limit (c.loop-done.done + 1) (ap (λ n. n + 1) (sym c.loop-done.invariant.at)) (omega arith)
+    repeats c.args.net.now c.args.internal.now p c.loop-done.invariant.made c.in_ok-round.round.state c.in_ok-round.ensures.value same.0 same.1 c.args.limit (c.loop-done.done + 1) (ap (λ n. n + 1) (sym c.loop-done.invariant.at)) (omega arith)
 
 pub loop-done-preserved : goal.loop-done-preserved
 loop-done-preserved g c =
@@ -20,9 +20,9 @@ loop-done-preserved g c =
     let internal = c.args.internal.now in
     let p = c.loop-done.progress in
     let at = c.loop-done.invariant.made in
-    let made = c.in_ok-next.ensures.value in
+    let made = c.in_ok-round.ensures.value in
     let neither = c.in-Neither.ensures in
     record {
       at = c.after-progress.ensures.done ∙ ap (λ n. n + 1) c.loop-done.invariant.at;
-      made = c.after-progress.ensures.made net internal at c.in_ok-next.ensures.in_order made (goes_on net internal p at c.in_ok-next.next made neither.0 neither.1);
+      made = c.after-progress.ensures.made net internal at c.in_ok-round.ensures.in_order made c.in_ok-round.ensures.changes (goes_on net internal p at c.in_ok-round.round.state made neither.0 neither.1);
     }

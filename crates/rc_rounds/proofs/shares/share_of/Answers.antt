@@ -1,29 +1,19 @@
-use Rattle.std.proofs.Common.{rules, ◌≡◌, ◌++◌, ◌+◌, ◌-◌, ℕ, [], ◌∷◌, ap, sym, ◌∙◌, arith}
-use Rattle.rc_route.specs.declared.state.RouterState.{RouterState}
-use Rattle.rc_rib.specs.Next.{next_router}
-use Rattle.rc_rounds.specs.Shares.{rows}
-use Rattle.rc_rounds.proofs.ShareLaws.{rows-none, rows-more, one-more}
+use Rattle.std.proofs.Common.{rules, ◌≡◌, ◌++◌, ◌+◌, ℕ, [], ◌∷◌, sym, subst}
+use Rattle.rc_rib.specs.declared.made.Made.{Made}
+use Rattle.rc_rounds.specs.Shares.{IsMade, IsStretch}
+use Rattle.rc_rounds.proofs.ShareLaws.{nothing_made, one_made}
 use Rattle.rc_rounds.proofs.shares.share_of.Goals as goal
 
 pub loop-index-init : goal.loop-index-init
-loop-index-init c = record {
-  value = c.new-state.ensures.items ∙ sym (rows-none (next_router c.args.inputs.now.network.now c.args.inputs.now.internal.now c.args.inputs.now.previous.now) c.args.from (c.args.from - c.args.from) (omega arith));
-  in_order = rw c.new-state.ensures.items (λ k d less. absurd (omega (arith, less)));
-}
+loop-index-init c =
+    let makes : ℕ → Made → Type 0 = IsMade c.args.inputs.now.network.now c.args.inputs.now.internal.now c.args.inputs.now.previous.now in
+    subst (IsStretch makes c.args.from c.args.from) (sym c.new-made.ensures.items) (nothing_made makes c.args.from)
 
 pub loop-index-preserved : goal.loop-index-preserved
 loop-index-preserved c =
-    let known : ℕ → RouterState = next_router c.args.inputs.now.network.now c.args.inputs.now.internal.now c.args.inputs.now.previous.now in
-    let from = c.args.from in
-    let index = c.loop-index.index in
-    let pushed : c.push.new.self.items ≡ c.loop-index.state.items ++ c.in_ok-table.field-0 ∷ [] = search rules in
-    let next : c.in_ok-table.field-0 ≡ known index = search rules in
-    let count : index + 1 - from ≡ index - from + 1 = omega arith in
-    let more = rows-more known from (index - from) index (omega arith) in
-    record {
-      value =
-          pushed ∙ ap (λ s. s ++ c.in_ok-table.field-0 ∷ []) c.loop-index.invariant.value
-          ∙ ap (λ s. rows known from (index - from) ++ s ∷ []) next
-          ∙ sym (ap (λ n. rows known from n) count ∙ more);
-      in_order = rw pushed (one-more c.loop-index.state.items c.in_ok-table.field-0 c.loop-index.invariant.in_order c.in_ok-table.ensures.in_order);
-    }
+    let makes : ℕ → Made → Type 0 = IsMade c.args.inputs.now.network.now c.args.inputs.now.internal.now c.args.inputs.now.previous.now in
+    let m = c.in_ok-table.field-0 in
+    let pushed : c.push.new.self.items ≡ c.loop-index.made.items ++ m ∷ [] = search rules in
+    let there : makes c.at.result m = record { state = c.in_ok-table.ensures.next; in_order = c.in_ok-table.ensures.in_order; changed = c.in_ok-table.ensures.changed } in
+    let is = subst (λ r. makes r m) c.at.ensures there in
+    subst (IsStretch makes c.args.from (c.loop-index.index + 1)) (sym pushed) (one_made makes c.args.from c.loop-index.index c.loop-index.made.items m c.loop-index.invariant is)

@@ -9,4 +9,4 @@ share_of-requires-clause-read c =
     let s = c.args.self.now in
     let r : AreRead s c.args.read.now c.args.earlier.now = c.requires.ready in
     are_inputs _ s.network.now s.internal.now s.sessions.now s.externals.now c.args.read.now refl refl refl refl refl r.setting r.state r.externals r.by_prefix
-    (told_earlier s.network.now s.internal.now c.args.read.now c.earlier_of.result s.has_earlier c.args.earlier.now c.earlier_of.ensures r.earlier)
+    (told_earlier s.network.now s.internal.now c.args.read.now c.earlier_of.result s.has_earlier c.args.earlier.now s.changes.now c.earlier_of.ensures r.earlier)

@@ -1,9 +1,0 @@
-use Rattle.std.proofs.Common.{◌≡◌, drop}
-use Rattle.std.specs.List.{fold}
-use Rattle.std.specs.BTreeSet.{keys, insert_key}
-use Rattle.rc_base.specs.Lists.{in_order}
-use Rattle.rc_base.specs.Prefix.{prefix_cmp}
-use Rattle.rc_bgp.proofs.originating.prefix_set.Given as goal
-
-abbrev pub invariant-loop-prefix : goal.invariant-loop-prefix
-invariant-loop-prefix l = fold (insert_key prefix_cmp) (keys l.set) (drop l.prefix-index l.prefixes) ≡ in_order prefix_cmp l.prefixes

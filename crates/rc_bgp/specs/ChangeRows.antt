@@ -1,0 +1,95 @@
+-- Worked cases of what changes from one state to the next, each by computation.
+use Rattle.std.specs.Prelude.{◌≡◌, true, false, List, [], ◌∷◌, refl}
+use Rattle.rc_base.specs.Prefix.{Cidr}
+use Rattle.rc_config.specs.declared.network.Network.{Network}
+use Rattle.rc_fib.specs.Forwarding.{hops_within}
+use Rattle.rc_route.specs.declared.path.BgpPath.{BgpPath}
+use Rattle.rc_route.specs.declared.path.PathSource.TheVariants.{Network as ByNetwork, External}
+use Rattle.rc_route.specs.declared.route.Route.{Route}
+use Rattle.rc_route.specs.declared.state.RouterState.{RouterState}
+use Rattle.rc_bgp.specs.Candidates.{best_paths}
+use Rattle.rc_bgp.specs.Changes.{changes_of, mended_paths, suspects}
+use Rattle.rc_bgp.specs.Nets.{ip, subnet, gigabit, gigabit_1, on, peer, process, router, two, external, connected, knows, ninth}
+use Rattle.rc_bgp.specs.Sessions.{is_up}
+use Rattle.rc_bgp.specs.declared.session.Session.{Session}
+
+pub changes_past_the_end : changes_of ((subnet 9 ∷ []) ∷ []) 1 ≡ []
+changes_past_the_end = refl
+
+-- what two senders tell counts once, in order; a router without a session to this one is none of them
+pub suspects_of_two : suspects ((subnet 9 ∷ subnet 8 ∷ []) ∷ (subnet 7 ∷ []) ∷ (subnet 9 ∷ []) ∷ []) (external 0 (ip 12 1) 1 (ip 12 2) ∷ external 2 (ip 23 3) 1 (ip 23 2) ∷ []) ≡ subnet 8 ∷ subnet 9 ∷ []
+suspects_of_two = refl
+
+-- ---- R1 of AS 65001 has a session with R2 of AS 65002 on 10.0.12.0/24
+
+abbrev net : Network
+net = two (router ((gigabit, on 12 1 24) ∷ (gigabit_1, on 9 1 24) ∷ []) (process 65001 (peer (ip 12 2) 65002 ∷ []))) (router ((gigabit, on 12 2 24) ∷ []) (process 65002 (peer (ip 12 1) 65001 ∷ [])))
+
+abbrev to_r2 : Session
+to_r2 = external 0 (ip 12 1) 1 (ip 12 2)
+
+abbrev all : List (List Session)
+all = (external 1 (ip 12 2) 0 (ip 12 1) ∷ []) ∷ (to_r2 ∷ []) ∷ []
+
+-- R1 has these best paths, and R2 those
+abbrev state : List BgpPath → List BgpPath → List RouterState
+state first second = knows (connected 0 (subnet 12) 0 ∷ []) first ∷ knows (connected 1 (subnet 12) 0 ∷ []) second ∷ []
+
+abbrev sent : Cidr → BgpPath
+sent p = record (ninth 0 ByNetwork) { prefix = p }
+
+abbrev heard : Cidr → BgpPath
+heard p = record (ninth 0 External) { prefix = p; next_hop = ip 12 1; weight = 0; as_path = 65001 ∷ []; sender_id = ip 12 1; neighbor = ip 12 1 }
+
+-- what R2 makes of its known paths, where R1 tells of these prefixes
+abbrev made : List Cidr → List BgpPath → List BgpPath → List BgpPath
+made changed first second = mended_paths net all (changed ∷ [] ∷ []) (state first second) 1
+
+pub gains : made (subnet 9 ∷ []) (sent (subnet 9) ∷ []) [] ≡ heard (subnet 9) ∷ []
+unfolding hops_within
+gains = refl
+
+pub gains_between : made (subnet 9 ∷ []) (sent (subnet 8) ∷ sent (subnet 9) ∷ sent (subnet 10) ∷ []) (heard (subnet 8) ∷ heard (subnet 10) ∷ []) ≡ heard (subnet 8) ∷ heard (subnet 9) ∷ heard (subnet 10) ∷ []
+unfolding hops_within
+gains_between = refl
+
+pub loses : made (subnet 9 ∷ []) [] (heard (subnet 9) ∷ []) ≡ []
+unfolding hops_within
+loses = refl
+
+pub stays : made (subnet 9 ∷ []) (sent (subnet 9) ∷ []) (heard (subnet 9) ∷ []) ≡ heard (subnet 9) ∷ []
+unfolding hops_within
+stays = refl
+
+pub changes_its_med : made (subnet 9 ∷ []) (record (sent (subnet 9)) { med = 7 } ∷ []) (heard (subnet 9) ∷ []) ≡ record (heard (subnet 9)) { med = 7 } ∷ []
+unfolding hops_within
+changes_its_med = refl
+
+-- nothing is decided at a prefix of which nobody tells
+pub untold : made (subnet 9 ∷ []) (sent (subnet 9) ∷ []) (heard (subnet 8) ∷ []) ≡ heard (subnet 8) ∷ heard (subnet 9) ∷ []
+unfolding hops_within
+untold = refl
+
+-- ---- off a shared subnet R2 needs a route to R1: once it has one, it hears what R1 had long before, and R1 tells of nothing
+
+abbrev far : Session
+far = record to_r2 { is_shared = false }
+
+abbrev with_route : List Route → List RouterState
+with_route routes = knows (connected 0 (subnet 12) 0 ∷ []) (sent (subnet 9) ∷ []) ∷ knows routes [] ∷ []
+
+pub is_down_at_first : is_up (with_route []) far ≡ false
+unfolding hops_within
+is_down_at_first = refl
+
+pub comes_up : is_up (with_route (connected 1 (subnet 12) 0 ∷ [])) far ≡ true
+unfolding hops_within
+comes_up = refl
+
+pub hears_nothing_at_first : best_paths net ([] ∷ (far ∷ []) ∷ []) (with_route []) 1 ≡ []
+unfolding best_paths hops_within
+hears_nothing_at_first = refl
+
+pub hears_what_was_there : best_paths net ([] ∷ (far ∷ []) ∷ []) (with_route (connected 1 (subnet 12) 0 ∷ [])) 1 ≡ heard (subnet 9) ∷ []
+unfolding best_paths hops_within
+hears_what_was_there = refl
