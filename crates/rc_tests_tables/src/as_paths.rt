@@ -37,17 +37,43 @@ fn check_equal(rt: &impl Abort, one: &AsPath, other: &AsPath, wanted: bool) {
     assert!(rt; (other == one) == wanted);
 }
 
+/// Asserts whether a path is equal to that of these numbers.
+fn check_like(
+    rt: &impl Abort,
+    alloc: Global,
+    one: &AsPath,
+    numbers: &[u32],
+    wanted: bool,
+) -> Result<(), AllocError> {
+    let other = path(alloc, numbers)?;
+    check_equal(rt, one, &other, wanted);
+    Ok(())
+}
+
+/// Numbers, and whether they are those of the path 65003 65002 65001.
+const LIKE: [(&[u32], bool); 4] = [
+    (&[65003, 65002, 65001], true),
+    (&[65002, 65001], false),
+    (&[65003, 65002], false),
+    (&[65003, 65002, 65009], false),
+];
+
+/// Asserts what is equal to the path 65003 65002 65001.
+fn check_one(rt: &impl Abort, alloc: Global, one: &AsPath) -> Result<(), AllocError> {
+    for (numbers, wanted) in LIKE {
+        check_like(rt, alloc, one, numbers, wanted)?;
+    }
+    check_equal(rt, one, &one.share()?, true);
+    Ok(())
+}
+
 #[test]
 fn paths_are_equal_by_their_numbers(rt: HostRuntime) -> Result<(), Fail> {
-    let alloc = rt.alloc();
-    let tail = path(alloc, &[65002, 65001])?;
-    let one = tail.prepend(alloc, 65003)?;
-    check_equal(&rt, &one, &path(alloc, &[65003, 65002, 65001])?, true);
-    check_equal(&rt, &one, &one.share()?, true);
-    check_equal(&rt, &one, &tail, false);
-    check_equal(&rt, &one, &path(alloc, &[65003, 65002])?, false);
-    check_equal(&rt, &one, &path(alloc, &[65003, 65002, 65009])?, false);
+    let tail = path(rt.alloc(), &[65002, 65001])?;
     check_equal(&rt, &tail, &AsPath::empty(), false);
+    let one = tail.prepend(rt.alloc(), 65003)?;
+    check_equal(&rt, &one, &tail, false);
+    check_one(&rt, rt.alloc(), &one)?;
     Ok(())
 }
 

@@ -1,4 +1,4 @@
-//! Tests of tables and walks: AS paths, routes, OSPF, prepared tables, access lists and routing policy, links, walks, rounds, what is
+//! Tests of tables and walks: AS paths, routes, OSPF, BGP, prepared tables, access lists and routing policy, links, walks, rounds, what is
 //! printed of them, and the words of a command line.
 //!
 //! They stand above the crates that they try, since a crate with tests of its own is proved twice. Expected values come
@@ -9,6 +9,8 @@
 mod access_lists;
 #[cfg(test)]
 mod as_paths;
+#[cfg(test)]
+mod bgp;
 #[cfg(test)]
 mod commands;
 #[cfg(test)]
@@ -25,6 +27,8 @@ mod printed;
 mod refused_commands;
 #[cfg(test)]
 mod rounds;
+#[cfg(test)]
+mod routers;
 #[cfg(test)]
 mod states;
 #[cfg(test)]

@@ -2,7 +2,7 @@
 use rc_base::{Addr, IfId, Name, RouterId};
 use rc_config::{Command, IfAddr, IfType, Named, Network, RouterText};
 use rc_topology::Links;
-use std::alloc::Global;
+use std::alloc::{AllocError, Global};
 use std::process::Abort;
 use std::test::Fail;
 
@@ -40,35 +40,51 @@ fn addr(host: u32) -> Addr {
     Addr::new(0x0a00_0000 | host)
 }
 
-/// The file with one more address.
-fn with_line(text: RouterText, line: &Line) -> Result<RouterText, Fail> {
-    let interface = Name::new(line.interface).ok_or("a name")?;
-    let address = IfAddr::new(addr(line.host), line.len).ok_or("a mask")?;
+/// Puts one more address.
+fn put_line(text: &mut RouterText, line: &Line) -> Result<(), Fail> {
     let command = Command::Address {
-        interface,
-        address,
+        interface: Name::new(line.interface).ok_or("a name")?,
+        address: IfAddr::new(addr(line.host), line.len).ok_or("a mask")?,
         secondary: line.secondary,
     };
-    Ok(text.put(command)?)
+    Ok(text.apply(command)?)
 }
 
-/// The file of these addresses, where the interface of a name is shut.
-fn file(alloc: Global, lines: &[Line], shut: &[u8]) -> Result<RouterText, Fail> {
-    let mut text = RouterText::new(alloc);
-    for line in lines {
-        text = with_line(text, line)?;
-    }
-    match Name::new(shut) {
-        None => Ok(text),
-        Some(interface) => Ok(text.put(Command::Shutdown {
+/// Shuts the interface of a name, if it is one.
+fn shut(text: &mut RouterText, interface: &[u8]) -> Result<(), AllocError> {
+    match Name::new(interface) {
+        None => Ok(()),
+        Some(interface) => text.apply(Command::Shutdown {
             interface,
             down: true,
-        })?),
+        }),
     }
 }
 
-/// The first router: its Ethernet0 on three subnets, and a line to the second one.
-fn first(alloc: Global) -> Result<RouterText, Fail> {
+/// Puts these addresses, and shuts the interface of a name.
+fn put_lines(text: &mut RouterText, lines: &[Line], down: &[u8]) -> Result<(), Fail> {
+    for line in lines {
+        put_line(text, line)?;
+    }
+    Ok(shut(text, down)?)
+}
+
+/// Puts a router of these addresses, where the interface of a name is shut.
+fn put_router(
+    routers: &mut Named<RouterText>,
+    name: &[u8],
+    lines: &[Line],
+    down: &[u8],
+) -> Result<(), Fail> {
+    let name = Name::new(name).ok_or("a name")?;
+    let mut text = RouterText::new(routers.allocator());
+    put_lines(&mut text, lines, down)?;
+    routers.insert(name, text)?;
+    Ok(())
+}
+
+/// Puts the first router: its Ethernet0 on three subnets, and a line to the second one.
+fn put_first(routers: &mut Named<RouterText>) -> Result<(), Fail> {
     let lines = [
         primary(b"Ethernet0", 0x0001, 24),
         secondary(b"Ethernet0", 0x0201, 24),
@@ -77,21 +93,21 @@ fn first(alloc: Global) -> Result<RouterText, Fail> {
         primary(b"Serial0", 0x0a01, 30),
         primary(b"Ethernet1", 0x0304, 24),
     ];
-    file(alloc, &lines, b"Ethernet1")
+    put_router(routers, b"a", &lines, b"Ethernet1")
 }
 
-/// The second router.
-fn second(alloc: Global) -> Result<RouterText, Fail> {
+/// Puts the second router.
+fn put_second(routers: &mut Named<RouterText>) -> Result<(), Fail> {
     let lines = [
         primary(b"Ethernet0", 0x0002, 24),
         primary(b"Ethernet1", 0x0202, 24),
         primary(b"Serial0", 0x0a02, 30),
     ];
-    file(alloc, &lines, b"")
+    put_router(routers, b"b", &lines, b"")
 }
 
-/// The third router.
-fn third(alloc: Global) -> Result<RouterText, Fail> {
+/// Puts the third router.
+fn put_third(routers: &mut Named<RouterText>) -> Result<(), Fail> {
     let lines = [
         primary(b"Ethernet0", 0x0103, 24),
         secondary(b"Ethernet0", 0x0003, 24),
@@ -100,27 +116,19 @@ fn third(alloc: Global) -> Result<RouterText, Fail> {
         primary(b"Ethernet2", 0x0305, 24),
         primary(b"Tunnel0", 0x0a03, 29),
     ];
-    file(alloc, &lines, b"")
+    put_router(routers, b"c", &lines, b"")
 }
 
-/// The routers with one more.
-fn put_router(routers: &mut Named<RouterText>, name: Name, text: RouterText) -> Result<(), Fail> {
-    routers.insert(name, text)?;
-    Ok(())
+/// Puts three routers: a line between the first two, and the first's Ethernet0 on three subnets.
+fn put_three(routers: &mut Named<RouterText>) -> Result<(), Fail> {
+    put_first(routers)?;
+    put_second(routers)?;
+    put_third(routers)
 }
 
-/// The name of so many letters.
-fn name(text: &[u8]) -> Result<Name, Fail> {
-    Ok(Name::new(text).ok_or("a name")?)
-}
-
-/// Three routers: a line between the first two, and the first's Ethernet0 on three subnets.
-fn three_routers(alloc: Global) -> Result<Network, Fail> {
-    let mut routers = Named::new(alloc);
-    put_router(&mut routers, name(b"a")?, first(alloc)?)?;
-    put_router(&mut routers, name(b"b")?, second(alloc)?)?;
-    put_router(&mut routers, name(b"c")?, third(alloc)?)?;
-    Ok(Network { routers })
+/// What is kept of the links of these routers.
+fn linked(alloc: Global, routers: Named<RouterText>) -> Result<Links, AllocError> {
+    Links::of(alloc, &Network { routers })
 }
 
 /// The interface of a router and an index.
@@ -133,8 +141,9 @@ fn id(router: usize, index: usize) -> IfId {
 
 /// What is kept of those three.
 fn three_linked(alloc: Global) -> Result<Links, Fail> {
-    let net = three_routers(alloc)?;
-    Ok(Links::of(alloc, &net)?)
+    let mut routers = Named::new(alloc);
+    put_three(&mut routers)?;
+    Ok(linked(alloc, routers)?)
 }
 
 /// Asserts that the interfaces linked with this one are these, in order.
@@ -227,21 +236,21 @@ fn interfaces_have_kinds(rt: HostRuntime) -> Result<(), Fail> {
     Ok(())
 }
 
-/// So many routers on one subnet, each with an address of its own.
-fn one_subnet(alloc: Global, routers: u8) -> Result<Network, Fail> {
-    let mut all = Named::new(alloc);
-    for n in 0..routers {
-        let name = name(&[b'r', b'0' + n / 10 % 10, b'0' + n % 10])?;
+/// Puts so many routers on one subnet, each with an address of its own.
+fn put_subnet(routers: &mut Named<RouterText>, many: u8) -> Result<(), Fail> {
+    for n in 0..many {
+        let name = [b'r', b'0' + n / 10 % 10, b'0' + n % 10];
         let line = primary(b"Vlan1", 256 + u32::from(n), 16);
-        put_router(&mut all, name, file(alloc, &[line], b"")?)?;
+        put_router(routers, &name, &[line], b"")?;
     }
-    Ok(Network { routers: all })
+    Ok(())
 }
 
 /// What is kept of the links of 64 such routers.
 fn subnet_of_64(alloc: Global) -> Result<Links, Fail> {
-    let net = one_subnet(alloc, 64)?;
-    Ok(Links::of(alloc, &net)?)
+    let mut routers = Named::new(alloc);
+    put_subnet(&mut routers, 64)?;
+    Ok(linked(alloc, routers)?)
 }
 
 /// Asserts that the fifth router is linked with each of the others, in order.

@@ -1,87 +1,64 @@
 //! Interfaces on which OSPF runs, in a network of two routers.
+use crate::routers::{put_address, put_router};
 use rc_base::{Addr, IfId, Items, Name, RouterId};
 use rc_config::{
-    Command, IfAddr, Named, Network, NetworkType, OspfLine, OspfNetwork, OspfSetting, RouterText,
+    Command, Named, Network, NetworkType, OspfLine, OspfNetwork, OspfSetting, RouterText,
 };
 use rc_ospf::{OspfInterface, ospf_interfaces};
 use std::alloc::Global;
 use std::process::Abort;
 use std::test::Fail;
 
-/// The name of so many letters.
-fn name(text: &[u8]) -> Result<Name, Fail> {
-    Ok(Name::new(text).ok_or("a name")?)
+/// Puts what an `ip ospf` line sets at an interface.
+fn put_setting(text: &mut RouterText, interface: &[u8], setting: OspfSetting) -> Result<(), Fail> {
+    let interface = Name::new(interface).ok_or("a name")?;
+    Ok(text.apply(Command::InterfaceOspf { interface, setting })?)
 }
 
-/// 10.0.0.0 and so many more.
-fn addr(host: u32) -> Addr {
-    Addr::new(0x0a00_0000 | host)
-}
-
-/// The file with an address at an interface.
-fn with_address(
-    text: RouterText,
-    interface: &[u8],
-    host: u32,
-    len: u8,
-) -> Result<RouterText, Fail> {
-    let command = Command::Address {
-        interface: name(interface)?,
-        address: IfAddr::new(addr(host), len).ok_or("a mask")?,
-        secondary: false,
-    };
-    Ok(text.put(command)?)
-}
-
-/// The file with what an `ip ospf` line sets at an interface.
-fn with_setting(
-    text: RouterText,
-    interface: &[u8],
-    setting: OspfSetting,
-) -> Result<RouterText, Fail> {
-    let interface = name(interface)?;
-    Ok(text.put(Command::InterfaceOspf { interface, setting })?)
-}
-
-/// The file with a process in which all of 10.0.0.0/8 is in one area.
-fn with_process(text: RouterText, area: u32) -> Result<RouterText, Fail> {
-    let network = OspfNetwork {
-        address: addr(0),
+/// Puts a process in which all of 10.0.0.0/8 is in one area.
+fn put_process(text: &mut RouterText, area: u32) -> Result<(), Fail> {
+    let line = OspfLine::Network(OspfNetwork {
+        address: Addr::new(0x0a00_0000),
         wildcard: Addr::new(0x00ff_ffff),
         area,
-    };
-    let text = text.put(Command::OspfOpened { process: 1 })?;
-    let line = OspfLine::Network(network);
-    Ok(text.put(Command::OspfLine { line })?)
+    });
+    text.apply(Command::OspfOpened { process: 1 })?;
+    Ok(text.apply(Command::OspfLine { line })?)
 }
 
-/// A router with a serial line of the cost 7, an Ethernet, and a loopback.
+/// Puts a serial line of the cost 7, an Ethernet, and a loopback.
+fn put_first(text: &mut RouterText) -> Result<(), Fail> {
+    put_address(text, b"Serial0", 0x0a00_0101, 30)?;
+    put_setting(text, b"Serial0", OspfSetting::Cost(7))?;
+    put_address(text, b"Ethernet0", 0x0a00_0201, 24)?;
+    put_address(text, b"Loopback0", 0x0a00_0901, 24)?;
+    put_process(text, 3)
+}
+
+/// Puts its serial line, and its Ethernet with another hello interval.
+fn put_second(text: &mut RouterText) -> Result<(), Fail> {
+    put_address(text, b"Ethernet0", 0x0a00_0202, 24)?;
+    put_setting(text, b"Ethernet0", OspfSetting::HelloInterval(5))?;
+    put_address(text, b"Serial0", 0x0a00_0102, 30)?;
+    put_process(text, 3)
+}
+
 fn first(alloc: Global) -> Result<RouterText, Fail> {
-    let text = with_address(RouterText::new(alloc), b"Serial0", 0x0101, 30)?;
-    let text = with_setting(text, b"Serial0", OspfSetting::Cost(7))?;
-    let text = with_address(text, b"Ethernet0", 0x0201, 24)?;
-    let text = with_address(text, b"Loopback0", 0x0901, 24)?;
-    with_process(text, 3)
+    let mut text = RouterText::new(alloc);
+    put_first(&mut text)?;
+    Ok(text)
 }
 
-/// A router at its serial line, and on its Ethernet with another hello interval.
 fn second(alloc: Global) -> Result<RouterText, Fail> {
-    let text = with_address(RouterText::new(alloc), b"Ethernet0", 0x0202, 24)?;
-    let text = with_setting(text, b"Ethernet0", OspfSetting::HelloInterval(5))?;
-    let text = with_address(text, b"Serial0", 0x0102, 30)?;
-    with_process(text, 3)
-}
-
-/// The routers with one more.
-fn put_router(routers: &mut Named<RouterText>, name: Name, text: RouterText) -> Result<(), Fail> {
-    routers.insert(name, text)?;
-    Ok(())
+    let mut text = RouterText::new(alloc);
+    put_second(&mut text)?;
+    Ok(text)
 }
 
 fn two_routers(alloc: Global) -> Result<Network, Fail> {
     let mut routers = Named::new(alloc);
-    put_router(&mut routers, name(b"a")?, first(alloc)?)?;
-    put_router(&mut routers, name(b"b")?, second(alloc)?)?;
+    put_router(&mut routers, b"a", first(alloc))?;
+    put_router(&mut routers, b"b", second(alloc))?;
     Ok(Network { routers })
 }
 

@@ -7,6 +7,7 @@ use rc_config::{
 };
 use rc_policy::{Attrs, apply, community_list_permits, permits, permits_address};
 use std::alloc::{AllocError, Global};
+use std::process::Abort;
 use std::test::Fail;
 
 /// 65000:1 and 65000:2
@@ -169,16 +170,27 @@ fn wanted(alloc: Global, prefix: Prefix) -> Result<Option<Attrs>, AllocError> {
     Ok(Some(made))
 }
 
+/// Asserts what the map makes of a route with the first community, and that it drops one without.
+fn check_applied(
+    rt: &impl Abort,
+    alloc: Global,
+    map: &RouteMap,
+    lists: &Lists,
+    tried: Prefix,
+) -> Result<(), AllocError> {
+    let made = applied(alloc, map, lists, tried, &[FIRST])?;
+    assert!(rt; made == wanted(alloc, tried)?);
+    let none = applied(alloc, map, lists, tried, &[])?;
+    assert!(rt; none.is_none());
+    Ok(())
+}
+
 #[test]
 fn an_entry_joins_and_prepends(rt: HostRuntime) -> Result<(), Fail> {
-    let alloc = rt.alloc();
     let name = Name::new(b"7").expect(&rt, "7");
     let tried = prefix(0x0a09_0100, 24)?;
-    let lists = seventh(alloc, name)?;
-    let map = joining(alloc, name)?;
-    let made = applied(alloc, &map, &lists, tried, &[FIRST])?;
-    assert!(rt; made == wanted(alloc, tried)?);
-    let none = applied(alloc, &map, &lists, tried, &[])?;
-    assert!(rt; none.is_none());
+    let lists = seventh(rt.alloc(), name)?;
+    let map = joining(rt.alloc(), name)?;
+    check_applied(&rt, rt.alloc(), &map, &lists, tried)?;
     Ok(())
 }

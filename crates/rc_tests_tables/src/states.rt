@@ -61,10 +61,11 @@ fn route_at(alloc: Global, changed: usize) -> Result<Route, Fail> {
         router: RouterId::at(0),
         index: 1,
     };
+    let prefix = prefix_at(0, changed)?;
     let mut hops = Hops::one(Hop::Dev(device));
     hops.push(alloc, Hop::Via(addr_at(4, changed), Some(device)))?;
     Ok(Route {
-        prefix: prefix_at(0, changed)?,
+        prefix,
         source: if changed == 1 {
             Source::Ibgp
         } else {
@@ -76,11 +77,34 @@ fn route_at(alloc: Global, changed: usize) -> Result<Route, Fail> {
     })
 }
 
+fn as_path_at(alloc: Global, changed: usize) -> Result<AsPath, AllocError> {
+    let numbers = numbers_at(alloc, 11, changed)?;
+    AsPath::empty().prepend_all(alloc, numbers.as_slice())
+}
+
+fn origin_at(changed: usize) -> Origin {
+    if changed == 10 {
+        Origin::Egp
+    } else {
+        Origin::Igp
+    }
+}
+
+fn path_source_at(changed: usize) -> PathSource {
+    if changed == 13 {
+        PathSource::Internal
+    } else {
+        PathSource::External
+    }
+}
+
 /// A path whose fields are all 1 but the one that is changed, from 5 to 17.
 fn path_at(alloc: Global, changed: usize) -> Result<BgpPath, Fail> {
-    let numbers = numbers_at(alloc, 11, changed)?;
+    let prefix = prefix_at(5, changed)?;
+    let communities = Communities::of(numbers_at(alloc, 12, changed)?)?;
+    let as_path = as_path_at(alloc, changed)?;
     Ok(BgpPath {
-        prefix: prefix_at(5, changed)?,
+        prefix,
         next_hop: addr_at(6, changed),
         med: u32::from(value_at(7, changed)),
         local_preference: u32::from(value_at(8, changed)),
@@ -88,19 +112,11 @@ fn path_at(alloc: Global, changed: usize) -> Result<BgpPath, Fail> {
         sender_id: addr_at(15, changed),
         neighbor: addr_at(16, changed),
         igp_metric: u32::from(value_at(17, changed)),
-        origin: if changed == 10 {
-            Origin::Egp
-        } else {
-            Origin::Igp
-        },
-        source: if changed == 13 {
-            PathSource::Internal
-        } else {
-            PathSource::External
-        },
+        origin: origin_at(changed),
+        source: path_source_at(changed),
         sender: RouterId::at(usize::from(value_at(14, changed))),
-        communities: Communities::of(numbers_at(alloc, 12, changed)?)?,
-        as_path: AsPath::empty().prepend_all(alloc, numbers.as_slice())?,
+        communities,
+        as_path,
     })
 }
 
@@ -163,16 +179,11 @@ fn longer(alloc: Global) -> Result<State, Fail> {
 
 #[test]
 fn states_differ_in_what_they_lack(rt: HostRuntime) -> Result<(), Fail> {
-    let alloc = rt.alloc();
-    let state = state_of(alloc, FIELDS)?;
-    for other in [
-        without_route(alloc)?,
-        without_path(alloc)?,
-        Items::new(alloc),
-        longer(alloc)?,
-    ] {
-        check_equal(&rt, &state, &other, false, FIELDS);
-    }
+    let state = state_of(rt.alloc(), FIELDS)?;
+    check_equal(&rt, &state, &without_route(rt.alloc())?, false, FIELDS);
+    check_equal(&rt, &state, &without_path(rt.alloc())?, false, FIELDS);
+    check_equal(&rt, &state, &Items::new(rt.alloc()), false, FIELDS);
+    check_equal(&rt, &state, &longer(rt.alloc())?, false, FIELDS);
     Ok(())
 }
 
@@ -185,14 +196,20 @@ fn tables_are_the_same(rt: HostRuntime) -> Result<(), Fail> {
     Ok(())
 }
 
+/// Asserts that a copy of what a router knows is equal to it.
+fn check_copy(rt: &impl Abort, alloc: Global, router: &RouterState) -> Result<(), AllocError> {
+    let copied = copy(alloc, router)?;
+    assert!(rt; copied == *router);
+    assert!(rt; copied.table.len() == 1);
+    assert!(rt; copied.paths.len() == 1);
+    Ok(())
+}
+
 #[test]
 fn copies_are_equal(rt: HostRuntime) -> Result<(), Fail> {
     for changed in [FIELDS, 4, 11, 12] {
         let router = router_at(rt.alloc(), changed)?;
-        let copied = copy(rt.alloc(), &router)?;
-        assert!(rt; copied == router, "field {changed}");
-        assert!(rt; copied.table.len() == 1, "field {changed}");
-        assert!(rt; copied.paths.len() == 1, "field {changed}");
+        check_copy(&rt, rt.alloc(), &router)?;
     }
     Ok(())
 }

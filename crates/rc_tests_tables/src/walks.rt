@@ -2,14 +2,15 @@
 ghost use Rattle.std.specs.Prelude.{All, IfOk};
 ghost use Rattle.rc_route.specs.Tables.{IsRouterState};
 
-use rc_base::{Addr, Header, IfId, Items, Kind, Name, Pos, Prefix, RouterId};
+use crate::routers::{put_address, put_router};
+use rc_base::{Addr, Ends, Header, IfId, Items, Kind, Name, Pos, Prefix, RouterId};
 use rc_config::{
-    AccessListKind, AccessListLine, Action, AddressTest, Command, Direction, IfAddr, Named,
-    Network, RouterText,
+    AccessListKind, AccessListLine, Action, AddressTest, Command, Direction, Named, Network,
+    RouterText,
 };
 use rc_route::{Hop, Hops, Route, RouterState, Source, State};
 use rc_topology::Links;
-use rc_walk::{Move, Plane, Stop, Walk, step, trace};
+use rc_walk::{Move, Plane, Stop, Walk, shortest, step, trace};
 use std::alloc::{AllocError, Global};
 use std::process::Abort;
 use std::test::Fail;
@@ -35,75 +36,52 @@ fn to(bits: u32) -> Header {
     }
 }
 
-fn name(text: &[u8]) -> Result<Name, Fail> {
-    Ok(Name::new(text).ok_or("a name")?)
+/// Puts these addresses: of Ethernet0, and of a loopback.
+fn put_addresses(text: &mut RouterText, ethernet: u32, loopback: u32) -> Result<(), Fail> {
+    put_address(text, b"Ethernet0", ethernet, 24)?;
+    put_address(text, b"Loopback0", loopback, 24)
 }
 
-/// The router with an address under a mask of length 24.
-fn with_address(text: RouterText, interface: Name, addr: u32) -> Result<RouterText, Fail> {
-    let address = IfAddr::new(Addr::new(addr), 24).ok_or("/24")?;
-    let command = Command::Address {
-        interface,
-        address,
-        secondary: false,
-    };
-    Ok(text.put(command)?)
-}
-
-/// A router with these addresses: of Ethernet0, and of a loopback.
-fn router(alloc: Global, ethernet: u32, loopback: u32) -> Result<RouterText, Fail> {
-    let text = with_address(RouterText::new(alloc), name(b"Ethernet0")?, ethernet)?;
-    with_address(text, name(b"Loopback0")?, loopback)
-}
-
-fn put_router(routers: &mut Named<RouterText>, name: Name, text: RouterText) -> Result<(), Fail> {
-    routers.insert(name, text)?;
-    Ok(())
-}
-
-/// A router 10.0.0.1 and this one.
-fn pair(alloc: Global, second: RouterText) -> Result<Network, Fail> {
-    let mut routers = Named::new(alloc);
-    put_router(
-        &mut routers,
-        name(b"A")?,
-        router(alloc, 0x0a00_0001, 0x0101_0101)?,
-    )?;
-    put_router(&mut routers, name(b"B")?, second)?;
-    Ok(Network { routers })
-}
-
-/// Two routers, 10.0.0.1 and 10.0.0.2.
-fn network(alloc: Global) -> Result<Network, Fail> {
-    pair(alloc, router(alloc, 0x0a00_0002, 0x0202_0202)?)
-}
-
-/// The router with a list that lets only packets from 10.0.0.7 pass, at its Ethernet0.
-fn with_list(
-    text: RouterText,
-    list: Name,
-    interface: Name,
-    direction: Direction,
-) -> Result<RouterText, AllocError> {
+/// Puts a list that lets only packets from 10.0.0.7 pass, at Ethernet0.
+fn put_list(text: &mut RouterText, direction: Direction) -> Result<(), Fail> {
+    let list = Name::new(b"5").ok_or("a name")?;
+    let interface = Name::new(b"Ethernet0").ok_or("a name")?;
     let source = AddressTest::host(Addr::new(0x0a00_0007));
-    let text = text.put(Command::AccessListLine {
+    text.apply(Command::AccessListLine {
         list,
         kind: AccessListKind::Standard,
         line: AccessListLine::standard(10, Action::Permit, source),
     })?;
-    text.put(Command::AccessGroup {
+    Ok(text.apply(Command::AccessGroup {
         interface,
         list,
         direction,
-    })
+    })?)
 }
 
-/// The two routers, the second of them with that list.
-fn filtered(alloc: Global, direction: Direction) -> Result<Network, Fail> {
-    let list = name(b"5")?;
-    let interface = name(b"Ethernet0")?;
-    let second = router(alloc, 0x0a00_0002, 0x0202_0202)?;
-    pair(alloc, with_list(second, list, interface, direction)?)
+/// The router 10.0.0.1.
+fn first(alloc: Global) -> Result<RouterText, Fail> {
+    let mut text = RouterText::new(alloc);
+    put_addresses(&mut text, 0x0a00_0001, 0x0101_0101)?;
+    Ok(text)
+}
+
+/// The router 10.0.0.2, with that list in a direction, if there is one.
+fn second(alloc: Global, direction: Option<Direction>) -> Result<RouterText, Fail> {
+    let mut text = RouterText::new(alloc);
+    put_addresses(&mut text, 0x0a00_0002, 0x0202_0202)?;
+    if let Some(direction) = direction {
+        put_list(&mut text, direction)?;
+    }
+    Ok(text)
+}
+
+/// These two, the second of them with that list in a direction, if there is one.
+fn network(alloc: Global, direction: Option<Direction>) -> Result<Network, Fail> {
+    let mut routers = Named::new(alloc);
+    put_router(&mut routers, b"A", first(alloc))?;
+    put_router(&mut routers, b"B", second(alloc, direction))?;
+    Ok(Network { routers })
 }
 
 /// A router that knows a default route.
@@ -150,7 +128,7 @@ fn walk_over(
 
 /// The walk of a packet from the first router, whose default route is this, where the second one sends all back.
 fn walk(alloc: Global, hop: &Hop, dst: u32) -> Result<Walk, Fail> {
-    let net = network(alloc)?;
+    let net = network(alloc, None)?;
     let back = Hop::Via(Addr::new(0x0a00_0001), Some(device(1, 0)));
     let state = state(alloc, hop, &back)?;
     Ok(walk_over(alloc, &net, &state, &to(dst))?)
@@ -218,7 +196,7 @@ fn check_plane(rt: &impl Abort, plane: &Plane<'_>) {
 
 #[test]
 fn a_step_leads_to_the_next_router(rt: HostRuntime) -> Result<(), Fail> {
-    let net = network(rt.alloc())?;
+    let net = network(rt.alloc(), None)?;
     let links = Links::of(rt.alloc(), &net)?;
     let known = state(rt.alloc(), &Hop::Dev(device(0, 0)), &Hop::Null)?;
     let plane = Plane::of(rt.alloc(), &net, &links, &known)?;
@@ -231,7 +209,7 @@ fn a_step_leads_to_the_next_router(rt: HostRuntime) -> Result<(), Fail> {
 
 /// The walk of a packet from here that the first router sends to the second one, which sends all back.
 fn filtered_walk(alloc: Global, direction: Direction, src: u32) -> Result<Walk, Fail> {
-    let net = filtered(alloc, direction)?;
+    let net = network(alloc, Some(direction))?;
     let there = Hop::Via(Addr::new(0x0a00_0002), Some(device(0, 0)));
     let back = Hop::Via(Addr::new(0x0a00_0001), Some(device(1, 0)));
     let known = state(alloc, &there, &back)?;
@@ -250,6 +228,72 @@ fn access_lists_end_a_walk(rt: HostRuntime) -> Result<(), Fail> {
     ] {
         let walk = filtered_walk(rt.alloc(), direction, src)?;
         assert!(rt; walk.stop == stop, "from {src}");
+    }
+    Ok(())
+}
+
+/// The endings at which a packet leaves the network, or comes to a router.
+fn ends(exits: bool, accepted: bool) -> Ends {
+    Ends {
+        denied_in: false,
+        accepted,
+        no_route: false,
+        null_routed: false,
+        denied_out: false,
+        unreachable: false,
+        exits,
+        delivered: false,
+    }
+}
+
+/// The shortest walk of a packet from the first router to one of these endings.
+fn shortest_over(
+    alloc: Global,
+    net: &Network,
+    state: &State,
+    dst: u32,
+    ends: Ends,
+) -> Result<Option<Walk>, AllocError>
+    requires { All IsRouterState state.now }
+{
+    let links = Links::of(alloc, net)?;
+    let plane = Plane::of(alloc, net, &links, state)?;
+    shortest(alloc, &plane, home(), &to(dst), ends)
+}
+
+/// The same where the first router has this default route, and the second one sends all back.
+fn shortest_walk(alloc: Global, hop: &Hop, dst: u32, ends: Ends) -> Result<Option<Walk>, Fail> {
+    let net = network(alloc, None)?;
+    let back = Hop::Via(Addr::new(0x0a00_0001), Some(device(1, 0)));
+    let state = state(alloc, hop, &back)?;
+    Ok(shortest_over(alloc, &net, &state, dst, ends)?)
+}
+
+#[test]
+fn the_shortest_walk_ends_as_asked(rt: HostRuntime) -> Result<(), Fail> {
+    let there = Hop::Via(Addr::new(0x0a00_0002), Some(device(0, 0)));
+    match &shortest_walk(rt.alloc(), &there, 0x0202_0202, ends(true, true))? {
+        Some(walk) => {
+            let positions = [home(), Pos::Entering(device(1, 0))];
+            check_walk(&rt, walk, Stop::At(Kind::Accepted), &positions);
+        }
+        None => assert!(rt; false, "no walk to the second router"),
+    }
+    let nobody = Hop::Via(Addr::new(0x0a00_0009), Some(device(0, 0)));
+    match &shortest_walk(rt.alloc(), &nobody, 0x0808_0808, ends(true, false))? {
+        Some(walk) => check_walk(&rt, walk, Stop::At(Kind::Exits), &[home()]),
+        None => assert!(rt; false, "no walk out of the network"),
+    }
+    Ok(())
+}
+
+#[test]
+fn no_walk_ends_as_asked(rt: HostRuntime) -> Result<(), Fail> {
+    let there = Hop::Via(Addr::new(0x0a00_0002), Some(device(0, 0)));
+    let nobody = Hop::Via(Addr::new(0x0a00_0009), Some(device(0, 0)));
+    for (hop, asked) in [(&there, ends(true, true)), (&nobody, ends(false, true))] {
+        let none = shortest_walk(rt.alloc(), hop, 0x0808_0808, asked)?;
+        assert!(rt; none.is_none());
     }
     Ok(())
 }
