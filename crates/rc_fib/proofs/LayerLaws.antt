@@ -1,5 +1,5 @@
 -- Layer upon layer of entries comes to the resolved table.
-use Rattle.std.proofs.Common.{refl, subst, All, rules, ◌≡◌, ap, sym, ◌∙◌, ℕ, zero, suc, ◌+◌, ◌-◌, ◌<◌, ◌≤◌, arith, List, [], ◌∷◌, ◌++◌, map, Bool, true, false, ◌&&◌, Some, None}
+use Rattle.std.proofs.Common.{refl, subst, All, rules, ◌≡◌, ap, sym, ◌∙◌, ℕ, zero, suc, ◌+◌, ◌-◌, ◌<◌, ◌≤◌, arith, List, [], ◌∷◌, ◌++◌, map, Bool, true, false, cond, not, ◌&&◌, ◌||◌, Some, None}
 use Rattle.std.specs.List.{list_all, flat_map}
 use Rattle.std.specs.List.Sorted.{IsStrictlySortedBy}
 use Rattle.rc_base.specs.Prefix.{IsCidr, prefix_cmp}
@@ -10,7 +10,7 @@ use Rattle.rc_route.specs.declared.route.Hop.TheVariants.{Null, Dev, Via}
 use Rattle.rc_route.specs.Hops.{same_hop}
 use Rattle.rc_base.specs.Lists.{first_seen}
 use Rattle.rc_fib.specs.declared.entry.Entry.{Entry}
-use Rattle.rc_fib.specs.Entries.{IsInOrder, entries_over}
+use Rattle.rc_fib.specs.Entries.{IsInOrder, entries_over, is_settled}
 use Rattle.rc_fib.specs.Forwarding.{resolve_all, resolve_hop, resolved_hops, is_resolved, hops_within, resolved, resolved_within}
 use Rattle.rc_fib.proofs.ForwardingLaws.{resolved_hops-within}
 
@@ -79,6 +79,27 @@ hop_plain f g (Via a (Some i)) e = refl
 hops_plain : (f g : ℕ → List Hop) (hs : List Hop) → list_all is_resolved hs ≡ true → flat_map (resolve_hop f) hs ≡ flat_map (resolve_hop g) hs
 hops_plain f g [] e = refl
 hops_plain f g (h ∷ hs) e = let (here, later) = both (is_resolved h) (list_all is_resolved hs) e in λ i. hop_plain f g h here i ++ hops_plain f g hs later i
+
+-- hops that say where a packet goes, each once, are what they resolve to
+itself : (f : ℕ → List Hop) (h : Hop) → is_resolved h ≡ true → h ∷ [] ≡ resolve_hop f h
+itself f Null e = refl
+itself f (Dev i) e = refl
+itself f (Via a None) e = absurd (cc e)
+itself f (Via a (Some i)) e = refl
+
+other : (b : Bool) → not b ≡ true → b ≡ false
+other true e = absurd (cc e)
+other false e = refl
+
+pub settled_stay : (f : ℕ → List Hop) (hops : List Hop) → is_settled hops ≡ true → hops ≡ resolve_all f hops
+settled_stay f [] e = refl
+settled_stay f (h ∷ []) e = ap (λ (hs : List Hop). first_seen same_hop (hs ++ [])) (itself f h e)
+settled_stay f (h ∷ k ∷ []) e =
+    let (each, twice) = both (is_resolved h && is_resolved k) (not (same_hop k h)) e in
+    let (here, there) = both (is_resolved h) (is_resolved k) each in
+    let once : h ∷ k ∷ [] ≡ first_seen same_hop (h ∷ k ∷ []) = ap (λ b. cond (b || false) (h ∷ []) (h ∷ k ∷ [])) (sym (other (same_hop k h) twice)) in
+    once ∙ (λ i. first_seen same_hop (itself f h here i ++ (itself f k there i ++ [])))
+settled_stay f (h ∷ k ∷ l ∷ hops) e = absurd (cc e)
 
 entries_plain : (es fs : List Entry) (table : List Route) → list_all (λ (r : Route). list_all is_resolved r.hops) table ≡ true → entries_over es table ≡ entries_over fs table
 entries_plain es fs [] e = refl

@@ -1,15 +1,16 @@
 -- The entries of a prepared table: their order, and how they are made layer by layer.
-use Rattle.std.specs.Prelude.{◌≡◌, ℕ, ◌-◌, Bool, slice_get, ◌<◌, ◌≤◌, true, List, All, map, length, slice_index_or, Option, Some, None}
+use Rattle.std.specs.Prelude.{◌≡◌, ℕ, ◌-◌, Bool, true, false, not, ◌&&◌, slice_get, ◌<◌, ◌≤◌, List, [], ◌∷◌, All, map, length, slice_index_or, Option, Some, None}
 use Rattle.std.specs.Option.{option_map_or}
 use Rattle.std.specs.Ordering.{is_lt}
 use Rattle.std.specs.List.Sorted.{IsStrictlySortedBy}
 use Rattle.std.specs.declared.cmp.Ordering.TheVariants.{Less, Greater}
 use Rattle.rc_base.specs.Prefix.{Cidr, IsCidr, contains, prefix_at, prefix_cmp}
+use Rattle.rc_route.specs.Hops.{same_hop}
 use Rattle.rc_route.specs.declared.route.Hop.{Hop}
 use Rattle.rc_route.specs.declared.route.Hop.TheVariants.{Null, Dev, Via}
 use Rattle.rc_route.specs.declared.route.Route.{Route}
 use Rattle.rc_fib.specs.declared.entry.Entry.{Entry}
-use Rattle.rc_fib.specs.Forwarding.{resolve_all, resolved_hops}
+use Rattle.rc_fib.specs.Forwarding.{is_resolved, resolve_all, resolved_hops}
 
 -- one entry for each prefix, by address, then length; and each prefix is one
 pub record IsInOrder (entries : List Entry) : Type 0 where
@@ -46,6 +47,13 @@ gateway_of Null = None
 gateway_of (Dev i) = None
 gateway_of (Via g None) = Some g
 gateway_of (Via g (Some i)) = None
+
+-- hops that resolve to themselves, whatever the entries: each says where a packet goes, and none stands there twice
+abbrev pub is_settled : List Hop → Bool
+is_settled [] = true
+is_settled (h ∷ []) = is_resolved h
+is_settled (h ∷ k ∷ []) = (is_resolved h && is_resolved k) && not (same_hop k h)
+is_settled (h ∷ k ∷ l ∷ hops) = false
 
 -- a route's entry, where other entries give the hops of its gateways
 abbrev pub entry_over : List Entry → Route → Entry

@@ -8,7 +8,7 @@ ghost use Rattle.rc_fib.specs.Entries.{IsInOrder};
 ghost use Rattle.rc_fib.specs.Forwarding.{resolved, is_resolved};
 
 use crate::Entry;
-use crate::resolve::{is_resolved, resolve};
+use crate::resolve::{is_resolved, resolve_hops};
 use rc_base::Items;
 use rc_route::Route;
 use std::alloc::{AllocError, Global};
@@ -24,7 +24,7 @@ fn entry_over(alloc: Global, entries: &[Entry], route: &Route) -> Result<Entry, 
 {
     // For the proof: reading the network tells that the prefix is one.
     let _network = route.prefix.network();
-    let hops = resolve(alloc, entries, route.hops.as_slice())?;
+    let hops = resolve_hops(alloc, entries, &route.hops)?;
     Ok(Entry {
         prefix: route.prefix,
         hops,

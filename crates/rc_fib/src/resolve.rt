@@ -1,5 +1,5 @@
 //! The hops of a route, where other entries give those of its gateways.
-ghost use Rattle.std.specs.Prelude.{◌≡◌, IfOk, OnOk, map};
+ghost use Rattle.std.specs.Prelude.{◌≡◌, true, IfOk, OnOk, map};
 ghost use Rattle.std.specs.List.{fold, list_any};
 ghost use Rattle.indexmap.specs.IndexSet.{insert_key};
 ghost use Rattle.rc_route.specs.Hops.{same_hop};
@@ -11,7 +11,7 @@ use crate::Entry;
 use crate::hop_set::HopSet;
 use crate::longest::hops_of;
 use rc_base::Addr;
-use rc_route::{Hop, Hops};
+use rc_route::{Hop, Hops, same_hop};
 use std::alloc::{AllocError, Global};
 
 /// The hop with a gateway, where it has an interface and no gateway of its own.
@@ -68,7 +68,7 @@ fn insert_resolved(
 }
 
 /// What hops resolve to, in order, without repeats after the first.
-pub(crate) fn resolve(alloc: Global, entries: &[Entry], hops: &[Hop]) -> Result<Hops, AllocError>
+fn resolve(alloc: Global, entries: &[Entry], hops: &[Hop]) -> Result<Hops, AllocError>
     requires { IsInOrder entries.now }
     ensures { IfOk result (λ found. found ≡ spec.resolve_all (spec.resolved_hops entries.now) hops.now) }
 {
@@ -77,6 +77,35 @@ pub(crate) fn resolve(alloc: Global, entries: &[Entry], hops: &[Hop]) -> Result<
         insert_resolved(alloc, &mut set, entries, hop)?;
     }
     set.into_hops(alloc)
+}
+
+/// Whether hops resolve to themselves: each says where a packet goes, and none stands there twice. Of three or more it isn't told.
+fn is_settled(hops: &[Hop]) -> bool
+    ensures { result ≡ true → layer.is_settled hops.now ≡ true }
+{
+    match hops {
+        [] => true,
+        [hop] => is_resolved(hop),
+        [first, second] => is_resolved(first) && is_resolved(second) && !same_hop(second, first),
+        _ => false,
+    }
+}
+
+/// What the hops of a route resolve to, in order, each once. It errs only where memory runs out.
+///
+/// Most hops need no look-up, and are few: they are the route's own as they stand.
+pub(crate) fn resolve_hops(
+    alloc: Global,
+    entries: &[Entry],
+    hops: &Hops,
+) -> Result<Hops, AllocError>
+    requires { IsInOrder entries.now }
+    ensures { IfOk result (λ found. found ≡ spec.resolve_all (spec.resolved_hops entries.now) hops.now) }
+{
+    if is_settled(hops.as_slice()) {
+        return hops.copy(alloc);
+    }
+    resolve(alloc, entries, hops.as_slice())
 }
 
 /// Whether a hop says where a packet goes: nowhere, or over an interface.

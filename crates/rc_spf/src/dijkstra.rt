@@ -9,7 +9,7 @@ ghost use Rattle.rc_spf.specs.Walks.{IsWalk, IsLeastCost, IsFirstHop};
 ghost use Rattle.rc_spf.specs.Steps.{NoneNearest, IsImproved, IsRelaxed, first_of, AreBounded, AreGroups, AreSpans};
 
 use crate::groups::groups_of;
-use crate::hops::{hops_of, record_span};
+use crate::hops::{find_hops, record_span};
 use crate::queue::Queue;
 use crate::{Edge, First, Graph, Groups, Tree};
 use std::alloc::{AllocError, Global};
@@ -102,12 +102,13 @@ pub fn tree_by(
     let mut settled: Vec<bool> = vec![in alloc; false; graph.nodes]?;
     let mut firsts: Vec<First> = Vec::new(alloc);
     let mut spans: Vec<(usize, usize)> = vec![in alloc; (0, 0); graph.nodes]?;
+    let mut found: Vec<usize> = Vec::new(alloc);
     let mut queue = Queue::new(alloc);
     costs[root] = Some(0);
     queue.push(0, root)?;
     while let Some((node, cost)) = next(&mut queue, &costs, &settled) {
-        let found = hops_of(
-            alloc,
+        find_hops(
+            &mut found,
             &groups.incoming[node],
             root,
             node,

@@ -3,7 +3,7 @@ ghost use Rattle.std.specs.Prelude.{◌≡◌, ℕ, ◌<◌, ◌↔◌, ◌⊎�
 ghost use Rattle.rc_spf.specs.Steps.{IsTight, IsFound, first_of, AreSpans, HasFirstsOf, HasNoFirsts};
 
 use crate::{Edge, First};
-use std::alloc::{AllocError, Global};
+use std::alloc::AllocError;
 
 /// Whether the edge ends a walk of that cost to the node.
 fn is_tight(costs: &[Option<u32>], node: usize, cost: u32, edge: Edge) -> bool
@@ -48,9 +48,10 @@ pub fn firsts_at<'a>(firsts: &'a [First], spans: &[(usize, usize)], node: usize)
     &firsts[from..to]
 }
 
-/// The hops by which walks of that cost to a node begin, from the edges that lead there.
-pub(crate) fn hops_of(
-    alloc: Global,
+/// Finds the hops by which walks of that cost to a node begin, from the edges that lead there. What was found before is cleared
+/// away, so that one list serves all nodes.
+pub(crate) fn find_hops(
+    found: &mut Vec<usize>,
     edges: &[Edge],
     root: usize,
     node: usize,
@@ -58,22 +59,22 @@ pub(crate) fn hops_of(
     costs: &[Option<u32>],
     firsts: &[First],
     spans: &[(usize, usize)],
-) -> Result<Vec<usize>, AllocError>
+) -> Result<(), AllocError>
     requires ends { All (λ e. e.from < length costs.now) edges.now }
     requires len { length spans.now ≡ length costs.now }
     requires spans { AreSpans spans.now firsts.now }
-    ensures { IfOk result (λ found. IsFound edges.now root node cost costs.now firsts.now found.items) }
+    ensures { IfOk result (λ u. IsFound edges.now root node cost costs.now firsts.now found.new.items) }
 {
-    let mut found = Vec::new(alloc);
+    found.clear();
     for edge in edges {
         if is_tight(costs, node, cost, *edge) {
             if edge.from == root {
-                add(&mut found, edge.hop)?;
+                add(found, edge.hop)?;
             }
-            add_hops(firsts_at(firsts, spans, edge.from), edge.from, &mut found)?;
+            add_hops(firsts_at(firsts, spans, edge.from), edge.from, found)?;
         }
     }
-    Ok(found)
+    Ok(())
 }
 
 /// Records the first hops of a node.

@@ -16,8 +16,8 @@ loop-node-init c = (
   spans_len _ _ (c.in_ok-spans.ensures.items_if_clones_equal (search rules)),
 )
 
-pub hops_of-requires-clause-ends : goal.hops_of-requires-clause-ends
-hops_of-requires-clause-ends c =
+pub find_hops-requires-clause-ends : goal.find_hops-requires-clause-ends
+find_hops-requires-clause-ends c =
     let fit = fit_of _ c.args.root _ c.requires.root c.requires.ends c.requires.costs in
     let near = near_of _ _ _ _ _ _ c.deref.ensures.value c.deref-in-loop-node.ensures.value c.in-Some.ensures.nearest in
     all_in (λ (e : Edge). e.from < length c.deref-in-Some-2.result.now) _ c.args.graph.now.edges.items _ _ _ _ false
@@ -25,11 +25,11 @@ hops_of-requires-clause-ends c =
     c.index.ensures c.deref-in-Some.ensures.value
     (λ e has. below_copy e.from _ _ _ (fit.from e has) c.loop-node.invariant.0.costs_len c.deref-in-Some-2.ensures.value)
 
-pub hops_of-requires-clause-len : goal.hops_of-requires-clause-len
-hops_of-requires-clause-len c = ap length c.deref-in-Some-4.ensures.value ∙ c.loop-node.invariant.3 ∙ sym c.loop-node.invariant.0.costs_len ∙ sym (ap length c.deref-in-Some-2.ensures.value)
+pub find_hops-requires-clause-len : goal.find_hops-requires-clause-len
+find_hops-requires-clause-len c = ap length c.deref-in-Some-4.ensures.value ∙ c.loop-node.invariant.3 ∙ sym c.loop-node.invariant.0.costs_len ∙ sym (ap length c.deref-in-Some-2.ensures.value)
 
-pub hops_of-requires-clause-spans : goal.hops_of-requires-clause-spans
-hops_of-requires-clause-spans c = spans_of_copies _ _ _ _ c.deref-in-Some-4.ensures.value c.deref-in-Some-3.ensures.value c.loop-node.invariant.2
+pub find_hops-requires-clause-spans : goal.find_hops-requires-clause-spans
+find_hops-requires-clause-spans c = spans_of_copies _ _ _ _ c.deref-in-Some-4.ensures.value c.deref-in-Some-3.ensures.value c.loop-node.invariant.2
 
 pub record_span-requires-clause-node : goal.record_span-requires-clause-node
 record_span-requires-clause-node c =
@@ -72,7 +72,7 @@ loop-node-preserved c = (
       (fit_of _ c.args.root _ c.requires.root c.requires.ends c.requires.costs) c.loop-node.invariant.0 near
       refl c.deref-in-Some-2.ensures.value c.deref-in-Some-3.ensures.value
       (found_in _ c.args.graph.now.edges.items _ _ _ _ _ _ _ _ _ small c.requires.groups.incoming
-      c.index.ensures c.deref-in-Some.ensures.value c.in_ok-found.ensures)
+      c.index.ensures c.deref-in-Some.ensures.value c.in_ok-find_hops.ensures)
       c.deref-in-Some-5.ensures.value c.in_ok-record_span.ensures.items
       refl c.deref_mut-in-Some.ensures.value
       (relaxed_in _ c.args.graph.now.edges.items _ _ _ _ _ _ _ small c.requires.groups.outgoing

@@ -1,6 +1,6 @@
 use Rattle.std.proofs.Common.{take}
 use Rattle.rc_spf.specs.Steps.{IsFound}
-use Rattle.rc_spf.proofs.hops.hops_of.Given as goal
+use Rattle.rc_spf.proofs.hops.find_hops.Given as goal
 
 abbrev pub invariant-loop-edge : goal.invariant-loop-edge
 invariant-loop-edge l = IsFound (take l.edge-index l.edges) l.root l.node l.cost l.costs l.firsts l.found.items

@@ -1,8 +1,8 @@
 use Rattle.std.proofs.Common.{◌≡◌, refl, true, false}
 use Rattle.rc_spf.proofs.Finding.{found_skip, found_take, own_added, own_skipped}
-use Rattle.rc_spf.proofs.hops.hops_of.Goals.{then-is_tight+in_ok-add_hops, then-edge-root+in_ok-add, else-edge-root, else-is_tight}
+use Rattle.rc_spf.proofs.hops.find_hops.Goals.{then-is_tight+in_ok-add_hops, then-edge-root+in_ok-add, else-edge-root, else-is_tight}
 use Rattle.rc_spf.proofs.Spans.{hops_from}
-use Rattle.rc_spf.proofs.hops.hops_of.Goals as goal
+use Rattle.rc_spf.proofs.hops.find_hops.Goals as goal
 
 pub loop-edge-preserved : goal.loop-edge-preserved
 loop-edge-preserved c = elim c.if-is_tight.branch [
