@@ -1,6 +1,7 @@
 mod IndexLaws
 mod RowLaws
 mod WayLaws
+mod BestLaws
 mod Members
 mod Bridge
 mod KeptLaws

@@ -8,7 +8,7 @@ use Rattle.rc_ospf.specs.Offered.{Offered}
 use Rattle.rc_ospf.specs.RouterAreas.{is_in}
 use Rattle.rc_ospf.specs.Walks.{LeastWalks, Reach}
 use Rattle.rc_ospf.specs.Ways.{Way, way_over, way_to, least_cost, hops_at, best_of, best_way, cost_of}
-use Rattle.rc_ospf.specs.ByPrefix.{path_for, ways_of, lower, then_cost, hops_for, heard}
+use Rattle.rc_ospf.specs.ByPrefix.{path_for, ways_of, hops_for, heard}
 use Rattle.rc_ospf.specs.declared.summaries.Summaries.{Summaries}
 
 -- the best of some ways has their least cost, and the hops of all that cost as much
@@ -20,27 +20,6 @@ best_by_cost (w ∷ ws) None is = absurd (cc)
 best_by_cost (w ∷ ws) (Some c) is = let least : least_cost w ws ≡ c = cc in ap (λ k. Some (record { cost = k; hops = hops_at k (w ∷ ws) })) least
 
 module _ (reach : Reach) (others : Bool) (r : ℕ) where
-  -- a cost that is known, and those of the ways to offers, one after another
-  lowest : (k : ℕ) (offers : List Offered) → fold (then_cost reach others r) (Some k) offers ≡ Some (fold (λ c (w : Way). min c w.cost) k (ways_of reach others r offers))
-  lowest k [] = refl
-  lowest k (o ∷ os) = by (path_for reach others r o) (λ c. lowest c os)
-    where
-      by : (p : Option LeastWalks) → ((c : ℕ) → fold (then_cost reach others r) (Some c) os ≡ Some (fold (λ c (w : Way). min c w.cost) c (ways_of reach others r os))) →
-          fold (then_cost reach others r) (lower (Some k) (option_map (λ (e : LeastWalks). e.cost + o.cost) p)) os
-          ≡ Some (fold (λ c (w : Way). min c w.cost) k (cons_option (option_map (λ (e : LeastWalks). way_over (e.cost + o.cost) e) p) (ways_of reach others r os)))
-      by None rest = rest k
-      by (Some e) rest = rest (min k (e.cost + o.cost))
-
-  pub best_cost_is : (offers : List Offered) → fold (then_cost reach others r) None offers ≡ cost_of (best_of (ways_of reach others r offers))
-  best_cost_is [] = refl
-  best_cost_is (o ∷ os) = by (path_for reach others r o) (best_cost_is os)
-    where
-      by : (p : Option LeastWalks) → fold (then_cost reach others r) None os ≡ cost_of (best_of (ways_of reach others r os)) →
-          fold (then_cost reach others r) (lower None (option_map (λ (e : LeastWalks). e.cost + o.cost) p)) os
-          ≡ cost_of (best_of (cons_option (option_map (λ (e : LeastWalks). way_over (e.cost + o.cost) e) p) (ways_of reach others r os)))
-      by None rest = rest
-      by (Some e) rest = lowest (e.cost + o.cost) os
-
   -- the hops of all offers are those of all ways
   pub hops_are : (cost : ℕ) (offers : List Offered) → flat_map (hops_for reach others r cost) offers ≡ hops_at cost (ways_of reach others r offers)
   hops_are cost [] = refl

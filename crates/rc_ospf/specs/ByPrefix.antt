@@ -1,5 +1,5 @@
 -- Offers put under their prefixes, and ways taken one after another, as the code does it.
-use Rattle.std.specs.Prelude.{ℕ, ◌+◌, ◌==◌, min, Bool, true, false, ◌&&◌, if◌then◌else◌, List, [], ◌∷◌, ◌++◌, Option, Some, None}
+use Rattle.std.specs.Prelude.{ℕ, ◌+◌, ◌==◌, Bool, true, false, ◌&&◌, if◌then◌else◌, List, [], ◌∷◌, ◌++◌, Option, Some, None}
 use Rattle.std.specs.List.{filter_map}
 use Rattle.std.specs.Option.{option_map, option_map_or}
 use Rattle.rc_base.specs.Prefix.{Cidr}
@@ -35,15 +35,6 @@ ways_of reach others r offers = filter_map (way_for reach others r) offers
 
 abbrev pub cost_to : Reach → Bool → ℕ → Offered → Option ℕ
 cost_to reach others r o = option_map (λ (e : LeastWalks). e.cost + o.cost) (path_for reach others r o)
-
--- the lower of two costs, or the one that is there
-abbrev pub lower : Option ℕ → Option ℕ → Option ℕ
-lower None cost = cost
-lower (Some k) None = Some k
-lower (Some k) (Some c) = Some (min k c)
-
-abbrev pub then_cost : Reach → Bool → ℕ → Option ℕ → Offered → Option ℕ
-then_cost reach others r best o = lower best (cost_to reach others r o)
 
 -- the hops of the way to an offer, where it costs so much
 abbrev pub hops_for : Reach → Bool → ℕ → ℕ → Offered → List Hop

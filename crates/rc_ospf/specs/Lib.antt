@@ -4,6 +4,7 @@ pub mod Adverts
 pub mod Walks
 pub mod Paths
 pub mod Offered
+pub mod HopOrder
 pub mod Ways
 pub mod RouterAreas
 pub mod Areas
@@ -13,6 +14,7 @@ pub mod Boundaries
 pub mod BoundaryForms
 pub mod Grouping
 pub mod ByPrefix
+pub mod BestOffers
 pub mod Members
 pub mod Internal
 pub mod Plain

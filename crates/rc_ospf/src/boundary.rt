@@ -12,12 +12,12 @@ ghost use Rattle.rc_ospf.specs.RouterAreas.{open_areas};
 ghost use Rattle.rc_ospf.specs.Ways.{best_of};
 ghost use Rattle.rc_ospf.specs.declared.member.StubAreas.TheVariants.{LeftOut};
 
+use crate::best::{best_hops, best_way};
 use crate::member::{Member, StubAreas};
 use crate::router_area::{is_in_backbone, router_areas};
 use crate::routes::heard;
 use crate::shares::{Makes, made_by};
 use crate::summaries::{Summaries, summaries_of, to_be_asked};
-use crate::way::{best_cost, hops_at};
 use crate::{Boundary, Offer, RouterArea};
 use rc_base::{Items, RouterId};
 use rc_config::{Network, OspfProcess, Redistribution, RouterText};
@@ -200,11 +200,11 @@ fn best_path(
     ensures value { IfOk result (λ path. path ≡ option_map (spec.path_over router) (best_of (ways_of (reach_of member.now) others member.now.router offers.now))) }
     ensures near { IfOk result (λ path. IfSome path IsNear) }
 {
-    let best = best_cost(member, others, offers);
+    let best = best_way(member, others, offers);
     match best {
-        Some(cost) => {
-            let hops = hops_at(alloc, member, others, cost, offers)?;
-            Ok(Some(Boundary::new(router, cost, hops)))
+        Some(best) => {
+            let hops = best_hops(alloc, member, others, best, offers)?;
+            Ok(Some(Boundary::new(router, best.cost, hops)))
         }
         None => Ok(None),
     }

@@ -1,12 +1,14 @@
 //! Hops in their order.
-ghost use Rattle.std.specs.Prelude.{◌≡◌, ◌++◌, IfOk, OnOk};
+ghost use Rattle.std.specs.Prelude.{◌≡◌, true, [], ◌∷◌, ◌++◌, IfOk, OnOk};
 ghost use Rattle.std.specs.BTreeSet.{keys, insert_key};
 ghost use Rattle.rc_base.specs.Lists.{in_order};
+ghost use Rattle.rc_ospf.specs.HopOrder as spec;
 ghost use Rattle.rc_route.specs.Hops.{hop_cmp};
 
 use rc_base::IfId;
-use rc_route::{Hop, Hops};
+use rc_route::{Hop, Hops, compare_hops};
 use std::alloc::{AllocError, Global};
+use std::cmp::Ordering;
 use std::collections::BTreeSet;
 
 /// Puts hops at the end. It errs only where memory runs out.
@@ -41,7 +43,7 @@ fn hop_set(alloc: Global, hops: &[Hop]) -> Result<BTreeSet<Hop>, AllocError>
 }
 
 /// Hops in their order, each once, by way of a set.
-fn sorted_hops(alloc: Global, hops: &[Hop]) -> Result<Hops, AllocError>
+fn hops_by_set(alloc: Global, hops: &[Hop]) -> Result<Hops, AllocError>
     ensures { IfOk result (λ ordered. ordered ≡ in_order hop_cmp hops.now) }
 {
     let set = hop_set(alloc, hops)?;
@@ -52,12 +54,54 @@ fn sorted_hops(alloc: Global, hops: &[Hop]) -> Result<Hops, AllocError>
     Ok(ordered)
 }
 
-/// Hops as they were found in their order, each once: one alone is in order already. It errs only where memory runs out.
-#[tactic(auto, using(crate::proofs::HopLaws::alone))]
+/// Two hops, one behind the other.
+fn pair(alloc: Global, first: Hop, second: Hop) -> Result<Hops, AllocError>
+    ensures { IfOk result (λ hops. hops ≡ first ∷ second ∷ []) }
+{
+    let mut hops = Hops::one(first);
+    hops.push(alloc, second)?;
+    Ok(hops)
+}
+
+/// Two hops in their order, or one where they are the same.
+fn two_in_order(alloc: Global, first: &Hop, second: &Hop) -> Result<Hops, AllocError>
+    ensures { IfOk result (λ ordered. ordered ≡ in_order hop_cmp (first.now ∷ second.now ∷ [])) }
+{
+    match compare_hops(second, first) {
+        Ordering::Less => pair(alloc, *second, *first),
+        Ordering::Equal => Ok(Hops::one(*first)),
+        Ordering::Greater => pair(alloc, *first, *second),
+    }
+}
+
+/// Hops in their order, each once: two of them need no set.
+fn sorted_hops(alloc: Global, hops: &[Hop]) -> Result<Hops, AllocError>
+    ensures { IfOk result (λ ordered. ordered ≡ in_order hop_cmp hops.now) }
+{
+    match hops {
+        [first, second] => two_in_order(alloc, first, second),
+        _ => hops_by_set(alloc, hops),
+    }
+}
+
+/// Whether hops are none, one, or two in their order. Of more it isn't told.
+fn are_few_in_order(hops: &[Hop]) -> bool
+    ensures { result ≡ true → spec.are_few_in_order hops.now ≡ true }
+{
+    match hops {
+        [] => true,
+        [_] => true,
+        [first, second] => compare_hops(second, first).is_gt(),
+        _ => false,
+    }
+}
+
+/// Hops as they were found in their order, each once: most are one, or stand so already. It errs only where memory runs out.
+#[tactic(auto, using(crate::proofs::HopLaws::few_stay))]
 pub(crate) fn put_in_order(alloc: Global, hops: Hops) -> Result<Hops, AllocError>
     ensures { IfOk result (λ ordered. ordered ≡ in_order hop_cmp hops) }
 {
-    if hops.len() == 1 {
+    if are_few_in_order(hops.as_slice()) {
         return Ok(hops);
     }
     sorted_hops(alloc, hops.as_slice())

@@ -6,7 +6,7 @@
 //! routers, and the prefixes that it advertises itself (`IsInternal`), and that there is one such answer (`one_internal`).
 //!
 //! The crate goes one way: interfaces and the areas of routers (`interface`, `router_area`), steps and the least walks over them
-//! (`adjacency`, `area`, `path`), routers as the others have them (`member`), ways to what is offered (`way`), what border routers
+//! (`adjacency`, `area`, `path`), routers as the others have them (`member`), ways to what is offered and the best of them (`way`, `best`), what border routers
 //! summarise of a destination (`summaries`), and what each router makes of it (`routes`, `boundary`). What is made of each router
 //! by itself is made by workers at once (`shares`).
 #![tactic(auto)]
@@ -14,6 +14,7 @@
 mod adjacency;
 mod advertising;
 mod area;
+mod best;
 mod boundary;
 mod destination;
 mod grouping;

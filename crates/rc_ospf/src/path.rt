@@ -1,7 +1,9 @@
 //! The least walks from one router.
 ghost use Rattle.std.specs.Prelude.{◌≡◌, ◌<◌, ◌^◌};
+ghost use Rattle.std.specs.List.Sorted.{IsStrictlySortedBy};
 ghost use Rattle.std.specs.Option.{option_copied};
 ghost use Rattle.rc_ospf.specs.Paths.{path_in, path_of};
+ghost use Rattle.rc_route.specs.Hops.{hop_cmp};
 
 use rc_base::{Items, RouterId};
 use rc_route::Hops;
@@ -15,18 +17,21 @@ pub struct Path {
 }
 
 impl Model for Path {
+    ghost use Rattle.std.specs.List.Sorted.{IsStrictlySortedBy};
+    ghost use Rattle.rc_route.specs.Hops.{hop_cmp};
     ghost use Rattle.rc_ospf.specs.Walks.{LeastWalks, IsSmall};
 
     ghost Value = { LeastWalks };
 
     ghost view = { λ p. record { cost = p.cost; hops = p.hops } };
 
-    ghost invariant = { λ p. IsSmall (record { cost = p.cost; hops = p.hops }) };
+    ghost invariant = { λ p. IsSmall (record { cost = p.cost; hops = p.hops }) × IsStrictlySortedBy hop_cmp p.hops };
 }
 
 impl Path {
     pub(crate) fn new(cost: u32, hops: Hops) -> Path
-        requires { cost < 2 ^ 26 }
+        requires small { cost < 2 ^ 26 }
+        requires in_order { IsStrictlySortedBy hop_cmp hops }
         ensures { result ≡ record { cost = cost; hops = hops } }
     {
         Path { cost, hops }
@@ -42,7 +47,8 @@ impl Path {
 
     /// The first hops of all of the walks, in order.
     pub fn hops(&self) -> &Hops
-        ensures { result.now ≡ self.now.hops }
+        ensures value { result.now ≡ self.now.hops }
+        ensures in_order { IsStrictlySortedBy hop_cmp result.now }
     {
         &self.hops
     }

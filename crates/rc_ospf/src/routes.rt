@@ -11,12 +11,12 @@ ghost use Rattle.rc_ospf.specs.Ways.{best_of};
 ghost use Rattle.rc_ospf.specs.declared.member.StubAreas.TheVariants.{Kept};
 
 use crate::Offer;
+use crate::best::{best_hops, best_way};
 use crate::destination::Destination;
 use crate::member::{Member, StubAreas};
 use crate::router_area::is_in_backbone;
 use crate::shares::with_room;
 use crate::summaries::Summaries;
-use crate::way::{best_cost, hops_at};
 use rc_base::{Prefix, RouterId};
 use rc_route::{Route, Source, Table};
 use std::alloc::{AllocError, Global};
@@ -56,15 +56,15 @@ fn best_route(
     ensures short { IfOk result (λ route. IfSome route IsShortRoute) }
     ensures value { IfOk result (λ route. route ≡ option_map (route_over source prefix) (best_of (ways_of (reach_of member.now) others member.now.router offers.now))) }
 {
-    let best = best_cost(member, others, offers);
+    let best = best_way(member, others, offers);
     match best {
-        Some(metric) => {
-            let hops = hops_at(alloc, member, others, metric, offers)?;
+        Some(best) => {
+            let hops = best_hops(alloc, member, others, best, offers)?;
             Ok(Some(Route {
                 prefix,
                 source,
                 distance: 110,
-                metric,
+                metric: best.cost,
                 hops,
             }))
         }

@@ -7,9 +7,9 @@ ghost use Rattle.rc_ospf.specs.Members.{reach_of, known, SummariseAlike};
 ghost use Rattle.rc_ospf.specs.declared.member.StubAreas.TheVariants.{Kept};
 ghost use Rattle.rc_ospf.specs.RouterAreas.{is_outside};
 
+use crate::best::best_cost;
 use crate::member::{Member, StubAreas};
 use crate::router_area::is_border;
-use crate::way::best_cost;
 use crate::{Offer, RouterArea};
 use rc_base::{Items, RouterId};
 use std::alloc::{AllocError, Global};

@@ -1,8 +1,8 @@
 //! Ways to what is offered.
-ghost use Rattle.std.specs.Prelude.{◌≡◌, ◌+◌, ◌++◌, ◌<◌, ◌^◌, None, Some, IfOk, OnOk, IfSome, MatchOption};
+ghost use Rattle.std.specs.Prelude.{◌≡◌, ◌++◌, ◌<◌, ◌^◌, IfOk, OnOk, IfSome};
 ghost use Rattle.std.specs.Option.{option_copied};
 ghost use Rattle.rc_base.specs.Lists.{in_order};
-ghost use Rattle.rc_ospf.specs.ByPrefix.{path_for, cost_to, lower, hops_for, ways_of};
+ghost use Rattle.rc_ospf.specs.ByPrefix.{path_for, cost_to, hops_for, ways_of};
 ghost use Rattle.rc_ospf.specs.Members.{reach_of};
 ghost use Rattle.rc_ospf.specs.Ways as spec;
 ghost use Rattle.rc_route.specs.Hops.{hop_cmp};
@@ -15,7 +15,7 @@ use std::alloc::{AllocError, Global};
 
 /// The least walks to the router of an offer inside its area, where there are any. Where only offers of others count, there are
 /// none to one of the router itself.
-fn path_for<'a>(member: &'a Member, others: bool, offer: &Offer) -> Option<&'a Path>
+pub(crate) fn path_for<'a>(member: &'a Member, others: bool, offer: &Offer) -> Option<&'a Path>
     ensures { option_copied result ≡ path_for (reach_of member.now) others member.now.router offer.now }
 {
     if others && offer.router() == member.router {
@@ -25,7 +25,7 @@ fn path_for<'a>(member: &'a Member, others: bool, offer: &Offer) -> Option<&'a P
 }
 
 /// The cost of the way to an offer, where there is one.
-fn cost_to(member: &Member, others: bool, offer: &Offer) -> Option<u32>
+pub(crate) fn cost_to(member: &Member, others: bool, offer: &Offer) -> Option<u32>
     ensures value { result ≡ cost_to (reach_of member.now) others member.now.router offer.now }
     ensures small { IfSome result (λ c. c < 2 ^ 27) }
 {
@@ -34,35 +34,6 @@ fn cost_to(member: &Member, others: bool, offer: &Offer) -> Option<u32>
         Some(path) => Some(path.cost() + offer.cost()),
         None => None,
     }
-}
-
-/// The lower of two costs, or the one that is there.
-fn lower(known: Option<u32>, cost: Option<u32>) -> Option<u32>
-    requires known { IfSome known (λ c. c < 2 ^ 27) }
-    requires cost { IfSome cost (λ c. c < 2 ^ 27) }
-    ensures value { result ≡ lower known cost }
-    ensures small { IfSome result (λ c. c < 2 ^ 27) }
-{
-    match known {
-        None => cost,
-        Some(known) => match cost {
-            None => Some(known),
-            Some(cost) => Some(known.min(cost)),
-        },
-    }
-}
-
-/// The cost of the best way of a router to some offer; where only offers of others count, to one of these.
-pub(crate) fn best_cost(member: &Member, others: bool, offers: &[Offer]) -> Option<u32>
-    ensures value { result ≡ spec.cost_of (spec.best_of (ways_of (reach_of member.now) others member.now.router offers.now)) }
-    ensures best { MatchOption result (spec.best_of (ways_of (reach_of member.now) others member.now.router offers.now) ≡ None) (λ c. spec.best_of (ways_of (reach_of member.now) others member.now.router offers.now) ≡ Some (record { cost = c; hops = spec.hops_at c (ways_of (reach_of member.now) others member.now.router offers.now) })) }
-    ensures small { IfSome result (λ c. c < 2 ^ 27) }
-{
-    let mut best = None;
-    for offer in offers {
-        best = lower(best, cost_to(member, others, offer));
-    }
-    best
 }
 
 /// Puts the hops of the way to an offer at the end, where it costs so much.

@@ -1,0 +1,195 @@
+-- The best of the ways to offers, taken one after another.
+use Rattle.std.proofs.Common.{refl, ◌≡◌, ap, sym, ◌∙◌, subst, ℕ, ◌+◌, ◌<◌, ◌≤◌, min, ◌==◌, Bool, true, false, cond, List, [], ◌∷◌, ◌++◌, length, get_or, filter, Option, Some, None, MatchOption, nat_lt, arith, append_assoc}
+use Rattle.std.specs.Prelude.{IfSome}
+use Rattle.std.specs.List.{fold, filter_map, cons_option, flat_map}
+use Rattle.std.specs.List.Sorted.{IsStrictlySortedBy}
+use Rattle.std.specs.Option.{option_map, option_map_or}
+use Rattle.std.proofs.lemmas.Bool.Decides.{nat_tests}
+use Rattle.std.proofs.lemmas.Grind.{common_steps}
+use Rattle.std.proofs.lemmas.List.{append-nil, length-append, get_or_at}
+use Rattle.rc_base.specs.Lists.{in_order}
+use Rattle.rc_route.specs.Hops.{hop_cmp}
+use Rattle.rc_route.specs.declared.route.Hop.{Hop}
+use Rattle.rc_ospf.specs.BestOffers.{better_of, better, best_from, HasBest}
+use Rattle.rc_ospf.specs.ByPrefix.{path_for, way_for, ways_of, cost_to, hops_for}
+use Rattle.rc_ospf.specs.Offered.{Offered}
+use Rattle.rc_ospf.specs.Walks.{LeastWalks, Reach}
+use Rattle.rc_ospf.specs.Ways.{Way, way_over, least_cost, hops_at, best_of, cost_of}
+use Rattle.rc_ospf.specs.declared.best.Best.{Best}
+use Rattle.rc_ospf.proofs.HopLaws as hop_laws
+use Rattle.rc_ospf.proofs.WayLaws.{best_by_cost}
+
+-- ---- one way more
+
+fold_more : (k : ℕ) (ws : List Way) (w : Way) → fold (λ c (x : Way). min c x.cost) k (ws ++ w ∷ []) ≡ min (fold (λ c (x : Way). min c x.cost) k ws) w.cost
+fold_more k [] w = refl
+fold_more k (x ∷ ws) w = fold_more (min k x.cost) ws w
+
+cost_more : (k : ℕ) (ws : List Way) (w : Way) → cost_of (best_of ws) ≡ Some k → cost_of (best_of (ws ++ w ∷ [])) ≡ Some (min k w.cost)
+cost_more k [] w is = absurd (cc)
+cost_more k (v ∷ ws) w is = let least : least_cost v ws ≡ k = cc in ap Some (fold_more v.cost ws w ∙ ap (λ n. min n w.cost) least)
+
+hops_more : (k : ℕ) (ws : List Way) (w : Way) → hops_at k (ws ++ w ∷ []) ≡ hops_at k ws ++ cond (w.cost == k) w.hops []
+hops_more k [] w = by (w.cost == k)
+  where
+    by : (b : Bool) → flat_map (λ (x : Way). x.hops) (cond b (w ∷ []) []) ≡ cond b w.hops []
+    by true = append-nil w.hops
+    by false = refl
+hops_more k (v ∷ ws) w = by (v.cost == k) (hops_more k ws w)
+  where
+    by : (b : Bool) → hops_at k (ws ++ w ∷ []) ≡ hops_at k ws ++ cond (w.cost == k) w.hops []
+        → flat_map (λ (x : Way). x.hops) (cond b (v ∷ filter (λ (x : Way). x.cost == k) (ws ++ w ∷ [])) (filter (λ (x : Way). x.cost == k) (ws ++ w ∷ [])))
+        ≡ flat_map (λ (x : Way). x.hops) (cond b (v ∷ filter (λ (x : Way). x.cost == k) ws) (filter (λ (x : Way). x.cost == k) ws)) ++ cond (w.cost == k) w.hops []
+    by true rest = ap (λ hs. v.hops ++ hs) rest ∙ sym (append_assoc v.hops (hops_at k ws) (cond (w.cost == k) w.hops []))
+    by false rest = rest
+
+-- at another cost it adds nothing
+hops_stay : (k : ℕ) (ws : List Way) (w : Way) → (w.cost == k) ≡ false → hops_at k (ws ++ w ∷ []) ≡ hops_at k ws
+hops_stay k ws w other = hops_more k ws w ∙ ap (λ b. hops_at k ws ++ cond b w.hops []) other ∙ append-nil (hops_at k ws)
+
+above : (m n : ℕ) → n < m → (m == n) ≡ false
+above m n less = grind (arith, common_steps, nat_tests, less)
+
+less_if : (m n : ℕ) → nat_lt m n ≡ true → m < n
+less_if m n is = grind (arith, common_steps, nat_tests, is)
+
+not_less_if : (m n : ℕ) → nat_lt m n ≡ false → n ≤ m
+not_less_if m n is = grind (arith, common_steps, nat_tests, is)
+
+same_if : (m n : ℕ) → (m == n) ≡ true → m ≡ n
+same_if m n is = grind (arith, common_steps, nat_tests, is)
+
+more_if : (m n : ℕ) → n ≤ m → (m == n) ≡ false → n < m
+more_if m n le other = grind (arith, common_steps, nat_tests, le, other)
+
+equal_if : (m n : ℕ) → m ≡ n → (m == n) ≡ true
+equal_if m n is = grind (arith, common_steps, nat_tests, is)
+
+-- ---- what is known of the ways to some first offers
+
+-- the least of their costs, that no way costs less, and the hops where one way is alone at it
+record IsSoFar (reach : Reach) (others : Bool) (r : ℕ) (all : List Offered) (ws : List Way) (b : Best) : Type 0 where
+  cost : cost_of (best_of ws) ≡ Some b.cost
+  none_less : (k : ℕ) → k < b.cost → hops_at k ws ≡ []
+  within : b.at < length all
+  alone : b.is_alone ≡ true → (d : Offered) → hops_at b.cost ws ≡ hops_for reach others r b.cost (get_or all b.at d)
+
+abbrev Known : Reach → Bool → ℕ → List Offered → List Way → Option Best → Type 0
+Known reach others r all ws best = MatchOption best (ws ≡ []) (IsSoFar reach others r all ws)
+
+module _ (reach : Reach) (others : Bool) (r : ℕ) (all : List Offered) where
+  -- one more, to the offer at a place
+  module _ (ws : List Way) (o : Offered) (e : LeastWalks) (i : ℕ) (lt : i < length all) (here : (d : Offered) → get_or all i d ≡ o) (found : path_for reach others r o ≡ Some e) where
+    hops_here : (k : ℕ) (d : Offered) → hops_for reach others r k (get_or all i d) ≡ cond (e.cost + o.cost == k) e.hops []
+    hops_here k d = ap (hops_for reach others r k) (here d) ∙ ap (λ p. option_map_or (λ (x : LeastWalks). cond (x.cost + o.cost == k) x.hops []) p []) found
+
+    -- it costs less than all before
+    least : cost_of (best_of (ws ++ way_over (e.cost + o.cost) e ∷ [])) ≡ Some (e.cost + o.cost) → ((k : ℕ) → k ≤ e.cost + o.cost → hops_at k ws ≡ [])
+        → IsSoFar reach others r all (ws ++ way_over (e.cost + o.cost) e ∷ []) (record { cost = e.cost + o.cost; at = i; is_alone = true })
+    least cost none = record {
+      cost = cost;
+      none_less = λ k less. hops_stay k ws (way_over (e.cost + o.cost) e) (above (e.cost + o.cost) k less) ∙ none k (omega (arith, less));
+      within = lt;
+      alone = λ _ d. hops_more (e.cost + o.cost) ws (way_over (e.cost + o.cost) e)
+          ∙ ap (λ hs. hs ++ cond (e.cost + o.cost == e.cost + o.cost) e.hops []) (none (e.cost + o.cost) (omega arith)) ∙ sym (hops_here (e.cost + o.cost) d);
+    }
+
+    after_none : ws ≡ [] → IsSoFar reach others r all (ws ++ way_over (e.cost + o.cost) e ∷ []) (record { cost = e.cost + o.cost; at = i; is_alone = true })
+    after_none is = least (ap (λ vs. cost_of (best_of (vs ++ way_over (e.cost + o.cost) e ∷ []))) is) (λ k le. ap (hops_at k) is)
+
+    module _ (b : Best) (known : IsSoFar reach others r all ws b) where
+      cost_is : (k : ℕ) → min b.cost (e.cost + o.cost) ≡ k → cost_of (best_of (ws ++ way_over (e.cost + o.cost) e ∷ [])) ≡ Some k
+      cost_is k is = cost_more b.cost ws (way_over (e.cost + o.cost) e) known.cost ∙ ap Some is
+
+      after_more : e.cost + o.cost < b.cost → IsSoFar reach others r all (ws ++ way_over (e.cost + o.cost) e ∷ []) (record { cost = e.cost + o.cost; at = i; is_alone = true })
+      after_more less = least (cost_is (e.cost + o.cost) (omega (arith, less))) (λ k le. known.none_less k (omega (arith, le, less)))
+
+      after_same : e.cost + o.cost ≡ b.cost → IsSoFar reach others r all (ws ++ way_over (e.cost + o.cost) e ∷ []) (record { cost = e.cost + o.cost; at = b.at; is_alone = false })
+      after_same same = record {
+        cost = cost_is (e.cost + o.cost) (omega (arith, same));
+        none_less = λ k less. hops_stay k ws (way_over (e.cost + o.cost) e) (above (e.cost + o.cost) k less) ∙ known.none_less k (omega (arith, less, same));
+        within = known.within;
+        alone = λ yes. absurd (cc yes);
+      }
+
+      after_less : b.cost < e.cost + o.cost → IsSoFar reach others r all (ws ++ way_over (e.cost + o.cost) e ∷ []) b
+      after_less more = record {
+        cost = cost_is b.cost (omega (arith, more));
+        none_less = λ k less. hops_stay k ws (way_over (e.cost + o.cost) e) (above (e.cost + o.cost) k (omega (arith, less, more))) ∙ known.none_less k less;
+        within = known.within;
+        alone = λ yes d. hops_stay b.cost ws (way_over (e.cost + o.cost) e) (above (e.cost + o.cost) b.cost more) ∙ known.alone yes d;
+      }
+
+      after_some : IsSoFar reach others r all (ws ++ way_over (e.cost + o.cost) e ∷ []) (better_of b (e.cost + o.cost) i)
+      after_some = by (nat_lt (e.cost + o.cost) b.cost) refl
+        where
+          by_same : (t : Bool) → (e.cost + o.cost == b.cost) ≡ t → b.cost ≤ e.cost + o.cost
+              → IsSoFar reach others r all (ws ++ way_over (e.cost + o.cost) e ∷ []) (cond t (record { cost = e.cost + o.cost; at = b.at; is_alone = false }) b)
+          by_same true is le = after_same (same_if (e.cost + o.cost) b.cost is)
+          by_same false is le = after_less (more_if (e.cost + o.cost) b.cost le is)
+
+          by : (t : Bool) → nat_lt (e.cost + o.cost) b.cost ≡ t
+              → IsSoFar reach others r all (ws ++ way_over (e.cost + o.cost) e ∷ [])
+              (cond t (record { cost = e.cost + o.cost; at = i; is_alone = true }) (cond (e.cost + o.cost == b.cost) (record { cost = e.cost + o.cost; at = b.at; is_alone = false }) b))
+          by true is = after_more (less_if (e.cost + o.cost) b.cost is)
+          by false is = by_same (e.cost + o.cost == b.cost) refl (not_less_if (e.cost + o.cost) b.cost is)
+
+    way_taken : (best : Option Best) → Known reach others r all ws best → Known reach others r all (ws ++ way_over (e.cost + o.cost) e ∷ []) (better (Some (e.cost + o.cost)) best i)
+    way_taken None known = after_none known
+    way_taken (Some b) known = after_some b known
+
+  ways_more : (front : List Offered) (o : Offered) → ways_of reach others r (front ++ o ∷ []) ≡ ways_of reach others r front ++ cons_option (way_for reach others r o) []
+  ways_more [] o = refl
+  ways_more (x ∷ front) o = by (way_for reach others r x) (ways_more front o)
+    where
+      by : (w : Option Way) → ways_of reach others r (front ++ o ∷ []) ≡ ways_of reach others r front ++ cons_option (way_for reach others r o) []
+          → cons_option w (ways_of reach others r (front ++ o ∷ [])) ≡ cons_option w (ways_of reach others r front) ++ cons_option (way_for reach others r o) []
+      by None rest = rest
+      by (Some w) rest = ap (λ ws. w ∷ ws) rest
+
+  offer_taken : (front : List Offered) (o : Offered) (best : Option Best) (i : ℕ) → i < length all → ((d : Offered) → get_or all i d ≡ o)
+      → Known reach others r all (ways_of reach others r front) best → Known reach others r all (ways_of reach others r (front ++ o ∷ [])) (better (cost_to reach others r o) best i)
+  offer_taken front o best i lt here known = subst (λ ws. Known reach others r all ws (better (cost_to reach others r o) best i)) (sym (ways_more front o)) (by (path_for reach others r o) refl)
+    where
+      by : (p : Option LeastWalks) → path_for reach others r o ≡ p → Known reach others r all (ways_of reach others r front ++ cons_option (option_map (λ (e : LeastWalks). way_over (e.cost + o.cost) e) p) [])
+          (better (option_map (λ (e : LeastWalks). e.cost + o.cost) p) best i)
+      by None found = subst (λ ws. Known reach others r all ws best) (sym (append-nil (ways_of reach others r front))) known
+      by (Some e) found = way_taken (ways_of reach others r front) o e i lt here found best known
+
+  rest_taken : (os front : List Offered) (i : ℕ) (best : Option Best) → all ≡ front ++ os → i ≡ length front
+      → Known reach others r all (ways_of reach others r front) best → Known reach others r all (ways_of reach others r all) (best_from reach others r best i os)
+  rest_taken [] front i best is at known = subst (λ xs. Known reach others r all (ways_of reach others r xs) best) (sym (is ∙ append-nil front)) known
+  rest_taken (o ∷ os) front i best is at known =
+      let long : length all ≡ length front + length (o ∷ os) = ap length is ∙ length-append front (o ∷ os) in
+      let lt : i < length all = omega (arith, long, at) in
+      let here : (d : Offered) → get_or all i d ≡ o = λ d. ap (λ xs. get_or xs i d) is ∙ get_or_at front o os d i (sym at) in
+      rest_taken os (front ++ o ∷ []) (i + 1) (better (cost_to reach others r o) best i) (is ∙ sym (append_assoc front (o ∷ []) os))
+      (ap (λ n. n + 1) at ∙ sym (length-append front (o ∷ []))) (offer_taken front o best i lt here known)
+
+  all_taken : Known reach others r all (ways_of reach others r all) (best_from reach others r None 0 all)
+  all_taken = rest_taken all [] 0 None refl refl refl
+
+  -- the best of all
+  pub is_best : (best : Option Best) → best ≡ best_from reach others r None 0 all
+      → MatchOption best (best_of (ways_of reach others r all) ≡ None) (λ b. best_of (ways_of reach others r all) ≡ Some (record { cost = b.cost; hops = hops_at b.cost (ways_of reach others r all) }))
+  is_best best is = by best (subst (Known reach others r all (ways_of reach others r all)) (sym is) all_taken)
+    where
+      by : (o : Option Best) → Known reach others r all (ways_of reach others r all) o
+          → MatchOption o (best_of (ways_of reach others r all) ≡ None) (λ b. best_of (ways_of reach others r all) ≡ Some (record { cost = b.cost; hops = hops_at b.cost (ways_of reach others r all) }))
+      by None known = ap best_of known
+      by (Some b) known = best_by_cost (ways_of reach others r all) (Some b.cost) (sym known.cost)
+
+  pub has_best : (best : Option Best) → best ≡ best_from reach others r None 0 all → IfSome best (HasBest reach others r all)
+  has_best best is = by best (subst (Known reach others r all (ways_of reach others r all)) (sym is) all_taken)
+    where
+      by : (o : Option Best) → Known reach others r all (ways_of reach others r all) o → IfSome o (HasBest reach others r all)
+      by None known = tt
+      by (Some b) known = record { within = known.within; alone = known.alone }
+
+-- the hops of the way to an offer, which are in order
+pub way_hops : (reach : Reach) (others : Bool) (r cost : ℕ) (o : Offered) (e : LeastWalks) (hops : List Hop) → path_for reach others r o ≡ Some e → e.cost + o.cost ≡ cost
+    → hops ≡ e.hops → IsStrictlySortedBy hop_cmp hops → hops ≡ in_order hop_cmp (hops_for reach others r cost o)
+way_hops reach others r cost o e hops found costs are rise =
+    let here : hops_for reach others r cost o ≡ e.hops = ap (λ p. option_map_or (λ (x : LeastWalks). cond (x.cost + o.cost == cost) x.hops []) p []) found
+    ∙ ap (λ b. cond b e.hops []) (equal_if (e.cost + o.cost) cost costs) in
+    sym (hop_laws.hops_stay hops rise) ∙ ap (in_order hop_cmp) (are ∙ sym here)

@@ -1,0 +1,25 @@
+use Rattle.std.proofs.Common.{◌≡◌, ◌∙◌, sym, ap, subst, drop, [], None, MatchOption, Some, arith}
+use Rattle.std.specs.Prelude.{IfSome}
+use Rattle.std.proofs.lemmas.List.{drop_all}
+use Rattle.rc_ospf.specs.BestOffers.{best_from, HasBest}
+use Rattle.rc_ospf.specs.Members.{reach_of}
+use Rattle.rc_ospf.proofs.BestLaws.{is_best, has_best}
+use Rattle.rc_ospf.proofs.best.best_way.Goals as goal
+
+pub returns-clause-best : goal.returns-clause-best
+returns-clause-best c =
+    let m = c.args.member.now in
+    let offers = c.args.offers.now in
+    let none : drop c.loop-index.index offers ≡ [] = drop_all c.loop-index.index offers (omega (arith, c.loop-index-test.false)) in
+    let taken : c.loop-index.best ≡ best_from (reach_of m) c.args.others m.router None 0 offers =
+    sym (ap (best_from (reach_of m) c.args.others m.router c.loop-index.best c.loop-index.index) none) ∙ c.loop-index.invariant.value in
+    is_best (reach_of m) c.args.others m.router offers c.loop-index.best taken
+
+pub returns-clause-place : goal.returns-clause-place
+returns-clause-place c =
+    let m = c.args.member.now in
+    let offers = c.args.offers.now in
+    let none : drop c.loop-index.index offers ≡ [] = drop_all c.loop-index.index offers (omega (arith, c.loop-index-test.false)) in
+    let taken : c.loop-index.best ≡ best_from (reach_of m) c.args.others m.router None 0 offers =
+    sym (ap (best_from (reach_of m) c.args.others m.router c.loop-index.best c.loop-index.index) none) ∙ c.loop-index.invariant.value in
+    has_best (reach_of m) c.args.others m.router offers c.loop-index.best taken

@@ -1,0 +1,29 @@
+-- The best of the ways to offers, taken one after another, as the code does it.
+use Rattle.std.specs.Prelude.{◌≡◌, ℕ, ◌+◌, ◌<◌, ◌==◌, nat_lt, Bool, true, false, if◌then◌else◌, List, [], ◌∷◌, length, slice_index_or, Option, Some, None}
+use Rattle.rc_ospf.specs.ByPrefix.{ways_of, cost_to, hops_for}
+use Rattle.rc_ospf.specs.Offered.{Offered}
+use Rattle.rc_ospf.specs.Walks.{Reach}
+use Rattle.rc_ospf.specs.Ways.{hops_at}
+use Rattle.rc_ospf.specs.declared.best.Best.{Best}
+
+-- a way that is known and one at this cost to the offer at a later place
+abbrev pub better_of : Best → ℕ → ℕ → Best
+better_of b c at =
+    if nat_lt c b.cost then record { cost = c; at = at; is_alone = true }
+    else if c == b.cost then record { cost = c; at = b.at; is_alone = false }
+    else b
+
+abbrev pub better : Option ℕ → Option Best → ℕ → Option Best
+better None best at = best
+better (Some c) None at = Some (record { cost = c; at = at; is_alone = true })
+better (Some c) (Some b) at = Some (better_of b c at)
+
+-- of the offers from a place on
+abbrev pub best_from : Reach → Bool → ℕ → Option Best → ℕ → List Offered → Option Best
+best_from reach others r best at [] = best
+best_from reach others r best at (o ∷ os) = best_from reach others r (better (cost_to reach others r o) best at) (at + 1) os
+
+-- where no other way costs as much, the offer at the place has the hops of all that do
+pub record HasBest (reach : Reach) (others : Bool) (r : ℕ) (offers : List Offered) (b : Best) : Type 0 where
+  pub within : b.at < length offers
+  pub alone : b.is_alone ≡ true → (d : Offered) → hops_at b.cost (ways_of reach others r offers) ≡ hops_for reach others r b.cost (slice_index_or offers b.at d)

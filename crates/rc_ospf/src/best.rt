@@ -1,0 +1,136 @@
+//! The best of the ways to some offers.
+ghost use Rattle.std.specs.Prelude.{◌≡◌, ◌<◌, ◌^◌, None, Some, IfOk, IfSome, MatchOption};
+ghost use Rattle.rc_base.specs.Lists.{in_order};
+ghost use Rattle.rc_ospf.specs.BestOffers as spec;
+ghost use Rattle.rc_ospf.specs.BestOffers.{HasBest};
+ghost use Rattle.rc_ospf.specs.ByPrefix.{hops_for, ways_of};
+ghost use Rattle.rc_ospf.specs.Members.{reach_of};
+ghost use Rattle.rc_ospf.specs.Ways as ways;
+ghost use Rattle.rc_ospf.specs.Ways.{best_of, cost_of};
+ghost use Rattle.rc_route.specs.Hops.{hop_cmp};
+
+use crate::Offer;
+use crate::member::Member;
+use crate::way::{cost_to, hops_at, path_for};
+use rc_route::Hops;
+use std::alloc::{AllocError, Global};
+
+/// Where the best of the ways to some offers leads.
+#[derive(Clone, Copy)]
+pub(crate) struct Best {
+    pub cost: u32,
+    /// The index of the first offer to which a way costs so much.
+    pub at: usize,
+    /// Whether no way to a later one does.
+    pub is_alone: bool,
+}
+
+/// The better of a way that is known and one to a later offer.
+fn better_of(known: Best, cost: u32, at: usize) -> Best
+    requires known { known.cost < 2 ^ 27 }
+    requires cost { cost < 2 ^ 27 }
+    ensures value { result ≡ spec.better_of known cost at }
+    ensures small { result.cost < 2 ^ 27 }
+{
+    if cost < known.cost {
+        return Best {
+            cost,
+            at,
+            is_alone: true,
+        };
+    }
+    if cost == known.cost {
+        return Best {
+            cost,
+            at: known.at,
+            is_alone: false,
+        };
+    }
+    known
+}
+
+/// The best way known, and one to a later offer at this cost, where there is one.
+fn better(cost: Option<u32>, best: Option<Best>, at: usize) -> Option<Best>
+    requires best { IfSome best (λ b. b.cost < 2 ^ 27) }
+    requires cost { IfSome cost (λ c. c < 2 ^ 27) }
+    ensures value { result ≡ spec.better cost best at }
+    ensures small { IfSome result (λ b. b.cost < 2 ^ 27) }
+{
+    match cost {
+        None => best,
+        Some(cost) => match best {
+            None => Some(Best {
+                cost,
+                at,
+                is_alone: true,
+            }),
+            Some(known) => Some(better_of(known, cost, at)),
+        },
+    }
+}
+
+/// Where the best of the ways of a router to some offers leads; where only offers of others count, of those to these.
+pub(crate) fn best_way(member: &Member, others: bool, offers: &[Offer]) -> Option<Best>
+    ensures best { MatchOption result (best_of (ways_of (reach_of member.now) others member.now.router offers.now) ≡ None) (λ b. best_of (ways_of (reach_of member.now) others member.now.router offers.now) ≡ Some (record { cost = b.cost; hops = ways.hops_at b.cost (ways_of (reach_of member.now) others member.now.router offers.now) })) }
+    ensures place { IfSome result (HasBest (reach_of member.now) others member.now.router offers.now) }
+    ensures small { IfSome result (λ b. b.cost < 2 ^ 27) }
+{
+    let mut best = None;
+    for (index, offer) in offers.iter().enumerate() {
+        best = better(cost_to(member, others, offer), best, index);
+    }
+    best
+}
+
+/// The cost of the best way of a router to some offer; where only offers of others count, to one of these.
+pub(crate) fn best_cost(member: &Member, others: bool, offers: &[Offer]) -> Option<u32>
+    ensures value { result ≡ cost_of (best_of (ways_of (reach_of member.now) others member.now.router offers.now)) }
+    ensures small { IfSome result (λ c. c < 2 ^ 27) }
+{
+    let best = best_way(member, others, offers);
+    match best {
+        Some(best) => Some(best.cost),
+        None => None,
+    }
+}
+
+/// The hops of the way to an offer, in order, where it costs so much.
+fn hops_to(
+    alloc: Global,
+    member: &Member,
+    others: bool,
+    cost: u32,
+    offer: &Offer,
+) -> Result<Hops, AllocError>
+    ensures { IfOk result (λ hops. hops ≡ in_order hop_cmp (hops_for (reach_of member.now) others member.now.router cost offer.now)) }
+{
+    let path = path_for(member, others, offer);
+    match path {
+        Some(path) => {
+            if path.cost() + offer.cost() != cost {
+                return Ok(Hops::none());
+            }
+            path.hops().copy(alloc)
+        }
+        None => Ok(Hops::none()),
+    }
+}
+
+/// The hops of the best of the ways to some offers, in order. It errs only where memory runs out.
+///
+/// Mostly one way is better than all others, and its hops are in order as they are kept.
+pub(crate) fn best_hops(
+    alloc: Global,
+    member: &Member,
+    others: bool,
+    best: Best,
+    offers: &[Offer],
+) -> Result<Hops, AllocError>
+    requires { HasBest (reach_of member.now) others member.now.router offers.now best }
+    ensures { IfOk result (λ hops. hops ≡ in_order hop_cmp (ways.hops_at best.cost (ways_of (reach_of member.now) others member.now.router offers.now))) }
+{
+    if best.is_alone {
+        return hops_to(alloc, member, others, best.cost, &offers[best.at]);
+    }
+    hops_at(alloc, member, others, best.cost, offers)
+}
