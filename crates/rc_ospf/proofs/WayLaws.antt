@@ -1,7 +1,7 @@
 -- The best ways by the least cost and the hops at it.
-use Rattle.std.proofs.Common.{refl, ◌≡◌, ap, ◌∙◌, ℕ, ◌+◌, min, ◌==◌, Bool, true, false, cond, List, [], ◌∷◌, ◌++◌, filter, Option, Some, None, MatchOption}
+use Rattle.std.proofs.Common.{refl, ◌≡◌, ap, ◌∙◌, ℕ, ◌+◌, ◌==◌, Bool, true, false, cond, List, [], ◌∷◌, ◌++◌, filter, Option, Some, None, MatchOption}
 use Rattle.std.specs.Prelude.{not}
-use Rattle.std.specs.List.{fold, filter_map, cons_option, flat_map}
+use Rattle.std.specs.List.{filter_map, cons_option, flat_map}
 use Rattle.std.specs.Option.{option_map, option_map_or, option_or}
 use Rattle.rc_ospf.specs.Areas.{OspfRouter, is_own, of_others, inter}
 use Rattle.rc_ospf.specs.Offered.{Offered}

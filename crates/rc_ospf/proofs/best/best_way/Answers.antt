@@ -1,7 +1,6 @@
-use Rattle.std.proofs.Common.{◌≡◌, ◌∙◌, sym, ap, subst, drop, [], None, MatchOption, Some, arith}
-use Rattle.std.specs.Prelude.{IfSome}
+use Rattle.std.proofs.Common.{◌≡◌, ◌∙◌, sym, ap, drop, [], None, arith}
 use Rattle.std.proofs.lemmas.List.{drop_all}
-use Rattle.rc_ospf.specs.BestOffers.{best_from, HasBest}
+use Rattle.rc_ospf.specs.BestOffers.{best_from}
 use Rattle.rc_ospf.specs.Members.{reach_of}
 use Rattle.rc_ospf.proofs.BestLaws.{is_best, has_best}
 use Rattle.rc_ospf.proofs.best.best_way.Goals as goal
