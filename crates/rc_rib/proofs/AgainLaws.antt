@@ -2,8 +2,9 @@
 use Rattle.std.proofs.Common.{refl, ◌≡◌, ◌⊎◌, inl, inr, ap, sym, ◌∙◌, subst, ℕ, zero, suc, ◌+◌, ◌<◌, List, [], ◌∷◌, ◌++◌, All, Option, Some, None, IfSome, length, arith}
 use Rattle.std.specs.List.{cons_option, filter, filter_map, range_with_len, slice_get}
 use Rattle.std.specs.Option.{option_map, option_map_or}
-use Rattle.std.proofs.lemmas.Option.{same_Some, slice_get-map, slice_get-get_or, slice_get_within, get_or_from_slice_get}
-use Rattle.std.proofs.lemmas.List.FromFn.{length-range_with_len, get_or-range_with_len}
+use Rattle.std.proofs.lemmas.Option.{same_Some, slice_get-map, slice_get-get_or, slice_get_past, slice_get_within, get_or_from_slice_get}
+use Rattle.std.proofs.lemmas.List.FromFn.{length-range_with_len, get_or-range_with_len, length-map-range_with_len}
+use Rattle.std.proofs.Math.Decide.{dec_lt}
 use Rattle.rc_base.specs.Prefix.{Cidr}
 use Rattle.rc_bgp.specs.Candidates.{all_best, best_paths}
 use Rattle.rc_bgp.specs.Changes.{CoversChange}
@@ -26,7 +27,7 @@ use Rattle.rc_route.specs.Tables.{IsRouterState}
 use Rattle.rc_route.specs.declared.path.BgpPath.{BgpPath}
 use Rattle.rc_route.specs.declared.route.Route.{Route}
 use Rattle.rc_route.specs.declared.state.RouterState.{RouterState}
-use Rattle.rc_rib.specs.Again.{IsUnchanged, ReadsNoOthers}
+use Rattle.rc_rib.specs.Again.{AreUnchanged, IsUnchanged, ReadsNoOthers}
 use Rattle.rc_rib.specs.Best.{best_routes}
 use Rattle.rc_rib.specs.Connected.{connected}
 use Rattle.rc_rib.specs.Next.{learned_routes, next_router, next_state, own_of, router_after, routes_of, to_others}
@@ -135,3 +136,26 @@ known_in_order state r s all is =
 -- the same paths say the same
 pub nothing_changed : (state : List RouterState) (r : ℕ) (s : RouterState) (paths : List BgpPath) (changed : List Cidr) → slice_get state r ≡ Some s → paths ≡ s.paths → CoversChange changed (paths_of state r) paths
 nothing_changed state r s paths changed known same = record { elsewhere = λ p none. ap (λ l. path_at l p) (ap (λ o. option_map_or (λ (t : RouterState). t.paths) o []) known ∙ sym same) }
+
+-- ---- where no router changes, the state stays
+
+same_elements : {X : Type 0} (xs ys : List X) → ((k : ℕ) → slice_get xs k ≡ slice_get ys k) → xs ≡ ys
+same_elements [] [] same = refl
+same_elements [] (y ∷ ys) same = absurd (cc (same 0))
+same_elements (x ∷ xs) [] same = absurd (cc (same 0))
+same_elements (x ∷ xs) (y ∷ ys) same =
+    let tails = same_elements xs ys (λ k. same (suc k)) in
+    ap (λ z. z ∷ xs) (same_Some x y (same 0)) ∙ ap (λ zs. y ∷ zs) tails
+
+module _ (net : Network) (internal : Internal) (all : List (List Session)) (state before : List RouterState) where
+  pub settled : all ≡ sessions net internal.links → state ≡ next_state net internal before → length state ≡ length net.routers → AreUnchanged net internal all state before → next_state net internal state ≡ state
+  settled these is as_long same = same_elements (next_state net internal state) state (λ k. at k (dec_lt k (length net.routers)))
+    where
+      as_many : length (next_state net internal state) ≡ length net.routers
+      as_many = length-map-range_with_len (next_router net internal state) 0 (length net.routers)
+
+      at : (k : ℕ) → Dec (k < length net.routers) → slice_get (next_state net internal state) k ≡ slice_get state k
+      at k (yes here) =
+          let one = same k here in
+          row net internal all k here state ∙ ap Some (sym (again net internal all k here these state before one.0 is one.1)) ∙ sym one.1.known
+      at k (no past) = slice_get_past (next_state net internal state) k (omega (arith, past, as_many)) ∙ sym (slice_get_past state k (omega (arith, past, as_long)))

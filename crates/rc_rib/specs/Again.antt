@@ -1,5 +1,5 @@
 -- A router that knows the same again.
-use Rattle.std.specs.Prelude.{◌≡◌, ◌⊎◌, ℕ, List, [], Some, None, IfSome, slice_get}
+use Rattle.std.specs.Prelude.{◌≡◌, ◌⊎◌, ℕ, ◌<◌, List, [], Some, None, IfSome, length, slice_get}
 use Rattle.rc_bgp.specs.Known.{table_of}
 use Rattle.rc_bgp.specs.Sessions.{sessions_of}
 use Rattle.rc_bgp.specs.declared.session.Session.{Session}
@@ -26,3 +26,7 @@ pub record IsUnchanged (net : Network) (internal : Internal) (sessions : List (L
   pub known : slice_get state router ≡ Some s
   pub others : ReadsNoOthers net internal sessions router
   pub reads : HasNoLines net router ⊎ (table_of state router ≡ table_of before router)
+
+-- so it is of each router
+abbrev pub AreUnchanged : Network → Internal → List (List Session) → List RouterState → List RouterState → Type 0
+AreUnchanged net internal sessions state before = (r : ℕ) → r < length net.routers → (s : RouterState) × IsUnchanged net internal sessions state before r s

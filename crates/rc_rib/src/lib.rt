@@ -14,7 +14,9 @@ mod merging;
 mod next;
 mod outside;
 mod rows;
+mod settled;
 
 pub use inputs::{Earlier, Inputs};
 pub use made::Made;
 pub use next::table;
+pub use settled::is_settled;

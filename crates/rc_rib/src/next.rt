@@ -349,7 +349,11 @@ fn reads_no_others(inputs: &Inputs<'_>, router: RouterId) -> bool
 }
 
 /// What a router knows in the state before, where it reads at most its own table, and that is the one of a state earlier yet.
-fn unchanged<'a>(inputs: &Inputs<'a>, earlier: &State, router: RouterId) -> Option<&'a RouterState>
+pub(crate) fn unchanged<'a>(
+    inputs: &Inputs<'a>,
+    earlier: &State,
+    router: RouterId,
+) -> Option<&'a RouterState>
     ensures { IfSome result (λ s. IsUnchanged inputs.now.network.now inputs.now.internal.now inputs.now.sessions.now inputs.now.previous.now earlier.now router s.now) }
 {
     if !reads_no_others(inputs, router) {

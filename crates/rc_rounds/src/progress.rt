@@ -1,5 +1,5 @@
 //! What the rounds keep from one to the next.
-ghost use Rattle.std.specs.Prelude.{◌≡◌, ◌+◌, ◌≤◌, ◌<◌, ◌⊎◌, IfOk, IfSome, length, if◌then◌else◌};
+ghost use Rattle.std.specs.Prelude.{◌≡◌, ◌+◌, ◌≤◌, ◌<◌, ◌⊎◌, IfOk, IfSome, MatchOption, length, if◌then◌else◌};
 ghost use Rattle.rc_bgp.specs.Changes.{AreChanges};
 ghost use Rattle.rc_config.specs.declared.network.Network.{Network as NetworkModel};
 ghost use Rattle.rc_rib.specs.Next as rib;
@@ -9,8 +9,10 @@ ghost use Rattle.rc_rounds.specs.Progress.{IsProgress, IsPowerBelow, IsSame, che
 ghost use Rattle.rc_rounds.specs.Rounds.{GoesOn};
 ghost use Rattle.rc_rounds.specs.Setting.{IsSetting};
 
+use crate::Outcome;
 use crate::parts::{Round, Setting};
 use crate::round::{empty_state, next_state};
+use crate::shares::pass_all;
 use rc_base::Items;
 use rc_bgp::{Changes, Sessions};
 use rc_config::Network;
@@ -130,7 +132,8 @@ impl Progress {
         Same::Neither
     }
 
-    /// What the next round makes, whose number is the phase of its workers at the gate.
+    /// What the next round makes, whose number is the phase of its workers at the gate; nothing where it changes nothing, as can be told
+    /// without making it.
     pub fn next<R: Threads + Sync, G: Gate>(
         &self,
         rt: &R,
@@ -140,15 +143,15 @@ impl Progress {
         sessions: &Sessions,
         workers: u32,
         gate: &G,
-    ) -> Result<Round, AllocError>
+    ) -> Result<Option<Round>, AllocError>
         requires setting { IsSetting net.now internal.now sessions.now }
         requires made { IsProgress net.now internal.now self.now }
         requires few { self.now.done < 100000 }
         requires some_workers { 1 ≤ workers }
         requires few_workers { workers ≤ 64 }
-        ensures value { IfOk result (λ r. r.state ≡ rib.next_state net.now internal.now self.now.last) }
-        ensures in_order { IfOk result (λ r. IsStateOf (length net.now.routers) r.state) }
-        ensures changes { IfOk result (λ r. AreChanges r.changes self.now.last r.state) }
+        ensures value { IfOk result (λ o. MatchOption o (rib.next_state net.now internal.now self.now.last ≡ self.now.last) (λ r. r.state ≡ rib.next_state net.now internal.now self.now.last)) }
+        ensures in_order { IfOk result (λ o. IfSome o (λ r. IsStateOf (length net.now.routers) r.state)) }
+        ensures changes { IfOk result (λ o. IfSome o (λ r. AreChanges r.changes self.now.last r.state)) }
     {
         let externals = externals(alloc, net, &self.last)?;
         let setting = Setting {
@@ -159,16 +162,38 @@ impl Progress {
             has_earlier: self.done > 0,
             changes: &self.changes,
         };
-        next_state(
+        let phase = self.done + 1;
+        if setting.is_settled(&self.last, &self.before) {
+            let _passed = pass_all(gate, phase, 0, workers);
+            return Ok(None);
+        }
+        let round = next_state(
             rt,
             alloc,
             &setting,
             &self.last,
             &self.before,
             workers,
-            self.done + 1,
+            phase,
             gate,
-        )
+        )?;
+        Ok(Some(round))
+    }
+
+    /// The last state, at which the next round changes nothing.
+    pub fn fixed(self) -> Outcome
+        requires { self.done < 100000 }
+        ensures { result ≡ Outcome.Fixed (self.done + 1) self.last }
+    {
+        let Progress {
+            done,
+            checkpoint: _,
+            last,
+            before: _,
+            changes: _,
+            kept: _,
+        } = self;
+        Outcome::Fixed(done + 1, last)
     }
 
     /// One round further.

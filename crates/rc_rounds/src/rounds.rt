@@ -89,6 +89,9 @@ fn rounds_within<R: Threads + Sync, G: Gate>(
     let mut progress = Progress::start(alloc, net)?;
     for done in 0..limit {
         let round = progress.next(rt, alloc, net, internal, sessions, workers, gate)?;
+        let Some(round) = round else {
+            return Ok(progress.fixed());
+        };
         let Round {
             state: next,
             changes,

@@ -4,17 +4,18 @@
 //! alone. All of them read the state before, which nobody changes, and each makes a list of its own, so nothing has to be
 //! locked; the lists are put together in the order of the routers. Where a half has one router or none, no thread is started for it:
 //! its workers pass the gate one after another, and the router is made.
-ghost use Rattle.std.specs.Prelude.{◌≡◌, ◌++◌, ◌≤◌, ◌<◌, IfOk, IfSome, length, true};
+ghost use Rattle.std.specs.Prelude.{◌≡◌, ◌++◌, ◌≤◌, ◌<◌, IfOk, IfSome, IsTrue, length, true};
 ghost use Rattle.std.specs.Thread.{IsSync};
 ghost use Rattle.rc_rib.specs.Inputs.{AreInputs};
-ghost use Rattle.rc_rounds.specs.Parts.{IsReady};
+ghost use Rattle.rc_rib.specs.Next.{next_state};
+ghost use Rattle.rc_rounds.specs.Parts.{AreRead, IsReady};
 ghost use Rattle.rc_rounds.specs.Shares.{IsMade, IsShare, IsStretch, share_start};
 
 use crate::parts::Setting;
 use rc_base::RouterId;
 use rc_bgp::Changes;
 use rc_outside::Gate;
-use rc_rib::{Earlier, Inputs, Made, table};
+use rc_rib::{Earlier, Inputs, Made, is_settled, table};
 use rc_route::State;
 use std::alloc::{AllocError, Global};
 use std::thread::{Threads, join};
@@ -24,7 +25,7 @@ use std::thread::{Threads, join};
 pub(crate) struct Passed;
 
 /// The workers from one up to another pass the gate.
-fn pass_all<G: Gate>(gate: &G, phase: u32, first: u32, last: u32) -> Passed {
+pub(crate) fn pass_all<G: Gate>(gate: &G, phase: u32, first: u32, last: u32) -> Passed {
     for worker in first..last {
         gate.pass(phase, worker);
     }
@@ -94,6 +95,24 @@ pub(crate) trait Makes<B>: Sync {
         requires up { from ≤ to }
         requires end { to ≤ count self.now }
         ensures { IfOk result (λ s. IsStretch (makes self.now read.now) from to s.items) };
+}
+
+impl<'a> Setting<'a> {
+    /// Whether the next round changes nothing, as can be told without making it.
+    pub fn is_settled(&self, read: &State, earlier: &State) -> bool
+        requires { AreRead self.now read.now earlier.now }
+        ensures { IsTrue result → next_state self.now.network.now self.now.internal.now read.now ≡ read.now }
+    {
+        let inputs = Inputs {
+            network: self.network,
+            internal: self.internal,
+            sessions: self.sessions,
+            externals: self.externals,
+            previous: read,
+            earlier: earlier_of(self.has_earlier, earlier, self.changes),
+        };
+        is_settled(&inputs)
+    }
 }
 
 impl<'a> Makes<State> for Setting<'a> {

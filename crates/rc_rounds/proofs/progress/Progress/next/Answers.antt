@@ -2,6 +2,15 @@ use Rattle.std.proofs.lemmas.Bool.{ltb-true}
 use Rattle.rc_rounds.proofs.ProgressLaws.{last_is_next}
 use Rattle.rc_rounds.proofs.progress.Progress.next.Goals as goal
 
+pub is_settled-requires : goal.is_settled-requires
+is_settled-requires g c = record {
+  setting = c.requires.setting;
+  state = c.requires.made.in_order;
+  externals = c.in_ok-externals.ensures.value;
+  by_prefix = c.in_ok-externals.ensures.in_order;
+  earlier = λ has. last_is_next c.args.net.now c.args.internal.now c.args.self.now c.requires.made (ltb-true 0 c.args.self.now.done has);
+}
+
 pub next_state-requires-clause-read : goal.next_state-requires-clause-read
 next_state-requires-clause-read g c κs within = record {
   setting = c.requires.setting;

@@ -1,0 +1,14 @@
+use Rattle.std.proofs.Common.{subst, IfSome}
+use Rattle.rc_rib.specs.Inputs.{IsEarlier}
+use Rattle.rc_rib.specs.declared.inputs.Earlier.{Earlier}
+use Rattle.rc_rib.proofs.AgainLaws.{settled}
+use Rattle.rc_rib.proofs.settled.is_settled.Goals as goal
+
+pub returns-in-Some : goal.returns-in-Some
+returns-in-Some c told =
+    let inputs = c.args.inputs.now in
+    let net = inputs.network.now in
+    let internal = inputs.internal.now in
+    let state = inputs.previous.now in
+    let is = subst (λ o. IfSome o (λ (e : Earlier). IsEarlier net internal state e.state.now e.changes.now)) c.in-Some.is c.requires.earlier in
+    settled net internal inputs.sessions.now state c.in-Some.earlier.state.now c.requires.sessions is.made c.requires.state.as_long (c.are_unchanged.ensures told)
