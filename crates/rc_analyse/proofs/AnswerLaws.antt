@@ -1,16 +1,13 @@
 -- Without a fault the answer is complete, and plain words are taken.
-use Rattle.std.proofs.Common.{ap, sym, subst, ◌∙◌, ◌≡◌, ◌⊎◌, inl, inr, ℕ, ◌<◌, List, Option, Some, None, IfSome}
-use Rattle.rc_config.specs.declared.network.Network.{Network}
+use Rattle.std.proofs.Common.{ap, sym, ◌∙◌, ◌≡◌, inl, inr, ℕ, List, Option, Some, None, IfSome}
 use Rattle.rc_outside.specs.Folder.{File}
 use Rattle.rc_rounds.specs.declared.outcome.Outcome.TheVariants as outcome
 use Rattle.rc_words.specs.Laws.{TakesPlainWords}
 use Rattle.rc_words.specs.Request.{request_of}
 use Rattle.rc_words.specs.declared.request.Request.{Request}
-use Rattle.rc_analyse.specs.Answer.{AreFound, IsWrittenOrMemory, IsLacking, IsLackingFor, IsPutOf, IsAnswer, IsComplete, IsCompleteWithout, IsTakenWhenPlain, status_of}
+use Rattle.rc_analyse.specs.Answer.{AreFound, IsLacking, IsLackingFor, IsPutOf, IsAnswer, IsComplete, IsCompleteWithout, IsTakenWhenPlain, status_of}
 use Rattle.rc_analyse.specs.Given.{Given, refused, no_place, ended}
-use Rattle.rc_analyse.specs.Texts.{text_of}
 use Rattle.rc_analyse.specs.declared.findings.Findings.{Findings}
-use Rattle.rc_analyse.specs.declared.findings.Findings.TheVariants as found
 use Rattle.rc_analyse.specs.declared.status.Status.{Status}
 use Rattle.rc_analyse.specs.declared.status.Status.TheVariants.{Done, Refused, Usage, Repeats, Limit, Nodes, Source, Sink, Memory, NoPlace}
 

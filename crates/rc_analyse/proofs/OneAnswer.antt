@@ -1,5 +1,5 @@
 -- The files of a folder have one network, and give one answer.
-use Rattle.std.proofs.Common.{refl, ◌≡◌, ◌∙◌, ◌⊎◌, inl, inr, sym, ap, subst, ℕ, Bool, true, false, List, [], ◌∷◌, length, take, nat_lt, filter, Option, Some, None, Result, Ok, Err}
+use Rattle.std.proofs.Common.{refl, ◌≡◌, ◌∙◌, inl, inr, sym, ap, subst, ℕ, Bool, true, false, List, [], ◌∷◌, length, take, nat_lt, filter, Some, None, Result, Ok, Err}
 use Rattle.std.specs.Option.{unwrap_or}
 use Rattle.std.proofs.lemmas.Option.{none-some}
 use Rattle.rc_base.proofs.SortedLaws.{one_sorted_list}

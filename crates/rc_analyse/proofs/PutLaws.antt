@@ -1,8 +1,7 @@
 -- What is written of a fixed point, and of what was found.
-use Rattle.std.proofs.Common.{refl, ◌≡◌, ◌≢◌, ◌⊎◌, inl, inr, sym, subst, ℕ, ◌<◌, ◌++◌, false, true, List, [], Option}
+use Rattle.std.proofs.Common.{refl, ◌≡◌, inl, inr, sym, subst, ℕ, List, Option}
 use Rattle.rc_base.specs.declared.ending.Ends.{Ends}
 use Rattle.rc_base.specs.declared.position.Pos.{Pos}
-use Rattle.rc_cubes.specs.Cubes.{cubes}
 use Rattle.rc_config.specs.declared.network.Network.{Network}
 use Rattle.rc_edges.specs.Query.{reaching}
 use Rattle.rc_network.specs.declared.refusal.NetRefusal.{NetRefusal}
@@ -12,9 +11,8 @@ use Rattle.rc_rounds.specs.declared.outcome.Outcome.{Outcome}
 use Rattle.rc_rounds.specs.declared.outcome.Outcome.TheVariants.{Fixed, Repeats, Limit}
 use Rattle.rc_walk.specs.Moves.{DataPlane, plane_of}
 use Rattle.rc_walk.specs.declared.walk.Walk.{Walk}
-use Rattle.rc_words.specs.Endings.{arrivals}
 use Rattle.rc_words.specs.declared.request.Request.{Request}
-use Rattle.rc_analyse.specs.Answer.{AreExamplesOf, IsGivenBy, IsLackingFor, IsPutAtFixed, IsPutOf, IsShown, IsShownAtFixed, IsWritten, IsWrittenOrMemory, NeedsMore, reaching_set, status_after, status_of}
+use Rattle.rc_analyse.specs.Answer.{AreExamplesOf, IsGivenBy, IsLackingFor, IsPutAtFixed, IsPutOf, IsShown, IsShownAtFixed, IsWrittenOrMemory, NeedsMore, reaching_set, status_after}
 use Rattle.rc_analyse.specs.Given.{Shown, refused, ended, nothing, routes_of, cubes_of}
 use Rattle.rc_analyse.specs.Texts.{outcome_text, refused_line}
 use Rattle.rc_analyse.specs.declared.findings.Findings.{Findings}

@@ -1,5 +1,5 @@
 -- What is answered to words and files: a status and a text.
-use Rattle.std.specs.Prelude.{◌≡◌, ◌⊎◌, ℕ, ◌<◌, Bool, List, [], ◌∷◌, take, Option, Some, None, Result, Ok, Err, IsTrue}
+use Rattle.std.specs.Prelude.{◌≡◌, ◌⊎◌, ℕ, ◌<◌, Bool, List, [], ◌∷◌, take, Option, Some, None, Ok, Err, IsTrue}
 use Rattle.std.specs.Set.{distinct_count}
 use Rattle.rc_base.specs.declared.ending.Ends.{Ends}
 use Rattle.rc_base.specs.declared.header.Header.{Header}

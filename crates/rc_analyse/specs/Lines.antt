@@ -1,5 +1,5 @@
 -- What is put line by line, without sets of headers.
-use Rattle.std.specs.Prelude.{ℕ, List, []}
+use Rattle.std.specs.Prelude.{ℕ, List}
 use Rattle.rc_config.specs.declared.network.Network.{Network}
 use Rattle.rc_rounds.specs.declared.outcome.Outcome.{Outcome}
 use Rattle.rc_analyse.specs.Given.{Shown, nothing, routes_of_all, routes_of, walk_of}

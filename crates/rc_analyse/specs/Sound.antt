@@ -1,5 +1,5 @@
 -- What the code knows of what it found, beside what the definitions of the answer say.
-use Rattle.std.specs.Prelude.{◌≡◌, ℕ, length}
+use Rattle.std.specs.Prelude.{◌≡◌, length}
 use Rattle.rc_config.specs.Lawful.{IsLawful, IsPosition}
 use Rattle.rc_config.specs.declared.network.Network.{Network}
 use Rattle.rc_rounds.specs.Rounds.{IsInOrder, IsOutcome}

@@ -6,8 +6,10 @@
 
 mod answering;
 mod findings;
+mod first_try;
 mod listing;
 mod loading;
+mod reached_set;
 mod reaching;
 mod runs;
 mod status;

@@ -20,16 +20,15 @@ ghost use Rattle.rc_analyse.specs.Answer.{AreExamplesOf, AreWalksOf, IsPutAtFixe
 ghost use Rattle.rc_analyse.specs.Texts.{head_text, outcome_line, route_count, routes_line};
 
 use crate::answering::status_after;
+use crate::reached_set::{ReachedSet, reached};
 use crate::writing::{put_front, put_route_count};
 use crate::{Status, Subject};
 use rc_base::{Ends, Header, Items, Pos};
 use rc_bdd::SetError;
 use rc_config::Network;
 use rc_cubes::Cubes;
-use rc_edges::Query;
 use rc_nodes::{May, Nodes, Ref, Seat};
 use rc_outside::{Gate, Sink};
-use rc_reach::reach;
 use rc_report::{Buffer, SinkFault, put_cubes};
 use rc_rounds::Outcome;
 use rc_route::State;
@@ -91,27 +90,6 @@ fn example_walks<M: May>(
         }
     }
     Ok(walks)
-}
-
-/// A table of so many nodes at most for the query of a plane, with its first seat.
-fn table_for<'a>(
-    alloc: Global,
-    most: u32,
-    plane: &'a Plane<'a>,
-    place: &Pos,
-    ends: &Ends,
-) -> Result<(Nodes<Query<'a>>, Seat<Query<'a>>), AllocError>
-    requires low { 0 < most }
-    requires high { most ≤ 16777216 }
-    ensures seat { IfOk result (λ p. IsSeatOf p.0 p.1) }
-    ensures table { IfOk result (λ p. (p.0.capacity ≡ most) × (p.0.may ≡ query_nodes plane.entry.now place.now ends.now)) }
-{
-    let query = Query {
-        plane,
-        place: *place,
-        ends: *ends,
-    };
-    Nodes::new(alloc, most, &query)
 }
 
 /// What is lacking where a set can't be made.
@@ -258,73 +236,6 @@ fn write_made<S: Sink, M: May>(
     }
 }
 
-/// Answers which packets reach, over a plane and in a table.
-fn packets_in<R: Threads + Sync + AllocGlobal, M: May + Send + Sync, S: Sink, G: Gate>(
-    rt: &R,
-    request: &Request,
-    net: &Network,
-    outcome: &Outcome,
-    state: &State,
-    plane: &Plane<'_>,
-    position: &Pos,
-    ends: &Ends,
-    examples: u32,
-    nodes: &Nodes<M>,
-    seat: Seat<M>,
-    out: &mut S,
-    gate: &G,
-) -> Status
-    requires limits { AreInRange request.now.limits }
-    requires lawful { IsLawful net.now }
-    requires plane { plane.now ≡ plane_of net.now state.now }
-    requires place { IsPosition net.now position.now }
-    requires seat { IsSeatOf nodes.now seat }
-    requires table { (nodes.now.capacity ≡ request.now.limits.nodes) × (nodes.now.may ≡ query_nodes plane.now position.now ends.now) }
-    ensures put { IsPutAtFixed request.now net.now outcome.now state.now (Subject.Packets position.now ends.now examples) result (S.told out.old) (S.told out.new) }
-    ensures sink_only { result ≡ Status.Sink → Rose (S.faults out.old) (S.faults out.new) }
-    ensures sink_always { S.faults out.old < S.faults out.new → result ≡ Status.Sink }
-{
-    let _ = state;
-    let (mut seat, set) = reach(
-        rt,
-        plane,
-        *position,
-        *ends,
-        nodes,
-        seat,
-        request.limits.workers,
-        gate,
-    );
-    let set = match set {
-        Ok(set) => set,
-        Err(error) => return lacking(error),
-    };
-    let walks = match example_walks(
-        rt.alloc(),
-        plane,
-        position,
-        ends,
-        nodes,
-        &mut seat,
-        set,
-        examples,
-    ) {
-        Ok(walks) => walks,
-        Err(_) => return Status::Memory,
-    };
-    write_packets(
-        rt.alloc(),
-        &request.ask,
-        net,
-        outcome,
-        nodes,
-        &mut seat,
-        set,
-        walks.as_slice(),
-        out,
-    )
-}
-
 /// Answers which packets reach, over a plane.
 #[tactic(auto, using(crate::proofs::PutLaws::memory_at_fixed))]
 fn packets_over<R: Threads + Sync + AllocGlobal, S: Sink, G: Gate>(
@@ -348,67 +259,38 @@ fn packets_over<R: Threads + Sync + AllocGlobal, S: Sink, G: Gate>(
     ensures sink_only { result ≡ Status.Sink → Rose (S.faults out.old) (S.faults out.new) }
     ensures sink_always { S.faults out.old < S.faults out.new → result ≡ Status.Sink }
 {
-    let Ok((nodes, seat)) = table_for(rt.alloc(), request.limits.nodes, &*plane, position, ends)
-    else {
-        return Status::Memory;
-    };
-    packets_in(
-        rt, request, net, outcome, state, &*plane, position, ends, examples, &nodes, seat, out,
-        gate,
-    )
-}
-
-/// Answers what is shown of a made network, over a plane and in a table.
-fn made_in<R: Threads + Sync + AllocGlobal, M: May + Send + Sync, S: Sink, G: Gate>(
-    rt: &R,
-    request: &Request,
-    net: &Network,
-    outcome: &Outcome,
-    state: &State,
-    plane: &Plane<'_>,
-    position: &Pos,
-    nodes: &Nodes<M>,
-    seat: Seat<M>,
-    out: &mut S,
-    gate: &G,
-) -> Status
-    requires limits { AreInRange request.now.limits }
-    requires lawful { IsLawful net.now }
-    requires plane { plane.now ≡ plane_of net.now state.now }
-    requires place { IsPosition net.now position.now }
-    requires seat { IsSeatOf nodes.now seat }
-    requires table { (nodes.now.capacity ≡ request.now.limits.nodes) × (nodes.now.may ≡ query_nodes plane.now position.now arrivals) }
-    ensures put { IsPutAtFixed request.now net.now outcome.now state.now (Subject.Made position.now) result (S.told out.old) (S.told out.new) }
-    ensures sink_only { result ≡ Status.Sink → Rose (S.faults out.old) (S.faults out.new) }
-    ensures sink_always { S.faults out.old < S.faults out.new → result ≡ Status.Sink }
-{
-    let routes = match route_count(state) {
-        Ok(routes) => routes,
-        Err(_) => return Status::Memory,
-    };
-    let (mut seat, set) = reach(
-        rt,
-        plane,
-        *position,
-        arrivals(),
-        nodes,
-        seat,
-        request.limits.workers,
-        gate,
-    );
-    let set = match set {
-        Ok(set) => set,
+    let limits = &request.limits;
+    let reached = match reached(rt, net, state, &*plane, position, ends, limits, gate) {
+        Ok(reached) => reached,
         Err(error) => return lacking(error),
     };
-    write_made(
+    let ReachedSet {
+        nodes,
+        mut seat,
+        set,
+    } = reached;
+    let walks = match example_walks(
+        rt.alloc(),
+        plane,
+        position,
+        ends,
+        &nodes,
+        &mut seat,
+        set,
+        examples,
+    ) {
+        Ok(walks) => walks,
+        Err(_) => return Status::Memory,
+    };
+    write_packets(
         rt.alloc(),
         &request.ask,
         net,
         outcome,
-        routes,
-        nodes,
+        &nodes,
         &mut seat,
         set,
+        walks.as_slice(),
         out,
     )
 }
@@ -434,13 +316,31 @@ fn made_over<R: Threads + Sync + AllocGlobal, S: Sink, G: Gate>(
     ensures sink_only { result ≡ Status.Sink → Rose (S.faults out.old) (S.faults out.new) }
     ensures sink_always { S.faults out.old < S.faults out.new → result ≡ Status.Sink }
 {
-    let ends = arrivals();
-    let Ok((nodes, seat)) = table_for(rt.alloc(), request.limits.nodes, &*plane, position, &ends)
-    else {
-        return Status::Memory;
+    let routes = match route_count(state) {
+        Ok(routes) => routes,
+        Err(_) => return Status::Memory,
     };
-    made_in(
-        rt, request, net, outcome, state, &*plane, position, &nodes, seat, out, gate,
+    let ends = arrivals();
+    let limits = &request.limits;
+    let reached = match reached(rt, net, state, &*plane, position, &ends, limits, gate) {
+        Ok(reached) => reached,
+        Err(error) => return lacking(error),
+    };
+    let ReachedSet {
+        nodes,
+        mut seat,
+        set,
+    } = reached;
+    write_made(
+        rt.alloc(),
+        &request.ask,
+        net,
+        outcome,
+        routes,
+        &nodes,
+        &mut seat,
+        set,
+        out,
     )
 }
 

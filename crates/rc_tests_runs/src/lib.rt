@@ -39,6 +39,8 @@ mod refusals;
 #[cfg(test)]
 mod routes;
 #[cfg(test)]
+mod small_tables;
+#[cfg(test)]
 mod system;
 #[cfg(test)]
 mod walks;

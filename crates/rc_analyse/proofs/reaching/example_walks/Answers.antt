@@ -1,4 +1,4 @@
-use Rattle.std.proofs.Common.{rules, ◌≡◌, ◌∙◌, ap, sym, subst, ◌++◌, ◌∷◌, [], ◌+◌, Some}
+use Rattle.std.proofs.Common.{rules, ◌≡◌, ◌∙◌, sym, subst, ◌++◌, ◌∷◌, [], ◌+◌, Some}
 use Rattle.rc_cubes.specs.Cubes.{cubes, left, Goes}
 use Rattle.rc_nodes.specs.Seats.{SeatKnows}
 use Rattle.rc_analyse.proofs.ExampleLaws.{AreUnderWay, goes_on}

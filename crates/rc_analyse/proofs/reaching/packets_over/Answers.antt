@@ -7,7 +7,7 @@ use Rattle.rc_analyse.specs.Answer.{AreExamplesOf, IsWrittenOrMemory, status_aft
 use Rattle.rc_analyse.specs.Given.{cubes_of}
 use Rattle.rc_analyse.specs.Texts.{outcome_text}
 use Rattle.rc_analyse.proofs.PutLaws.{packets_put}
-use Rattle.rc_analyse.proofs.reaching.packets_in.Goals as goal
+use Rattle.rc_analyse.proofs.reaching.packets_over.Goals as goal
 
 pub returns-clause-put : goal.returns-clause-put
 returns-clause-put g c =

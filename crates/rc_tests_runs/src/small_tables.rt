@@ -1,0 +1,151 @@
+//! A small network whose set doesn't fit into the small table of nodes in which it is tried first.
+//!
+//! Two lists on its way deny what has some bit 1 in both addresses, the first one the nine lowest bits and the second one the next
+//! nine. Each has some 500 nodes, and both together more than a quarter of a million.
+use crate::answers::{Host, NamedText, check_line, folder_of, ran, sink_of};
+use rc_analyse::Status;
+use rc_outside::Gate;
+use std::sync::atomic::{AtomicU32, AtomicU64, Ordering};
+use std::test::Fail;
+
+const ON_A_WAY: [NamedText<'_>; 3] = [
+    (
+        "a.cfg",
+        "hostname R1
+interface GigabitEthernet0/0
+ ip address 10.1.0.1 255.255.255.0
+ ip access-group 101 in
+interface GigabitEthernet0/1
+ ip address 10.2.0.1 255.255.255.0
+ip route 0.0.0.0 0.0.0.0 10.2.0.2
+access-list 101 deny ip 0.0.0.1 255.255.255.254 0.0.0.1 255.255.255.254
+access-list 101 deny ip 0.0.0.2 255.255.255.253 0.0.0.2 255.255.255.253
+access-list 101 deny ip 0.0.0.4 255.255.255.251 0.0.0.4 255.255.255.251
+access-list 101 deny ip 0.0.0.8 255.255.255.247 0.0.0.8 255.255.255.247
+access-list 101 deny ip 0.0.0.16 255.255.255.239 0.0.0.16 255.255.255.239
+access-list 101 deny ip 0.0.0.32 255.255.255.223 0.0.0.32 255.255.255.223
+access-list 101 deny ip 0.0.0.64 255.255.255.191 0.0.0.64 255.255.255.191
+access-list 101 deny ip 0.0.0.128 255.255.255.127 0.0.0.128 255.255.255.127
+access-list 101 deny ip 0.0.1.0 255.255.254.255 0.0.1.0 255.255.254.255
+access-list 101 permit ip any any
+",
+    ),
+    (
+        "b.cfg",
+        "hostname R2
+interface GigabitEthernet0/0
+ ip address 10.2.0.2 255.255.255.0
+ ip access-group 101 in
+interface GigabitEthernet0/1
+ ip address 10.3.0.2 255.255.255.0
+ip route 0.0.0.0 0.0.0.0 10.3.0.3
+access-list 101 deny ip 0.0.2.0 255.255.253.255 0.0.2.0 255.255.253.255
+access-list 101 deny ip 0.0.4.0 255.255.251.255 0.0.4.0 255.255.251.255
+access-list 101 deny ip 0.0.8.0 255.255.247.255 0.0.8.0 255.255.247.255
+access-list 101 deny ip 0.0.16.0 255.255.239.255 0.0.16.0 255.255.239.255
+access-list 101 deny ip 0.0.32.0 255.255.223.255 0.0.32.0 255.255.223.255
+access-list 101 deny ip 0.0.64.0 255.255.191.255 0.0.64.0 255.255.191.255
+access-list 101 deny ip 0.0.128.0 255.255.127.255 0.0.128.0 255.255.127.255
+access-list 101 deny ip 0.1.0.0 255.254.255.255 0.1.0.0 255.254.255.255
+access-list 101 deny ip 0.2.0.0 255.253.255.255 0.2.0.0 255.253.255.255
+access-list 101 permit ip any any
+",
+    ),
+    (
+        "c.cfg",
+        "hostname R3
+interface GigabitEthernet0/0
+ ip address 10.3.0.3 255.255.255.0
+",
+    ),
+];
+
+/// What some router of these accepts: a source may have no bit that the destination has, among those that the lists on its way test.
+const ACCEPTED: &str = "outcome fixed 3
+cube dst=10.1.0.1&255.255.255.255 src=0.0.0.0&0.0.0.1
+cube dst=10.2.0.1&255.255.255.255 src=0.0.0.0&0.0.0.1
+cube dst=10.2.0.2&255.255.255.255 src=0.0.0.0&0.2.0.2
+cube dst=10.3.0.2&255.255.255.255 src=0.0.0.0&0.3.0.2
+cube dst=10.3.0.3&255.255.255.255 src=0.0.0.0&0.3.0.3
+";
+
+const QUESTION: &str = "reach d --from R1:GigabitEthernet0/0 --end accepted";
+
+#[test]
+fn a_set_beyond_the_small_table_is_found(rt: HostRuntime) -> Result<(), Fail> {
+    check_line(&rt, &ON_A_WAY, QUESTION, Status::Done, ACCEPTED)
+}
+
+#[test]
+fn a_set_beyond_the_table_of_the_words_is_not(rt: HostRuntime) -> Result<(), Fail> {
+    for nodes in [" --nodes 65537", " --nodes 65536", " --nodes 131072"] {
+        let mut line = String::from_str(rt.alloc(), QUESTION)?;
+        line.push_str(nodes)?;
+        check_line(&rt, &ON_A_WAY, line.as_str(), Status::Nodes, "")?;
+    }
+    Ok(())
+}
+
+/// Notes which workers pass in which rounds of propagation, and how often one passes twice in one round.
+#[derive(Drop)]
+struct Passes {
+    workers: u32,
+    /// A bit for each worker of each round.
+    passed: AtomicU64,
+    twice: AtomicU32,
+}
+
+impl Gate for Passes {
+    fn pass(&self, phase: u32, worker: u32) {
+        let Some(round) = phase.checked_sub(100_001) else {
+            return;
+        };
+        let place = round.saturating_mul(self.workers).saturating_add(worker);
+        let bit = 1u64.checked_shl(place).unwrap_or(0);
+        let before = self.passed.fetch_or(bit, Ordering::SeqCst);
+        if bit == 0 || before & bit != 0 {
+            self.twice.fetch_add(1, Ordering::SeqCst);
+        }
+    }
+}
+
+/// Asserts that so many workers pass once each in three rounds of propagation, and in no others.
+fn check_passes(rt: &impl Host, words: &[&str], workers: u32, all: u64) -> Result<(), Fail> {
+    let gate = Passes {
+        workers,
+        passed: AtomicU64::new(0),
+        twice: AtomicU32::new(0),
+    };
+    let mut folder = folder_of(rt.alloc(), &ON_A_WAY, &[])?;
+    let mut out = sink_of(rt.alloc(), 4096)?;
+    let status = ran(rt, words, &mut folder, &mut out, &gate);
+    assert!(rt; status == Status::Done);
+    assert!(rt;
+        gate.passed.load(Ordering::SeqCst) == all,
+        "{workers} workers"
+    );
+    assert!(rt; gate.twice.load(Ordering::SeqCst) == 0, "{workers} workers");
+    Ok(())
+}
+
+#[test]
+fn each_worker_passes_once_though_the_set_is_made_twice(rt: HostRuntime) -> Result<(), Fail> {
+    for (count, workers, all) in [
+        ("1", 1, 0b111),
+        ("2", 2, 0b11_1111),
+        ("3", 3, 0b1_1111_1111),
+    ] {
+        let line = [
+            "reach",
+            "d",
+            "--from",
+            "R1:GigabitEthernet0/0",
+            "--end",
+            "accepted",
+            "--workers",
+            count,
+        ];
+        check_passes(&rt, &line, workers, all)?;
+    }
+    Ok(())
+}
