@@ -1,5 +1,5 @@
 -- One step of the look-up of marked prefixes bit by bit.
-use Rattle.std.proofs.Common.{◌≡◌, ◌≢◌, ℕ, zero, suc, ◌+◌, ◌-◌, ◌*◌, ◌^◌, ◌<◌, ◌≤◌, inl, inr, Bool, true, false, not, cond, refl, sym, ap, subst, ◌∙◌, arith, eq-eqb, ne_eqb, nat_lt, List, [], ◌∷◌, length, take, drop, get_or}
+use Rattle.std.proofs.Common.{◌≡◌, ◌≢◌, ℕ, zero, suc, ◌+◌, ◌-◌, ◌*◌, ◌^◌, ◌<◌, ◌≤◌, ◌==◌, inl, inr, Bool, true, false, not, cond, refl, sym, ap, subst, ◌∙◌, arith, eq-eqb, ne_eqb, nat_lt, List, [], ◌∷◌, length, take, drop, get_or}
 use Rattle.std.specs.List.{AllByRecursion, AllWithin}
 use Rattle.std.specs.List.Sorted.{IsPartitionedBy}
 use Rattle.std.proofs.lemmas.Bool.Decides.{nat_tests}
@@ -15,8 +15,7 @@ use Rattle.rc_trees.specs.Trees.{low_side, high_side}
 use Rattle.rc_trees.proofs.OneTree.{one_tree}
 use Rattle.rc_trees.proofs.SideLaws.{low_reduced, high_reduced, low_top, high_top, low_value, high_value}
 use Rattle.rc_sets.specs.Marks.{address_bit}
-use Rattle.rc_sets.specs.Marks.{digit, lead, Before, IsPrefix, Rises, held, decided, AreOn, IsSetOf, own_known, own_rest}
-use Rattle.rc_sets.specs.declared.marks.Mark.{Mark}
+use Rattle.rc_sets.specs.Marks.{Mark, digit, lead, Before, IsPrefix, Rises, held, decided, AreOn, IsSetOf}
 use Rattle.rc_sets.proofs.LeadLaws.{with_bit, at_bit, off_bit, leading_more, lead_front, last_bit, digit_small, same_digit}
 
 -- ---- what all marks of a list have
@@ -115,6 +114,16 @@ nothing_left d way known t s = one_tree t (constant known) s.reduced (constant_r
 
 -- ---- the mark of the way itself
 
+-- it decides for all that is on the way
+abbrev pub own_known : ℕ → Bool → List Mark → Bool
+own_known depth known [] = known
+own_known depth known (m ∷ ms) = cond (m.prefix.len == depth) m.gives known
+
+-- and the others are longer
+abbrev pub own_rest : ℕ → List Mark → List Mark
+own_rest depth [] = []
+own_rest depth (m ∷ ms) = cond (m.prefix.len == depth) ms (m ∷ ms)
+
 network_low : (d : ℕ) (p : Cidr) → IsCidr p → p.len ≡ d → p.network ≡ leading_bits d p.network * 2 ^ (32 - d)
 network_low d p i e = subst (λ n. p.network ≡ leading_bits n p.network * 2 ^ (32 - n)) e i.no_host_bits
 
@@ -137,7 +146,7 @@ pub record AreBelow (d : ℕ) (way : ℕ → Bool) (ms : List Mark) : Type 0 whe
   pub all : AllByRecursion (λ (m : Mark). IsPrefix m.prefix × (d < m.prefix.len) × (leading_bits d m.prefix.network ≡ lead way d)) ms
   pub rises : Rises ms
 
-all_longer : (d : ℕ) (way : ℕ → Bool) (m : Mark) (ms : List Mark) → d ≤ m.prefix.len → leading_bits d m.prefix.network ≡ lead way d
+pub all_longer : (d : ℕ) (way : ℕ → Bool) (m : Mark) (ms : List Mark) → d ≤ m.prefix.len → leading_bits d m.prefix.network ≡ lead way d
     → AllByRecursion (λ (n : Mark). IsPrefix n.prefix × (d ≤ n.prefix.len) × (leading_bits d n.prefix.network ≡ lead way d)) ms → AllByRecursion (λ (n : Mark). Before m.prefix n.prefix) ms
     → AllByRecursion (λ (n : Mark). IsPrefix n.prefix × (d < n.prefix.len) × (leading_bits d n.prefix.network ≡ lead way d)) ms
 all_longer d way m ms lm em all r =
@@ -276,18 +285,25 @@ before_le : (p q : Cidr) → Before p q → p.network ≤ q.network
 before_le p q (inl lt) = omega arith
 before_le p q (inr e) = let f = e.0 in omega arith
 
-pub parted : (d : ℕ) (way : ℕ → Bool) (ms : List Mark) → d < 32 → AreBelow d way ms → IsPartitionedBy (λ (m : Mark). not (address_bit m.prefix.network d)) ms
-parted d way [] lt o i j x le within e = absurd (omega arith)
-parted d way (m ∷ ms) lt o zero zero x le within e = e
-parted d way (m ∷ ms) lt o zero (suc j) x le within e =
-    let b = at_place (λ (n : Mark). Before m.prefix n.prefix) ms j x (omega arith) o.rises.0 in
-    let f = at_place (λ (n : Mark). IsPrefix n.prefix × (d < n.prefix.len) × (leading_bits d n.prefix.network ≡ lead way d)) ms j x (omega arith) o.all.1 in
-    let g = o.all.0 in
-    bit_falls d m.prefix.network (get_or ms j x).prefix.network lt (before_le m.prefix (get_or ms j x).prefix b) (g.2 ∙ sym f.2) e
-parted d way (m ∷ ms) lt o (suc i) zero x le within e = absurd (omega arith)
-parted d way (m ∷ ms) lt o (suc i) (suc j) x le within e =
-    let later : AreBelow d way ms = record { all = o.all.1; rises = o.rises.1 } in
-    parted d way ms lt later i j x (omega arith) (omega arith) e
+-- things with prefixes, each of which stands before those after it
+abbrev pub RisesBy : {A : Type 0} → (A → Cidr) → List A → Type 0
+RisesBy f [] = Unit {0}
+RisesBy f (x ∷ xs) = AllByRecursion (λ y. Before (f x) (f y)) xs × RisesBy f xs
+
+abbrev pub IsBelow : ℕ → (ℕ → Bool) → Cidr → Type 0
+IsBelow d way p = IsPrefix p × (d < p.len) × (leading_bits d p.network ≡ lead way d)
+
+module _ {A : Type 0} (f : A → Cidr) (d : ℕ) (way : ℕ → Bool) (short : d < 32) where
+  pub parted : (xs : List A) → AllByRecursion (λ x. IsBelow d way (f x)) xs → RisesBy f xs → IsPartitionedBy (λ x. not (address_bit (f x).network d)) xs
+  parted [] all rises i j x le within e = absurd (omega arith)
+  parted (y ∷ ys) all rises zero zero x le within e = e
+  parted (y ∷ ys) all rises zero (suc j) x le within e =
+      let b = at_place (λ z. Before (f y) (f z)) ys j x (omega arith) rises.0 in
+      let g = at_place (λ z. IsBelow d way (f z)) ys j x (omega arith) all.1 in
+      let h = all.0 in
+      bit_falls d (f y).network (f (get_or ys j x)).network short (before_le (f y) (f (get_or ys j x)) b) (h.2 ∙ sym g.2) e
+  parted (y ∷ ys) all rises (suc i) zero x le within e = absurd (omega arith)
+  parted (y ∷ ys) all rises (suc i) (suc j) x le within e = parted ys all.1 rises.1 i j x (omega arith) (omega arith) e
 
 pub is_zero_bit : (b : Bool) → not b ≡ true → b ≡ false
 is_zero_bit true e = absurd (cc e)

@@ -3,6 +3,7 @@ pub mod AccessListsReduced
 pub mod RegionLaws
 pub mod RegionsReduced
 mod BuildLaws
+mod GivenLaws
 mod IntervalLaws
 mod LeadLaws
 mod LineLaws
@@ -10,5 +11,6 @@ pub mod LongestLaws
 mod MarkLaws
 mod NumberLaws
 mod StepLaws
+mod StretchLaws
 mod TableLaws
 mod WildcardLaws

@@ -21,9 +21,8 @@ use Rattle.rc_trees.specs.Trees.{Tree, IsReduced, value, HasNodesOf}
 use Rattle.rc_trees.proofs.HeaderLaws.{header_of, is_header, bits_of_header}
 use Rattle.rc_trees.proofs.OneTree.{by_bits}
 use Rattle.rc_trees.proofs.RecipeLaws.{reduced-tree}
-use Rattle.rc_sets.specs.Marks.{address_bit, mark_of, digit, lead, inside, Before, IsPrefix, AreMarks, Rises, held, decided, AreOn, IsSetOf, MayBuild}
+use Rattle.rc_sets.specs.Marks.{Mark, address_bit, mark_of, prefixes_over, digit, lead, inside, Before, IsPrefix, AreMarks, Rises, held, decided, IsHopSet, MayBuild}
 use Rattle.rc_sets.specs.Regions.{hop_set}
-use Rattle.rc_sets.specs.declared.marks.Mark.{Mark}
 use Rattle.rc_sets.proofs.LeadLaws.{leading_more, same_lead}
 use Rattle.rc_sets.proofs.MarkLaws.{before_is, later_longer}
 use Rattle.rc_sets.proofs.RegionLaws.{has-hop_set}
@@ -140,7 +139,7 @@ same_decided b c same known (m ∷ ms) ok =
     let here : held b m ≡ held c m = ap (λ n. n == leading_bits m.prefix.len m.prefix.network) (same_lead b c m.prefix.len (λ v less. same v (omega arith))) in
     ap (λ x. decided (cond x m.gives known) ms b) here ∙ same_decided b c same (cond (held c m) m.gives known) ms ok.1
 
-module _ (fib : List Entry) (o : IsInOrder fib) (x : Hop) (ms : List Mark) (e : ms ≡ map (mark_of x) fib) where
+module _ (fib : List Entry) (o : IsInOrder fib) (x : Hop) where
   abbrev whole : Tree
   whole = tree (hop_set fib x)
 
@@ -162,13 +161,20 @@ module _ (fib : List Entry) (o : IsInOrder fib) (x : Hop) (ms : List Mark) (e : 
       ∙ on_header (header_of bits) (is_header bits)
       ∙ same_decided (bit (header_of bits)) bits (bits_of_header bits) false (map (mark_of x) fib) marks
 
-  pub on_all : AreOn 0 no_way ms
-  on_all = subst (AreOn 0 no_way) (sym e) (let on : AreOn 0 no_way (map (mark_of x) fib) = record { all = on_no_way (map (mark_of x) fib) marks; rises = rises } in on)
+  all : IsHopSet 0 false fib (prefixes_over x fib) whole
+  all = record {
+    hop = x;
+    way = no_way;
+    is_given = refl;
+    on = record { all = on_no_way (map (mark_of x) fib) marks; rises = rises };
+    set = record { reduced = reduced; above = omega arith; values = λ bits on. values bits };
+  }
 
-  pub set_all : IsSetOf 0 no_way false ms whole
-  set_all =
-      let s : IsSetOf 0 no_way false (map (mark_of x) fib) whole = record { reduced = reduced; above = omega arith; values = λ bits on. values bits } in
-      subst (λ l. IsSetOf 0 no_way false l whole) (sym e) s
+  module _ (es : List Entry) (is : es ≡ fib) (gs : List Cidr) (given : gs ≡ prefixes_over x es) where
+    pub set_all : IsHopSet 0 false es gs whole
+    set_all =
+        subst (λ l. IsHopSet 0 false l gs whole) (sym is)
+        (subst (λ l. IsHopSet 0 false fib l whole) (sym (given ∙ ap (prefixes_over x) is)) all)
 
-  pub may_all : (may : List Tree) → HasNodesOf may whole → MayBuild may 0 false ms
-  may_all may allowed = record { way = no_way; tree = whole; on = on_all; set = set_all; allowed = allowed }
+    pub may_all : (may : List Tree) → HasNodesOf may whole → MayBuild may 0 false es gs
+    may_all may allowed = record { tree = whole; set = set_all; allowed = allowed }

@@ -4,3 +4,4 @@ pub mod Intervals
 pub mod Marks
 pub mod Regions
 pub mod Rows
+pub mod Stretches

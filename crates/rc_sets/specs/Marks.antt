@@ -1,5 +1,5 @@
 -- Marked prefixes in order, as they are looked up bit by bit.
-use Rattle.std.specs.Prelude.{◌≡◌, ℕ, zero, suc, ◌+◌, ◌-◌, ◌*◌, ◌^◌, ◌<◌, ◌≤◌, ◌⊎◌, ◌==◌, Bool, true, false, cond, List, [], ◌∷◌}
+use Rattle.std.specs.Prelude.{◌≡◌, ℕ, zero, suc, ◌+◌, ◌-◌, ◌*◌, ◌^◌, ◌<◌, ◌≤◌, ◌⊎◌, ◌==◌, Bool, true, false, cond, List, [], ◌∷◌, filter, map}
 use Rattle.std.specs.List.{AllByRecursion, list_any}
 use Rattle.rc_base.specs.Addr.{leading_bits}
 use Rattle.rc_base.specs.Prefix.{Cidr, IsCidr}
@@ -9,15 +9,27 @@ use Rattle.std.specs.Int.{bit_at}
 use Rattle.rc_fib.specs.declared.entry.Entry.{Entry}
 use Rattle.rc_route.specs.Hops.{same_hop}
 use Rattle.rc_route.specs.declared.route.Hop.{Hop}
-use Rattle.rc_sets.specs.declared.marks.Mark.{Mark}
+use Rattle.rc_sets.specs.Regions.{gives}
 
 -- the k-th bit of an address, the most significant first
 abbrev pub address_bit : ℕ → ℕ → Bool
 address_bit a k = bit_at a (31 - k) == 1
 
+-- a prefix of a table, and whether its route gives the hop that is asked for
+pub record Mark : Type 0 where
+  pub prefix : Cidr
+  pub gives : Bool
+
 -- a route with this prefix gives the hop
 abbrev pub mark_of : Hop → Entry → Mark
 mark_of x e = record { prefix = e.prefix; gives = list_any (same_hop x) e.hops }
+
+abbrev pub marks : Hop → List Entry → List Mark
+marks x es = map (mark_of x) es
+
+-- the prefixes of the routes that give the hop
+abbrev pub prefixes_over : Hop → List Entry → List Cidr
+prefixes_over x es = map (λ (e : Entry). e.prefix) (filter (gives x) es)
 
 -- ---- prefixes and bits
 
@@ -74,22 +86,37 @@ pub record IsSetOf (depth : ℕ) (way : ℕ → Bool) (known : Bool) (marks : Li
   pub above : depth ≤ top t
   pub values : (bits : ℕ → Bool) → lead bits depth ≡ lead way depth → value t bits ≡ decided known marks bits
 
--- the marks are on some way, and their set may be made
-pub record MayBuild (may : List Tree) (depth : ℕ) (known : Bool) (marks : List Mark) : Type 0 where
+-- of the routes on some way these prefixes are those that give some hop, and the tree is its set on that way
+pub record IsHopSet (depth : ℕ) (known : Bool) (entries : List Entry) (given : List Cidr) (t : Tree) : Type 0 where
+  pub hop : Hop
   pub way : ℕ → Bool
+  pub is_given : given ≡ prefixes_over hop entries
+  pub on : AreOn depth way (marks hop entries)
+  pub set : IsSetOf depth way known (marks hop entries) t
+
+-- and that set may be made
+pub record MayBuild (may : List Tree) (depth : ℕ) (known : Bool) (entries : List Entry) (given : List Cidr) : Type 0 where
   pub tree : Tree
-  pub on : AreOn depth way marks
-  pub set : IsSetOf depth way known marks tree
+  pub set : IsHopSet depth known entries given tree
   pub allowed : HasNodesOf may tree
 
 -- ---- a step
 
--- the mark of the way itself, if any, decides for all that is on it
-abbrev pub own_known : ℕ → Bool → List Mark → Bool
-own_known depth known [] = known
-own_known depth known (m ∷ ms) = cond (m.prefix.len == depth) m.gives known
+-- whether the first of some prefixes is that of the way itself
+abbrev pub begins : ℕ → List Cidr → Bool
+begins depth [] = false
+begins depth (p ∷ ps) = p.len == depth
+
+-- the route of the way itself, if any, decides for all that is on it
+abbrev pub known_at : ℕ → Bool → List Entry → List Cidr → Bool
+known_at depth known [] given = known
+known_at depth known (e ∷ es) given = cond (e.prefix.len == depth) (begins depth given) known
 
 -- and the others are longer
-abbrev pub own_rest : ℕ → List Mark → List Mark
-own_rest depth [] = []
-own_rest depth (m ∷ ms) = cond (m.prefix.len == depth) ms (m ∷ ms)
+abbrev pub entries_below : ℕ → List Entry → List Entry
+entries_below depth [] = []
+entries_below depth (e ∷ es) = cond (e.prefix.len == depth) es (e ∷ es)
+
+abbrev pub prefixes_below : ℕ → List Cidr → List Cidr
+prefixes_below depth [] = []
+prefixes_below depth (p ∷ ps) = cond (p.len == depth) ps (p ∷ ps)

@@ -1,17 +1,16 @@
-//! The set of marked prefixes, built from their order bit by bit.
-ghost use Rattle.std.specs.Prelude.{◌≡◌, ℕ, ◌+◌, ◌<◌, ◌≤◌, ◌≢◌, [], IfOk, IfErr, Bool, true, false, not, length};
-ghost use Rattle.std.specs.List.{list_all};
-ghost use Rattle.std.specs.Bool.{beq};
+//! The set of the routes of a table that give a hop, built from the order of their prefixes bit by bit.
+ghost use Rattle.std.specs.Prelude.{◌≡◌, ℕ, ◌+◌, ◌<◌, ◌≤◌, ◌==◌, [], IfOk, IfErr, Bool, true, false, cond, not, length};
 ghost use Rattle.std.specs.List.Sorted.{IsPartitionedBy, IsPartitionPoint};
+ghost use Rattle.rc_base.specs.Prefix.{Cidr};
+ghost use Rattle.rc_fib.specs.declared.entry.Entry.{Entry as Row};
 ghost use Rattle.rc_trees.specs.Trees.{Tree};
 ghost use Rattle.rc_nodes.specs.Seats.{IsFull, IsSeatOf, Keeps, SeatKnows, SeatView};
 ghost use Rattle.rc_trees.specs.Combine.{constant};
-ghost use Rattle.rc_sets.specs.Marks.{address_bit, AreOn, IsSetOf, MayBuild, own_known, own_rest};
-ghost use Rattle.rc_sets.specs.declared.marks.Mark.{Mark};
+ghost use Rattle.rc_sets.specs.Marks.{address_bit, begins, entries_below, known_at, prefixes_below, IsHopSet, MayBuild};
 
-use crate::marks::Mark;
-use rc_base::Addr;
+use rc_base::{Addr, Prefix};
 use rc_bdd::Work;
+use rc_fib::Entry;
 use rc_nodes::{ALWAYS, Full, May, NEVER, Nodes, Ref};
 
 /// Whether a bit of an address is 1, the most significant first.
@@ -22,41 +21,71 @@ fn has_bit(addr: Addr, place: u8) -> bool
     (addr.bits() >> (31 - place)) % 2 == 1
 }
 
-/// Where the first mark stands whose bit is 1.
-fn first_one(marks: &[Mark], place: u8) -> usize
+/// Where the first route stands whose bit is 1.
+fn first_one(entries: &[Entry], place: u8) -> usize
     requires place { place < 32 }
-    requires turns { IsPartitionedBy (λ m. not (address_bit m.prefix.network place)) marks.now }
-    ensures bound { result ≤ length marks.now }
-    ensures turns { IsPartitionPoint (λ m. address_bit m.prefix.network place ≡ false) (λ m. address_bit m.prefix.network place ≡ true) marks.now result }
+    requires turns { IsPartitionedBy (λ (e : Row). not (address_bit e.prefix.network place)) entries.now }
+    ensures bound { result ≤ length entries.now }
+    ensures turns { IsPartitionPoint (λ (e : Row). address_bit e.prefix.network place ≡ false) (λ (e : Row). address_bit e.prefix.network place ≡ true) entries.now result }
 {
-    marks.partition_point(|mark| !has_bit(mark.prefix.network(), place))
+    entries.partition_point(|entry| !has_bit(entry.prefix.network(), place))
 }
 
-/// What the mark of this length says, if the first one is it.
-fn own_known(marks: &[Mark], depth: u8, known: bool) -> bool
-    ensures { result ≡ own_known depth known marks.now }
+/// Where the first prefix stands whose bit is 1.
+fn first_prefix(prefixes: &[Prefix], place: u8) -> usize
+    requires place { place < 32 }
+    requires turns { IsPartitionedBy (λ (p : Cidr). not (address_bit p.network place)) prefixes.now }
+    ensures bound { result ≤ length prefixes.now }
+    ensures turns { IsPartitionPoint (λ (p : Cidr). address_bit p.network place ≡ false) (λ (p : Cidr). address_bit p.network place ≡ true) prefixes.now result }
 {
-    match marks {
-        [mark, ..] if mark.prefix.len() == depth => mark.gives,
+    prefixes.partition_point(|prefix| !has_bit(prefix.network(), place))
+}
+
+/// Whether the first prefix has this length.
+fn begins(prefixes: &[Prefix], depth: u8) -> bool
+    ensures { result ≡ begins depth prefixes.now }
+{
+    match prefixes {
+        [first, ..] => first.len() == depth,
+        [] => false,
+    }
+}
+
+/// Whether the route of this length gives the hop, if the first one is it.
+fn known_at(entries: &[Entry], given: &[Prefix], depth: u8, known: bool) -> bool
+    ensures { result ≡ known_at depth known entries.now given.now }
+{
+    match entries {
+        [entry, ..] if entry.prefix.len() == depth => begins(given, depth),
         _ => known,
     }
 }
 
-/// The marks without that of this length.
-fn own_rest(marks: &[Mark], depth: u8) -> &[Mark]
-    ensures { result.now ≡ own_rest depth marks.now }
+/// The routes without that of this length.
+fn entries_below(entries: &[Entry], depth: u8) -> &[Entry]
+    ensures { result.now ≡ entries_below depth entries.now }
 {
-    match marks {
-        [mark, rest @ ..] if mark.prefix.len() == depth => rest,
-        _ => marks,
+    match entries {
+        [entry, rest @ ..] if entry.prefix.len() == depth => rest,
+        _ => entries,
     }
 }
 
-/// Whether each mark says what holds without it.
-fn is_settled(marks: &[Mark], known: bool) -> bool
-    ensures { result ≡ list_all (λ m. beq m.gives known) marks.now }
+/// The prefixes without that of this length.
+fn prefixes_below(prefixes: &[Prefix], depth: u8) -> &[Prefix]
+    ensures { result.now ≡ prefixes_below depth prefixes.now }
 {
-    marks.iter().all(|mark| mark.gives == known)
+    match prefixes {
+        [prefix, rest @ ..] if prefix.len() == depth => rest,
+        _ => prefixes,
+    }
+}
+
+/// Whether so many of these routes give the hop that each of them says what holds without it.
+fn is_settled(routes: usize, given: usize, known: bool) -> bool
+    ensures { result ≡ (given == cond known routes 0) }
+{
+    if known { given == routes } else { given == 0 }
 }
 
 /// The set of a constant.
@@ -66,29 +95,34 @@ fn constant_of(known: bool) -> Ref
     if known { ALWAYS } else { NEVER }
 }
 
-/// The set of the marked prefixes on a way of so many bits, where `known` is what holds without them.
+/// The set of a hop on a way of so many bits, from the routes there and the prefixes of those that give it, where `known` is what holds
+/// without them.
 pub(crate) fn build<M: May>(
     work: &mut Work<M>,
     nodes: &Nodes<M>,
-    marks: &[Mark],
+    entries: &[Entry],
+    given: &[Prefix],
     depth: u8,
     known: bool,
 ) -> Result<Ref, Full>
     requires seat { IsSeatOf nodes.now work.old }
-    requires may { MayBuild nodes.now.may depth known marks.now }
+    requires may { MayBuild nodes.now.may depth known entries.now given.now }
     ensures seat { IsSeatOf nodes.now work.new }
     ensures keeps { Keeps work.old work.new }
-    ensures built { IfOk result (λ r. (way : ℕ → Bool) (t : Tree) → AreOn depth way marks.now → IsSetOf depth way known marks.now t → SeatKnows work.new r.index t) }
+    ensures built { IfOk result (λ r. (t : Tree) → IsHopSet depth known entries.now given.now t → SeatKnows work.new r.index t) }
     ensures full { IfErr result (λ _. IsFull nodes.now work.new) }
 {
-    let known = own_known(marks, depth, known);
-    let rest = own_rest(marks, depth);
-    if is_settled(rest, known) {
+    let known = known_at(entries, given, depth, known);
+    let rest = entries_below(entries, depth);
+    let left = prefixes_below(given, depth);
+    if is_settled(rest.len(), left.len(), known) {
         return Ok(constant_of(known));
     }
     let middle = first_one(rest, depth);
     let (zeros, ones) = rest.split_at(middle);
-    let low = build(work, nodes, zeros, depth + 1, known)?;
-    let high = build(work, nodes, ones, depth + 1, known)?;
+    let turn = first_prefix(left, depth);
+    let (given_zeros, given_ones) = left.split_at(turn);
+    let low = build(work, nodes, zeros, given_zeros, depth + 1, known)?;
+    let high = build(work, nodes, ones, given_ones, depth + 1, known)?;
     work.branch(nodes, depth, low, high)
 }

@@ -1,16 +1,19 @@
 //! What a table sends over a hop.
-ghost use Rattle.std.specs.Prelude.{◌≡◌, map, IfOk, IfErr};
+ghost use Rattle.std.specs.Prelude.{◌≡◌, ◌++◌, IfOk, IfErr, OnOk, map};
 ghost use Rattle.std.specs.List.{list_any};
 ghost use Rattle.rc_bdd.specs.Work.{IsCause};
+ghost use Rattle.rc_fib.specs.declared.entry.Entry.{Entry as Row};
 ghost use Rattle.rc_nodes.specs.Seats.{IsSeatOf, Keeps, SeatKnows};
 ghost use Rattle.rc_route.specs.Hops.{same_hop};
-ghost use Rattle.rc_sets.specs.Marks.{mark_of};
+ghost use Rattle.rc_sets.specs.Marks.{prefixes_over};
 ghost use Rattle.rc_sets.specs.Regions.{hop_set};
+ghost use Rattle.rc_sets.specs.Stretches.{AreStretches, IsStretch};
 ghost use Rattle.rc_trees.specs.Recipes.{tree};
 ghost use Rattle.rc_trees.specs.Trees.{HasNodesOf};
 
 use crate::build::build;
-use crate::marks::Mark;
+use crate::stretches::TableHops;
+use rc_base::Prefix;
 use rc_bdd::{SetError, Work};
 use rc_fib::{Entry, Fib};
 use rc_nodes::{May, Nodes, Ref};
@@ -24,29 +27,79 @@ fn is_among(hops: &[Hop], hop: &Hop) -> bool
     hops.iter().any(|other| rc_route::same_hop(hop, other))
 }
 
-/// The prefix of an entry with its mark.
-fn mark_of(entry: &Entry, hop: &Hop) -> Mark
-    ensures { result ≡ mark_of hop.now entry.now }
+/// Puts the prefixes of some routes behind others.
+fn push_prefixes(prefixes: &mut Vec<Prefix>, entries: &[Entry]) -> Result<(), AllocError>
+    ensures { OnOk result (prefixes.new.items ≡ prefixes.old.items ++ map (λ (e : Row). e.prefix) entries.now) }
 {
-    Mark {
-        prefix: entry.prefix,
-        gives: is_among(entry.hops.as_slice(), hop),
-    }
-}
-
-/// The prefixes of a table's entries, each with whether it gives the hop.
-fn marks_of(alloc: Global, entries: &[Entry], hop: &Hop) -> Result<Vec<Mark>, AllocError>
-    ensures { IfOk result (λ marks. marks.items ≡ map (mark_of hop.now) entries.now) }
-{
-    let mut marks = Vec::with_capacity(alloc, entries.len())?;
     for entry in entries {
-        marks.push(mark_of(entry, hop))?;
+        prefixes.push(entry.prefix)?;
     }
-    Ok(marks)
+    Ok(())
 }
 
-/// The headers that a table sends over a hop. It is built from the table's order, bit by bit, with the route that holds so far: each node that
-/// it makes stands in the result.
+/// Puts the prefixes of a stretch behind others, where it gives the hop.
+fn push_stretch(prefixes: &mut Vec<Prefix>, stretch: &[Entry], hop: &Hop) -> Result<(), AllocError>
+    requires { IsStretch stretch.now }
+    ensures { OnOk result (prefixes.new.items ≡ prefixes.old.items ++ prefixes_over hop.now stretch.now) }
+{
+    let [first, ..] = stretch else {
+        return Ok(());
+    };
+    if !is_among(first.hops.as_slice(), hop) {
+        return Ok(());
+    }
+    push_prefixes(prefixes, stretch)
+}
+
+/// The prefixes of the routes that give a hop, in the table's order.
+fn prefixes_over(
+    alloc: Global,
+    entries: &[Entry],
+    stretches: &[usize],
+    hop: &Hop,
+) -> Result<Vec<Prefix>, AllocError>
+    requires { AreStretches stretches.now entries.now }
+    ensures { IfOk result (λ given. given.items ≡ prefixes_over hop.now entries.now) }
+{
+    let mut given = Vec::new(alloc);
+    let mut left = entries;
+    for length in stretches {
+        let (stretch, rest) = left.split_at(*length);
+        push_stretch(&mut given, stretch, hop)?;
+        left = rest;
+    }
+    Ok(given)
+}
+
+/// The headers that a table sends over a hop, where its stretches are known. It is built from the table's order, bit by bit, with the route
+/// that holds so far: each node that it makes stands in the result.
+pub fn hop_set_by<M: May>(
+    alloc: Global,
+    work: &mut Work<M>,
+    nodes: &Nodes<M>,
+    fib: &Fib,
+    stretches: &[usize],
+    hop: &Hop,
+) -> Result<Ref, SetError>
+    requires seat { IsSeatOf nodes.now work.old }
+    requires stretches { AreStretches stretches.now fib.now }
+    requires may { HasNodesOf nodes.now.may (tree (hop_set fib.now hop.now)) }
+    ensures seat { IsSeatOf nodes.now work.new }
+    ensures keeps { Keeps work.old work.new }
+    ensures set { IfOk result (λ r. SeatKnows work.new r.index (tree (hop_set fib.now hop.now))) }
+    ensures cause { IfErr result (IsCause nodes.now work.new) }
+{
+    let entries = fib.entries();
+    let Ok(given) = prefixes_over(alloc, entries, stretches, hop) else {
+        return Err(SetError::Memory);
+    };
+    match build(work, nodes, entries, given.as_slice(), 0, false) {
+        Ok(set) => Ok(set),
+        Err(_) => Err(SetError::Full),
+    }
+}
+
+/// The headers that a table sends over a hop.
 pub fn hop_set<M: May>(
     alloc: Global,
     work: &mut Work<M>,
@@ -61,12 +114,8 @@ pub fn hop_set<M: May>(
     ensures set { IfOk result (λ r. SeatKnows work.new r.index (tree (hop_set fib.now hop.now))) }
     ensures cause { IfErr result (IsCause nodes.now work.new) }
 {
-    let entries = fib.entries();
-    let Ok(marks) = marks_of(alloc, entries, hop) else {
+    let Ok(table) = TableHops::of(alloc, fib.entries()) else {
         return Err(SetError::Memory);
     };
-    match build(work, nodes, marks.as_slice(), 0, false) {
-        Ok(set) => Ok(set),
-        Err(_) => Err(SetError::Full),
-    }
+    hop_set_by(alloc, work, nodes, fib, table.stretches.as_slice(), hop)
 }

@@ -10,14 +10,15 @@ mod build;
 mod hops;
 mod interval;
 mod laws;
-mod marks;
 mod number;
 mod ports;
 mod prefix;
+mod stretches;
 
 pub use access_list::filter_set;
-pub use hops::hop_set;
+pub use hops::{hop_set, hop_set_by};
 pub use laws::{
     a_hop_is_its_set, a_line_is_its_set, an_access_group_is_its_set, an_access_list_is_its_set,
 };
 pub use prefix::prefix_set;
+pub use stretches::TableHops;
