@@ -6,7 +6,6 @@ use rc_config::{
 };
 use rc_filter::{matches_address, matches_line, passes, verdict};
 use std::alloc::{AllocError, Global};
-use std::process::Abort;
 use std::test::Fail;
 
 /// A tcp packet from 10.0.0.1 to 192.0.2.1.
@@ -44,28 +43,26 @@ fn no_ssh(alloc: Global) -> Result<AccessList, AllocError> {
 #[test]
 fn the_first_line_that_matches_decides(rt: HostRuntime) -> Result<(), Fail> {
     let access_list = no_ssh(rt.alloc())?;
-    assert!(rt; !verdict(&access_list, &tcp_packet(22)));
-    assert!(rt; verdict(&access_list, &tcp_packet(23)));
+    assert!(rt; !verdict(&access_list, &tcp_packet(22)) && verdict(&access_list, &tcp_packet(23)));
     Ok(())
 }
 
-/// That list and one without lines.
-fn two_lists(alloc: Global, full: Name, empty: Name) -> Result<Named<AccessList>, AllocError> {
-    let without = AccessList::new(alloc, AccessListKind::Standard);
-    let mut access_lists = Named::new(alloc);
-    access_lists.insert(full, no_ssh(alloc)?)?;
-    access_lists.insert(empty, without)?;
-    Ok(access_lists)
+/// Puts that list, and one without lines.
+fn put_two(
+    access_lists: &mut Named<AccessList>,
+    full: Name,
+    empty: Name,
+) -> Result<(), AllocError> {
+    let alloc = access_lists.allocator();
+    let list = no_ssh(alloc)?;
+    access_lists.insert(full, list)?;
+    access_lists.insert(empty, AccessList::new(alloc, AccessListKind::Standard))?;
+    Ok(())
 }
 
-fn check_groups(
-    rt: &impl Abort,
-    access_lists: &Named<AccessList>,
-    groups: [(Option<Name>, bool); 4],
-) {
-    for (group, wanted) in groups {
-        assert!(rt; passes(access_lists, group.as_ref(), &tcp_packet(22)) == wanted);
-    }
+/// Whether ssh passes where this list is asked.
+fn lets_pass(access_lists: &Named<AccessList>, group: Option<&Name>) -> bool {
+    passes(access_lists, group, &tcp_packet(22))
 }
 
 #[test]
@@ -73,14 +70,14 @@ fn a_group_without_lines_denies_nothing(rt: HostRuntime) -> Result<(), Fail> {
     let full = Name::new(b"101").expect(&rt, "101");
     let empty = Name::new(b"102").expect(&rt, "102");
     let undefined = Name::new(b"103").expect(&rt, "103");
-    let access_lists = two_lists(rt.alloc(), full, empty)?;
-    let groups = [
-        (Some(full), false),
-        (Some(empty), true),
-        (Some(undefined), true),
-        (None, true),
-    ];
-    check_groups(&rt, &access_lists, groups);
+    let mut access_lists = Named::new(rt.alloc());
+    put_two(&mut access_lists, full, empty)?;
+    assert!(rt;
+        !lets_pass(&access_lists, Some(&full))
+            && lets_pass(&access_lists, Some(&empty))
+            && lets_pass(&access_lists, Some(&undefined))
+            && lets_pass(&access_lists, None)
+    );
     Ok(())
 }
 
@@ -90,27 +87,25 @@ fn a_wildcard_leaves_bits_out(rt: HostRuntime) {
         addr: Addr::new(0x0a00_0001),
         wildcard: Addr::new(0x0000_ff00),
     };
-    assert!(rt; matches_address(&test, Addr::new(0x0a00_0701)));
-    assert!(rt; !matches_address(&test, Addr::new(0x0a00_0702)));
+    assert!(rt;
+        matches_address(&test, Addr::new(0x0a00_0701))
+            && !matches_address(&test, Addr::new(0x0a00_0702))
+    );
+}
+
+/// Whether a line with this test of a port matches port 22.
+fn matches_ssh(test: PortTest) -> bool {
+    matches_line(&tcp_line(10, Action::Permit, test), &tcp_packet(22))
 }
 
 #[test]
 fn ports_are_compared(rt: HostRuntime) {
-    for (index, (test, wanted)) in [
-        (PortTest::Below(23), true),
-        (PortTest::Below(22), false),
-        (PortTest::Above(21), true),
-        (PortTest::Above(22), false),
-        (PortTest::Within(22, 22), true),
-        (PortTest::Within(20, 21), false),
-    ]
-    .into_iter()
-    .enumerate()
-    {
-        let line = tcp_line(10, Action::Permit, test);
-        assert!(rt;
-            matches_line(&line, &tcp_packet(22)) == wanted,
-            "row {index}"
-        );
-    }
+    assert!(rt;
+        matches_ssh(PortTest::Below(23))
+            && !matches_ssh(PortTest::Below(22))
+            && matches_ssh(PortTest::Above(21))
+            && !matches_ssh(PortTest::Above(22))
+            && matches_ssh(PortTest::Within(22, 22))
+            && !matches_ssh(PortTest::Within(20, 21))
+    );
 }

@@ -1,79 +1,69 @@
 //! AS paths that share their tails.
 use rc_as_path::AsPath;
 use std::alloc::{AllocError, Global};
-use std::process::Abort;
 use std::test::Fail;
 
 fn path(alloc: Global, numbers: &[u32]) -> Result<AsPath, AllocError> {
     AsPath::empty().prepend_all(alloc, numbers)
 }
 
-/// Asserts what is told of the path 65001 65002 65001.
-fn check_told(rt: &impl Abort, path: &AsPath) {
-    assert!(rt; path.len() == 3);
-    assert!(rt; path.first() == Some(65001));
-    assert!(rt; path.holds(65002));
-    assert!(rt; !path.holds(65003));
+/// Whether this is told of the path 65001 65002 65001.
+fn is_told(path: &AsPath) -> bool {
+    path.len() == 3 && path.first() == Some(65001) && path.holds(65002) && !path.holds(65003)
 }
 
 #[test]
 fn a_path_tells_its_numbers(rt: HostRuntime) -> Result<(), Fail> {
     let short = path(rt.alloc(), &[65002, 65001])?;
-    check_told(&rt, &short.prepend(rt.alloc(), 65001)?);
+    assert!(rt; is_told(&short.prepend(rt.alloc(), 65001)?));
     Ok(())
 }
 
 #[test]
 fn the_empty_path_has_no_first(rt: HostRuntime) {
     let empty = AsPath::empty();
-    assert!(rt; empty.len() == 0);
-    assert!(rt; empty.first().is_none());
-    assert!(rt; !empty.holds(0));
+    assert!(rt; empty.len() == 0 && empty.first().is_none() && !empty.holds(0));
 }
 
-/// Asserts that a path is equal to those that it is to be equal to, and to no others.
-fn check_equal(rt: &impl Abort, one: &AsPath, other: &AsPath, wanted: bool) {
-    assert!(rt; (one == other) == wanted);
-    assert!(rt; (other == one) == wanted);
+/// Whether each of two paths is equal to the other.
+fn are_equal(one: &AsPath, other: &AsPath) -> bool {
+    one == other && other == one
 }
 
-/// Asserts whether a path is equal to that of these numbers.
-fn check_like(
-    rt: &impl Abort,
-    alloc: Global,
-    one: &AsPath,
-    numbers: &[u32],
-    wanted: bool,
-) -> Result<(), AllocError> {
+/// Whether neither of two paths is equal to the other.
+fn differ(one: &AsPath, other: &AsPath) -> bool {
+    !(one == other) && !(other == one)
+}
+
+/// Whether a path is equal to that of these numbers.
+fn is_like(alloc: Global, one: &AsPath, numbers: &[u32]) -> Result<bool, AllocError> {
     let other = path(alloc, numbers)?;
-    check_equal(rt, one, &other, wanted);
-    Ok(())
+    Ok(are_equal(one, &other))
 }
 
-/// Numbers, and whether they are those of the path 65003 65002 65001.
-const LIKE: [(&[u32], bool); 4] = [
-    (&[65003, 65002, 65001], true),
-    (&[65002, 65001], false),
-    (&[65003, 65002], false),
-    (&[65003, 65002, 65009], false),
-];
+/// Whether a path isn't that of these numbers.
+fn is_unlike(alloc: Global, one: &AsPath, numbers: &[u32]) -> Result<bool, AllocError> {
+    let other = path(alloc, numbers)?;
+    Ok(differ(one, &other))
+}
 
-/// Asserts what is equal to the path 65003 65002 65001.
-fn check_one(rt: &impl Abort, alloc: Global, one: &AsPath) -> Result<(), AllocError> {
-    for (numbers, wanted) in LIKE {
-        check_like(rt, alloc, one, numbers, wanted)?;
-    }
-    check_equal(rt, one, &one.share()?, true);
-    Ok(())
+/// Whether the path is equal to that of its numbers and to a share of it, and to no others.
+fn is_one(alloc: Global, one: &AsPath) -> Result<bool, AllocError> {
+    Ok(
+        is_like(alloc, one, &[65003, 65002, 65001])?
+            && is_unlike(alloc, one, &[65002, 65001])?
+            && is_unlike(alloc, one, &[65003, 65002])?
+            && is_unlike(alloc, one, &[65003, 65002, 65009])?
+            && are_equal(one, &one.share()?),
+    )
 }
 
 #[test]
 fn paths_are_equal_by_their_numbers(rt: HostRuntime) -> Result<(), Fail> {
     let tail = path(rt.alloc(), &[65002, 65001])?;
-    check_equal(&rt, &tail, &AsPath::empty(), false);
     let one = tail.prepend(rt.alloc(), 65003)?;
-    check_equal(&rt, &one, &tail, false);
-    check_one(&rt, rt.alloc(), &one)?;
+    let is_one = is_one(rt.alloc(), &one)?;
+    assert!(rt; is_one && differ(&tail, &AsPath::empty()) && differ(&one, &tail));
     Ok(())
 }
 
@@ -91,8 +81,6 @@ fn long_path(alloc: Global, numbers: u32) -> Result<AsPath, AllocError> {
 fn a_long_path_is_compared_and_dropped(rt: HostRuntime) -> Result<(), Fail> {
     let one = long_path(rt.alloc(), 1_000_000)?;
     let other = long_path(rt.alloc(), 1_000_000)?;
-    check_equal(&rt, &one, &other, true);
-    assert!(rt; !one.holds(1_000_000));
-    assert!(rt; one.len() == 1_000_000);
+    assert!(rt; are_equal(&one, &other) && !one.holds(1_000_000) && one.len() == 1_000_000);
     Ok(())
 }

@@ -10,7 +10,6 @@ use rc_config::{BgpLine, Command, Named, NeighborSetting, Network, RouterText};
 use rc_route::{BgpPath, Hop, Hops, PathSource, Route, RouterState, Source, State};
 use rc_topology::Links;
 use std::alloc::{AllocError, Global};
-use std::process::Abort;
 use std::test::Fail;
 
 const R1: u32 = 0x0a00_0c01;
@@ -163,69 +162,83 @@ fn found(alloc: Global, router: usize, paths: Items<BgpPath>) -> Result<Items<Bg
     Ok(candidates(alloc, &net, &all, &state, RouterId::at(router))?)
 }
 
-fn check_sessions(rt: &impl Abort, all: &Sessions) {
-    assert!(rt; all.len() == 2);
+/// Whether there is one session to each of the two routers, over a shared subnet and to another AS.
+fn are_sessions(all: &Sessions) -> bool {
     for (index, to) in all.as_slice().iter().enumerate() {
-        assert!(rt; to.len() == 1);
-        for session in to.as_slice() {
-            assert!(rt; session.receiver == RouterId::at(index));
-            assert!(rt; session.is_external && session.is_shared);
+        let is_session = match to.as_slice() {
+            [session] => {
+                session.receiver == RouterId::at(index) && session.is_external && session.is_shared
+            }
+            _ => false,
+        };
+        if !is_session {
+            return false;
         }
     }
+    all.len() == 2
 }
 
 #[test]
 fn a_session_in_each_direction(rt: HostRuntime) -> Result<(), Fail> {
     let net = pair(rt.alloc())?;
     let all = sessions_of(rt.alloc(), &net)?;
-    check_sessions(&rt, &all);
+    assert!(rt; are_sessions(&all));
     Ok(())
 }
 
-fn check_route(rt: &impl Abort, route: &Option<Route>) {
+/// Whether it is the route of a path from the first router.
+fn is_learned(route: &Option<Route>) -> bool {
     match route {
         Some(route) => {
-            assert!(rt; route.source == Source::Ebgp && route.distance == 20);
-            assert!(rt; route.hops == Hops::one(Hop::Via(Addr::new(R1), None)));
+            route.source == Source::Ebgp
+                && route.distance == 20
+                && route.hops == Hops::one(Hop::Via(Addr::new(R1), None))
         }
-        None => assert!(rt; false, "no route"),
+        None => false,
     }
 }
 
-/// Asserts what the second router takes of the first one's path, and the route that it gives.
-fn check_heard(rt: &impl Abort, path: &BgpPath) {
-    assert!(rt; path.next_hop == Addr::new(R1));
-    assert!(rt; path.source == PathSource::External);
-    assert!(rt; path.as_path.len() == 1 && path.as_path.holds(65_001));
-    check_route(rt, &learned_route(path));
+/// Whether the second router takes this of the first one's path, and has this route by it.
+fn is_heard(path: &BgpPath) -> bool {
+    path.next_hop == Addr::new(R1)
+        && path.source == PathSource::External
+        && path.as_path.len() == 1
+        && path.as_path.holds(65_001)
+        && is_learned(&learned_route(path))
 }
 
-/// Asserts what goes over a session of the first router's path.
-fn check_passed(
-    rt: &impl Abort,
+/// Whether what is sent over a session is taken.
+fn is_taken(
+    alloc: Global,
+    net: &Network,
+    session: &Session,
+    sent: &BgpPath,
+) -> Result<bool, AllocError> {
+    match &import(alloc, net, session, sent)? {
+        Some(taken) => Ok(is_heard(taken)),
+        None => Ok(false),
+    }
+}
+
+/// Whether a path is sent over a session and taken there.
+fn is_passed(
     alloc: Global,
     net: &Network,
     session: &Session,
     path: &BgpPath,
-) -> Result<(), AllocError> {
-    let sent = export(alloc, net, session, path)?;
-    let Some(sent) = &sent else {
-        assert!(rt; false, "no path is sent");
-        return Ok(());
-    };
-    let taken = import(alloc, net, session, sent)?;
-    match &taken {
-        Some(taken) => check_heard(rt, taken),
-        None => assert!(rt; false, "no path is taken"),
+) -> Result<bool, AllocError> {
+    match &export(alloc, net, session, path)? {
+        Some(sent) => is_taken(alloc, net, session, sent),
+        None => Ok(false),
     }
-    Ok(())
 }
 
-/// The sessions to the second router.
-fn to_second(all: &Sessions) -> &[Session] {
-    match all.as_slice().get(1) {
-        Some(to) => to.as_slice(),
-        None => &[],
+/// The one session to the second router.
+fn to_second(all: &Sessions) -> Option<&Session> {
+    let to = all.as_slice().get(1)?;
+    match to.as_slice() {
+        [session] => Some(session),
+        _ => None,
     }
 }
 
@@ -234,32 +247,41 @@ fn a_path_is_sent_and_taken(rt: HostRuntime) -> Result<(), Fail> {
     let path = own_path(rt.alloc())?;
     let net = pair(rt.alloc())?;
     let all = sessions_of(rt.alloc(), &net)?;
-    for session in to_second(&all) {
-        check_passed(&rt, rt.alloc(), &net, session, &path)?;
-    }
+    let session = to_second(&all).expect(&rt, "a session");
+    assert!(rt; is_passed(rt.alloc(), &net, session, &path)?);
     Ok(())
+}
+
+/// Whether this is the only path.
+fn is_alone(path: &BgpPath, paths: &[BgpPath]) -> bool {
+    match paths {
+        [found] => *found == *path,
+        _ => false,
+    }
 }
 
 #[test]
 fn candidates_of_the_first_router(rt: HostRuntime) -> Result<(), Fail> {
     let wanted = own_path(rt.alloc())?;
     let own = found(rt.alloc(), 0, none(rt.alloc()))?;
-    assert!(rt; own.len() == 1);
-    for path in own.as_slice() {
-        assert!(rt; *path == wanted);
-    }
+    assert!(rt; is_alone(&wanted, own.as_slice()));
     Ok(())
+}
+
+/// Whether the first router's path is the only one.
+fn is_heard_alone(paths: &[BgpPath]) -> bool {
+    match paths {
+        [path] => is_heard(path),
+        _ => false,
+    }
 }
 
 #[test]
 fn candidates_of_the_second_router(rt: HostRuntime) -> Result<(), Fail> {
-    let paths = one(rt.alloc(), own_path(rt.alloc())?)?;
-    let heard = found(rt.alloc(), 1, paths)?;
-    assert!(rt; heard.len() == 1);
-    for path in heard.as_slice() {
-        check_heard(&rt, path);
-    }
     let nothing = found(rt.alloc(), 1, none(rt.alloc()))?;
     assert!(rt; nothing.is_empty());
+    let paths = one(rt.alloc(), own_path(rt.alloc())?)?;
+    let heard = found(rt.alloc(), 1, paths)?;
+    assert!(rt; is_heard_alone(heard.as_slice()));
     Ok(())
 }

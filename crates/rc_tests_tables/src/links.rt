@@ -3,50 +3,35 @@ use rc_base::{Addr, IfId, Name, RouterId};
 use rc_config::{Command, IfAddr, IfType, Named, Network, RouterText};
 use rc_topology::Links;
 use std::alloc::{AllocError, Global};
-use std::process::Abort;
 use std::test::Fail;
 
-/// An address of an interface: its last two octets behind 10.0, and the length of its mask.
-#[derive(Clone, Copy)]
-struct Line {
-    interface: &'static [u8],
-    host: u32,
-    len: u8,
-    secondary: bool,
-}
+/// An address of an interface: the interface, the last two octets behind 10.0, the length of the mask, and whether it is a secondary one.
+type Line = (&'static [u8], u32, u8, bool);
 
-/// The primary address of an interface.
-fn primary(interface: &'static [u8], host: u32, len: u8) -> Line {
-    Line {
-        interface,
-        host,
-        len,
-        secondary: false,
-    }
-}
+const PRIMARY: bool = false;
 
-/// A secondary address of an interface.
-fn secondary(interface: &'static [u8], host: u32, len: u8) -> Line {
-    Line {
-        interface,
-        host,
-        len,
-        secondary: true,
-    }
-}
+const SECONDARY: bool = true;
 
 /// 10.0.0.0 and so many more.
 fn addr(host: u32) -> Addr {
     Addr::new(0x0a00_0000 | host)
 }
 
+/// The command of an address.
+fn command_of(line: &Line) -> Option<Command> {
+    let (interface, host, len, secondary) = *line;
+    let interface = Name::new(interface)?;
+    let address = IfAddr::new(addr(host), len)?;
+    Some(Command::Address {
+        interface,
+        address,
+        secondary,
+    })
+}
+
 /// Puts one more address.
 fn put_line(text: &mut RouterText, line: &Line) -> Result<(), Fail> {
-    let command = Command::Address {
-        interface: Name::new(line.interface).ok_or("a name")?,
-        address: IfAddr::new(addr(line.host), line.len).ok_or("a mask")?,
-        secondary: line.secondary,
-    };
+    let command = command_of(line).ok_or("an address")?;
     Ok(text.apply(command)?)
 }
 
@@ -83,47 +68,36 @@ fn put_router(
     Ok(())
 }
 
-/// Puts the first router: its Ethernet0 on three subnets, and a line to the second one.
-fn put_first(routers: &mut Named<RouterText>) -> Result<(), Fail> {
-    let lines = [
-        primary(b"Ethernet0", 0x0001, 24),
-        secondary(b"Ethernet0", 0x0201, 24),
-        secondary(b"Ethernet0", 0x0101, 24),
-        primary(b"Loopback0", 0x0901, 32),
-        primary(b"Serial0", 0x0a01, 30),
-        primary(b"Ethernet1", 0x0304, 24),
-    ];
-    put_router(routers, b"a", &lines, b"Ethernet1")
-}
+/// The first router: its Ethernet0 is on three subnets, and a line leads to the second one.
+const FIRST: [Line; 6] = [
+    (b"Ethernet0", 0x0001, 24, PRIMARY),
+    (b"Ethernet0", 0x0201, 24, SECONDARY),
+    (b"Ethernet0", 0x0101, 24, SECONDARY),
+    (b"Loopback0", 0x0901, 32, PRIMARY),
+    (b"Serial0", 0x0a01, 30, PRIMARY),
+    (b"Ethernet1", 0x0304, 24, PRIMARY),
+];
 
-/// Puts the second router.
-fn put_second(routers: &mut Named<RouterText>) -> Result<(), Fail> {
-    let lines = [
-        primary(b"Ethernet0", 0x0002, 24),
-        primary(b"Ethernet1", 0x0202, 24),
-        primary(b"Serial0", 0x0a02, 30),
-    ];
-    put_router(routers, b"b", &lines, b"")
-}
+const SECOND: [Line; 3] = [
+    (b"Ethernet0", 0x0002, 24, PRIMARY),
+    (b"Ethernet1", 0x0202, 24, PRIMARY),
+    (b"Serial0", 0x0a02, 30, PRIMARY),
+];
 
-/// Puts the third router.
-fn put_third(routers: &mut Named<RouterText>) -> Result<(), Fail> {
-    let lines = [
-        primary(b"Ethernet0", 0x0103, 24),
-        secondary(b"Ethernet0", 0x0003, 24),
-        primary(b"Loopback0", 0x0009, 24),
-        primary(b"Ethernet1", 0x0002, 24),
-        primary(b"Ethernet2", 0x0305, 24),
-        primary(b"Tunnel0", 0x0a03, 29),
-    ];
-    put_router(routers, b"c", &lines, b"")
-}
+const THIRD: [Line; 6] = [
+    (b"Ethernet0", 0x0103, 24, PRIMARY),
+    (b"Ethernet0", 0x0003, 24, SECONDARY),
+    (b"Loopback0", 0x0009, 24, PRIMARY),
+    (b"Ethernet1", 0x0002, 24, PRIMARY),
+    (b"Ethernet2", 0x0305, 24, PRIMARY),
+    (b"Tunnel0", 0x0a03, 29, PRIMARY),
+];
 
-/// Puts three routers: a line between the first two, and the first's Ethernet0 on three subnets.
+/// Puts these three routers.
 fn put_three(routers: &mut Named<RouterText>) -> Result<(), Fail> {
-    put_first(routers)?;
-    put_second(routers)?;
-    put_third(routers)
+    put_router(routers, b"a", &FIRST, b"Ethernet1")?;
+    put_router(routers, b"b", &SECOND, b"")?;
+    put_router(routers, b"c", &THIRD, b"")
 }
 
 /// What is kept of the links of these routers.
@@ -146,93 +120,106 @@ fn three_linked(alloc: Global) -> Result<Links, Fail> {
     Ok(linked(alloc, routers)?)
 }
 
-/// Asserts that the interfaces linked with this one are these, in order.
-fn check_linked(rt: &impl Abort, links: &Links, from: IfId, wanted: &[IfId]) {
+/// Whether the interfaces linked with this one are these, in order.
+fn is_linked(links: &Links, from: IfId, wanted: &[IfId]) -> bool {
     let mut linked = links.linked(from);
     for to in wanted {
-        assert!(rt; linked.next() == Some(*to));
+        if linked.next() != Some(*to) {
+            return false;
+        }
     }
-    assert!(rt; linked.next().is_none());
-    assert!(rt; linked.next().is_none(), "behind the end");
+    // Nor does one come behind the end.
+    linked.next().is_none() && linked.next().is_none()
 }
 
 #[test]
 fn links_in_position_order(rt: HostRuntime) -> Result<(), Fail> {
     let links = three_linked(rt.alloc())?;
     let first = [id(1, 0), id(1, 1), id(2, 0), id(2, 2)];
-    check_linked(&rt, &links, id(0, 0), &first);
-    check_linked(&rt, &links, id(0, 2), &[id(1, 2)]);
-    for alone in [id(2, 1), id(2, 3), id(3, 0)] {
-        check_linked(&rt, &links, alone, &[]);
-    }
+    assert!(rt;
+        is_linked(&links, id(0, 0), &first)
+            && is_linked(&links, id(0, 2), &[id(1, 2)])
+            && is_linked(&links, id(2, 1), &[])
+            && is_linked(&links, id(2, 3), &[])
+            && is_linked(&links, id(3, 0), &[])
+    );
     Ok(())
 }
 
-/// Asserts that the takers of an address on the link of an interface are these, in order.
-fn check_takers(rt: &impl Abort, links: &Links, from: IfId, host: u32, wanted: &[IfId]) {
+/// Whether the takers of an address on the link of an interface are these, in order.
+fn has_takers(links: &Links, from: IfId, host: u32, wanted: &[IfId]) -> bool {
     let mut takers = links.takers(from, addr(host));
     for to in wanted {
-        assert!(rt; takers.next() == Some(*to));
+        if takers.next() != Some(*to) {
+            return false;
+        }
     }
-    assert!(rt; takers.next().is_none());
+    takers.next().is_none()
 }
 
 #[test]
 fn takers_in_order(rt: HostRuntime) -> Result<(), Fail> {
     let links = three_linked(rt.alloc())?;
-    check_takers(&rt, &links, id(0, 0), 0x0002, &[id(1, 0), id(2, 2)]);
-    check_takers(&rt, &links, id(0, 2), 0x0002, &[]);
-    check_takers(&rt, &links, id(0, 0), 0x0009, &[]);
+    assert!(rt;
+        has_takers(&links, id(0, 0), 0x0002, &[id(1, 0), id(2, 2)])
+            && has_takers(&links, id(0, 2), 0x0002, &[])
+            && has_takers(&links, id(0, 0), 0x0009, &[])
+    );
     Ok(())
+}
+
+/// Whether the address is one of the router's own.
+fn owns(links: &Links, router: usize, host: u32) -> bool {
+    links.is_own(RouterId::at(router), addr(host))
 }
 
 #[test]
 fn addresses_have_owners(rt: HostRuntime) -> Result<(), Fail> {
     let links = three_linked(rt.alloc())?;
-    for (router, host, wanted) in [
-        (2, 0x0009, true),
-        (1, 0x0002, true),
-        (2, 0x0002, true),
-        (0, 0x0002, false),
-        (0, 0x0101, true),
-        (0, 0x0304, false),
-        (3, 0x0002, false),
-    ] {
-        let own = links.is_own(RouterId::at(router), addr(host));
-        assert!(rt; own == wanted, "{host} at {router}");
-    }
-    assert!(rt; links.are_linked(id(2, 0), id(0, 0)));
-    assert!(rt; !links.are_linked(id(2, 0), id(2, 2)), "one router");
+    assert!(rt;
+        owns(&links, 2, 0x0009)
+            && owns(&links, 1, 0x0002)
+            && owns(&links, 2, 0x0002)
+            && !owns(&links, 0, 0x0002)
+            && owns(&links, 0, 0x0101)
+            && !owns(&links, 0, 0x0304)
+            && !owns(&links, 3, 0x0002)
+            && links.are_linked(id(2, 0), id(0, 0))
+            && !links.are_linked(id(2, 0), id(2, 2))
+    );
     Ok(())
+}
+
+/// Whether the address is in a subnet of the first router's interface.
+fn holds(links: &Links, index: usize, host: u32) -> bool {
+    links.holds(id(0, index), addr(host))
 }
 
 #[test]
 fn interfaces_hold_addresses(rt: HostRuntime) -> Result<(), Fail> {
     let links = three_linked(rt.alloc())?;
-    for (index, host, wanted) in [
-        (0, 0x02ff, true),
-        (0, 0x03ff, false),
-        (1, 0x0901, true),
-        (9, 0x0001, false),
-    ] {
-        assert!(rt;
-            links.holds(id(0, index), addr(host)) == wanted,
-            "{host} at {index}"
-        );
-    }
+    assert!(rt;
+        holds(&links, 0, 0x02ff)
+            && !holds(&links, 0, 0x03ff)
+            && holds(&links, 1, 0x0901)
+            && !holds(&links, 9, 0x0001)
+    );
     Ok(())
 }
 
 #[test]
 fn interfaces_have_kinds(rt: HostRuntime) -> Result<(), Fail> {
     let links = three_linked(rt.alloc())?;
-    assert!(rt; links.kind(id(0, 2)) == Some(IfType::Serial));
-    assert!(rt; links.kind(id(2, 4)).is_none(), "a tunnel");
-    assert!(rt; links.kind(id(2, 5)).is_none(), "no such interface");
-    assert!(rt; links.is_serial(id(0, 2)));
-    assert!(rt; !links.is_serial(id(0, 1)));
-    assert!(rt; links.is_loopback(id(0, 1)));
-    assert!(rt; !links.is_loopback(id(0, 0)));
+    // A tunnel has no kind, nor what is no interface.
+    assert!(rt;
+        links.kind(id(0, 2)) == Some(IfType::Serial)
+            && links.kind(id(2, 4)).is_none()
+            && links.kind(id(2, 5)).is_none()
+            && links.is_serial(id(0, 2))
+            && !links.is_serial(id(0, 1))
+            && links.is_loopback(id(0, 1))
+            && !links.is_loopback(id(0, 0))
+    );
     Ok(())
 }
 
@@ -240,7 +227,7 @@ fn interfaces_have_kinds(rt: HostRuntime) -> Result<(), Fail> {
 fn put_subnet(routers: &mut Named<RouterText>, many: u8) -> Result<(), Fail> {
     for n in 0..many {
         let name = [b'r', b'0' + n / 10 % 10, b'0' + n % 10];
-        let line = primary(b"Vlan1", 256 + u32::from(n), 16);
+        let line: Line = (b"Vlan1", 256 + u32::from(n), 16, PRIMARY);
         put_router(routers, &name, &[line], b"")?;
     }
     Ok(())
@@ -253,22 +240,24 @@ fn subnet_of_64(alloc: Global) -> Result<Links, Fail> {
     Ok(linked(alloc, routers)?)
 }
 
-/// Asserts that the fifth router is linked with each of the others, in order.
-fn check_others(rt: &impl Abort, links: &Links) {
+/// Whether the fifth router is linked with each of the others, in order.
+fn is_linked_with_others(links: &Links) -> bool {
     let mut linked = links.linked(id(5, 0));
     for router in 0..64 {
-        if router != 5 {
-            assert!(rt; linked.next() == Some(id(router, 0)));
+        if router != 5 && linked.next() != Some(id(router, 0)) {
+            return false;
         }
     }
-    assert!(rt; linked.next().is_none());
+    linked.next().is_none()
 }
 
 #[test]
 fn one_subnet_of_64_routers(rt: HostRuntime) -> Result<(), Fail> {
     let links = subnet_of_64(rt.alloc())?;
-    check_others(&rt, &links);
-    check_takers(&rt, &links, id(5, 0), 256 + 63, &[id(63, 0)]);
-    check_takers(&rt, &links, id(5, 0), 256 + 5, &[]);
+    assert!(rt;
+        is_linked_with_others(&links)
+            && has_takers(&links, id(5, 0), 256 + 63, &[id(63, 0)])
+            && has_takers(&links, id(5, 0), 256 + 5, &[])
+    );
     Ok(())
 }

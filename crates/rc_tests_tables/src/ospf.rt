@@ -6,7 +6,6 @@ use rc_config::{
 };
 use rc_ospf::{OspfInterface, ospf_interfaces};
 use std::alloc::Global;
-use std::process::Abort;
 use std::test::Fail;
 
 /// Puts what an `ip ospf` line sets at an interface.
@@ -75,31 +74,38 @@ fn id(router: usize, index: usize) -> IfId {
     }
 }
 
-fn check_interface(
-    rt: &impl Abort,
+/// Whether the interface is in area 3, and has these values.
+fn is_interface(
     interface: &OspfInterface,
-    wanted: (IfId, u16, NetworkType, u32),
-) {
-    let (id, cost, network, dead) = wanted;
-    assert!(rt; interface.id == id);
-    assert!(rt; interface.area == 3);
-    assert!(rt; interface.cost == cost);
-    assert!(rt; interface.network == network);
-    assert!(rt; interface.dead == dead);
+    id: IfId,
+    cost: u16,
+    network: NetworkType,
+    dead: u32,
+) -> bool {
+    interface.id == id
+        && interface.area == 3
+        && interface.cost == cost
+        && interface.network == network
+        && interface.dead == dead
+}
+
+/// Whether these are the interfaces of both routers, in order.
+fn are_all(interfaces: &[OspfInterface]) -> bool {
+    match interfaces {
+        [first, second, third, fourth, fifth] => {
+            is_interface(first, id(0, 0), 7, NetworkType::PointToPoint, 40)
+                && is_interface(second, id(0, 1), 10, NetworkType::Broadcast, 40)
+                && is_interface(third, id(0, 2), 1, NetworkType::Broadcast, 40)
+                && is_interface(fourth, id(1, 0), 10, NetworkType::Broadcast, 20)
+                && is_interface(fifth, id(1, 1), 64, NetworkType::PointToPoint, 40)
+        }
+        _ => false,
+    }
 }
 
 #[test]
 fn interfaces_have_costs_and_types(rt: HostRuntime) -> Result<(), Fail> {
     let interfaces = interfaces_of_two(rt.alloc())?;
-    assert!(rt; interfaces.len() == 5);
-    for (interface, wanted) in interfaces.as_slice().iter().zip([
-        (id(0, 0), 7, NetworkType::PointToPoint, 40),
-        (id(0, 1), 10, NetworkType::Broadcast, 40),
-        (id(0, 2), 1, NetworkType::Broadcast, 40),
-        (id(1, 0), 10, NetworkType::Broadcast, 20),
-        (id(1, 1), 64, NetworkType::PointToPoint, 40),
-    ]) {
-        check_interface(&rt, interface, wanted);
-    }
+    assert!(rt; are_all(interfaces.as_slice()));
     Ok(())
 }

@@ -7,7 +7,6 @@ use rc_config::{
 };
 use rc_policy::{Attrs, apply, community_list_permits, permits, permits_address};
 use std::alloc::{AllocError, Global};
-use std::process::Abort;
 use std::test::Fail;
 
 /// 65000:1 and 65000:2
@@ -55,21 +54,21 @@ fn only_24(alloc: Global) -> Result<PrefixList, Fail> {
     Ok(list)
 }
 
+/// Whether the list permits a prefix.
+fn permitted(list: &PrefixList, bits: u32, len: u8) -> Option<bool> {
+    let tried = Prefix::new(Addr::new(bits), len)?;
+    Some(permits(list, tried))
+}
+
 #[test]
 fn a_prefix_line_takes_its_lengths(rt: HostRuntime) -> Result<(), Fail> {
     let list = only_24(rt.alloc())?;
-    for (bits, len, wanted) in [
-        (0x0a09_0100, 24, true),
-        (0x0a09_0000, 16, false),
-        (0x0a09_0180, 25, false),
-        (0x0b09_0100, 24, false),
-    ] {
-        let tried = Prefix::new(Addr::new(bits), len);
-        assert!(rt;
-            tried.map(|p| permits(&list, p)) == Some(wanted),
-            "{bits} of {len} bits"
-        );
-    }
+    assert!(rt;
+        permitted(&list, 0x0a09_0100, 24) == Some(true)
+            && permitted(&list, 0x0a09_0000, 16) == Some(false)
+            && permitted(&list, 0x0a09_0180, 25) == Some(false)
+            && permitted(&list, 0x0b09_0100, 24) == Some(false)
+    );
     Ok(())
 }
 
@@ -87,8 +86,7 @@ fn a_line_wants_all_its_communities(rt: HostRuntime) -> Result<(), Fail> {
     let list = permitting(rt.alloc(), &[SECOND, FIRST])?;
     let both = communities(rt.alloc(), &[FIRST, SECOND, 5])?;
     let one = communities(rt.alloc(), &[FIRST, 5])?;
-    assert!(rt; community_list_permits(&list, &both));
-    assert!(rt; !community_list_permits(&list, &one));
+    assert!(rt; community_list_permits(&list, &both) && !community_list_permits(&list, &one));
     Ok(())
 }
 
@@ -105,8 +103,10 @@ fn by_source(alloc: Global) -> Result<AccessList, AllocError> {
 #[test]
 fn routes_match_by_their_source(rt: HostRuntime) -> Result<(), Fail> {
     let access_list = by_source(rt.alloc())?;
-    assert!(rt; permits_address(&access_list, Addr::new(0x0a09_0100)));
-    assert!(rt; !permits_address(&access_list, Addr::new(0x0a0a_0100)));
+    assert!(rt;
+        permits_address(&access_list, Addr::new(0x0a09_0100))
+            && !permits_address(&access_list, Addr::new(0x0a0a_0100))
+    );
     Ok(())
 }
 
@@ -170,19 +170,17 @@ fn wanted(alloc: Global, prefix: Prefix) -> Result<Option<Attrs>, AllocError> {
     Ok(Some(made))
 }
 
-/// Asserts what the map makes of a route with the first community, and that it drops one without.
-fn check_applied(
-    rt: &impl Abort,
+/// Whether the map makes what is wanted of a route with the first community, and drops one without.
+fn applies(
     alloc: Global,
     map: &RouteMap,
     lists: &Lists,
     tried: Prefix,
-) -> Result<(), AllocError> {
-    let made = applied(alloc, map, lists, tried, &[FIRST])?;
-    assert!(rt; made == wanted(alloc, tried)?);
+) -> Result<bool, AllocError> {
     let none = applied(alloc, map, lists, tried, &[])?;
-    assert!(rt; none.is_none());
-    Ok(())
+    let is_dropped = none.is_none();
+    let made = applied(alloc, map, lists, tried, &[FIRST])?;
+    Ok(is_dropped && made == wanted(alloc, tried)?)
 }
 
 #[test]
@@ -191,6 +189,6 @@ fn an_entry_joins_and_prepends(rt: HostRuntime) -> Result<(), Fail> {
     let tried = prefix(0x0a09_0100, 24)?;
     let lists = seventh(rt.alloc(), name)?;
     let map = joining(rt.alloc(), name)?;
-    check_applied(&rt, rt.alloc(), &map, &lists, tried)?;
+    assert!(rt; applies(rt.alloc(), &map, &lists, tried)?);
     Ok(())
 }

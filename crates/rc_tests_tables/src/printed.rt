@@ -18,65 +18,56 @@ fn long_text() -> [u8; 1025] {
     text
 }
 
-/// Asserts that a text goes out in so many calls.
-fn check_pieces(
-    rt: &impl Abort,
-    alloc: Global,
-    line: &mut Buffer,
-    text: &[u8],
-    calls: u64,
-) -> Result<(), AllocError> {
+/// Whether a text goes out whole in so many calls.
+fn is_put(alloc: Global, line: &mut Buffer, text: &[u8], calls: u64) -> Result<bool, AllocError> {
     let mut sink = MemSink::new(alloc, 1025, Vec::new(alloc))?;
     let said = put_line(&mut sink, line, &[Part::Text(text)]);
-    assert!(rt; said == Ok(()), "{calls} calls");
-    assert!(rt; sink.calls == calls, "{calls} calls");
-    assert!(rt; sink.bytes.as_slice() == text, "{calls} calls");
+    Ok(said == Ok(()) && sink.calls == calls && sink.bytes.as_slice() == text)
+}
+
+/// Lengths of texts, and in how many calls they go out.
+const PIECES: [(usize, u64); 7] = [
+    (0, 0),
+    (1, 1),
+    (511, 1),
+    (512, 1),
+    (513, 2),
+    (1024, 2),
+    (1025, 3),
+];
+
+/// Asserts of each row in how many calls the front of this length goes out.
+fn check_fronts(
+    rt: &impl Abort,
+    alloc: Global,
+    all: &[u8],
+    rows: &[(usize, u64)],
+) -> Result<(), AllocError> {
+    let mut line = Buffer::new(alloc)?;
+    for (length, calls) in rows {
+        let (text, _) = all.split_at(all.len().min(*length));
+        let is_put = is_put(alloc, &mut line, text, *calls)?;
+        assert!(rt; is_put, "{length} bytes");
+    }
     Ok(())
 }
 
 #[test]
 fn pieces_have_512_bytes_and_the_rest_is_last(rt: HostRuntime) -> Result<(), Fail> {
-    let all = long_text();
-    let mut line = Buffer::new(rt.alloc())?;
-    for (length, calls) in [
-        (0, 0),
-        (1, 1),
-        (511, 1),
-        (512, 1),
-        (513, 2),
-        (1024, 2),
-        (1025, 3),
-    ] {
-        let (text, _) = all.split_at(length.min(1025));
-        check_pieces(&rt, rt.alloc(), &mut line, text, calls)?;
-    }
+    check_fronts(&rt, rt.alloc(), &long_text(), &PIECES)?;
     Ok(())
 }
 
-/// Asserts what a sink holds that fails in one call, and that the next line goes out whole.
-fn check_failing(
-    rt: &impl Abort,
-    line: &mut Buffer,
-    sink: &mut MemSink,
-    text: &[u8],
-    call: u64,
-    written: usize,
-) {
+/// Whether a sink that fails in one call holds a front of the text then, and the next line goes out whole.
+fn fails(line: &mut Buffer, sink: &mut MemSink, text: &[u8], call: u64, written: usize) -> bool {
     let said = put_line(sink, line, &[Part::Text(text)]);
-    assert!(rt; said == Err(SinkFault), "at call {call}");
-    assert!(rt; sink.calls == call, "at call {call}");
-    assert!(rt; sink.bytes.len() == written, "at call {call}");
-    assert!(rt; text.starts_with(sink.bytes.as_slice()), "at call {call}");
-    let said = put_line(sink, line, &[Part::Text(b"next\n")]);
-    assert!(rt; said == Ok(()), "after call {call}");
-    assert!(rt;
-        sink.bytes.len() == written.saturating_add(5),
-        "after call {call}"
-    );
-    assert!(rt;
-        sink.bytes.as_slice().ends_with(b"next\n"),
-        "after call {call}"
-    );
+    said == Err(SinkFault)
+        && sink.calls == call
+        && sink.bytes.len() == written
+        && text.starts_with(sink.bytes.as_slice())
+        && put_line(sink, line, &[Part::Text(b"next\n")]) == Ok(())
+        && sink.bytes.len() == written.saturating_add(5)
+        && sink.bytes.as_slice().ends_with(b"next\n")
 }
 
 /// A sink that takes five bytes of the call of this number, and fails.
@@ -85,33 +76,58 @@ fn failing_sink(alloc: Global, call: u64) -> Result<MemSink, AllocError> {
     MemSink::new(alloc, 2048, failures)
 }
 
-#[test]
-fn a_failing_sink_is_not_called_again(rt: HostRuntime) -> Result<(), Fail> {
-    let text = long_text();
-    let mut line = Buffer::new(rt.alloc())?;
-    for (call, written) in [(1u64, 5), (2, 517), (3, 1025)] {
-        let mut sink = failing_sink(rt.alloc(), call)?;
-        check_failing(&rt, &mut line, &mut sink, &text, call, written);
+/// Calls that fail, and how many bytes were written then.
+const FAILURES: [(u64, usize); 3] = [(1, 5), (2, 517), (3, 1025)];
+
+/// Asserts of each row what a sink holds that fails in this call.
+fn check_failures(
+    rt: &impl Abort,
+    alloc: Global,
+    text: &[u8],
+    rows: &[(u64, usize)],
+) -> Result<(), AllocError> {
+    let mut line = Buffer::new(alloc)?;
+    for (call, written) in rows {
+        let mut sink = failing_sink(alloc, *call)?;
+        let fails = fails(&mut line, &mut sink, text, *call, *written);
+        assert!(rt; fails, "at call {call}");
     }
     Ok(())
 }
 
 #[test]
+fn a_failing_sink_is_not_called_again(rt: HostRuntime) -> Result<(), Fail> {
+    check_failures(&rt, rt.alloc(), &long_text(), &FAILURES)?;
+    Ok(())
+}
+
+/// Whether two texts are put as one line, which goes out at its end.
+fn is_one_line(
+    sink: &mut MemSink,
+    line: &mut Buffer,
+    first: &[Part<'_>],
+    second: &[Part<'_>],
+) -> bool {
+    put_parts(sink, line, first) == Ok(())
+        && put_parts(sink, line, second) == Ok(())
+        && sink.calls == 0
+        && end_line(sink, line) == Ok(())
+        && sink.calls == 1
+}
+
+#[test]
 fn a_line_has_each_kind_of_part(rt: HostRuntime) -> Result<(), Fail> {
-    let alloc = rt.alloc();
     let addr = Addr::new(0x01ff_0a00);
     let prefix = Prefix::new(addr, 8).expect(&rt, "a prefix");
-    let mut line = Buffer::new(alloc)?;
-    let mut sink = MemSink::new(alloc, 99, Vec::new(alloc))?;
     let numbers = [Part::Number(0), Part::Text(b" "), Part::Number(u64::MAX)];
-    assert!(rt; put_parts(&mut sink, &mut line, &numbers) == Ok(()));
     let addresses = [Part::Address(addr), Part::Text(b" "), Part::Prefix(prefix)];
-    assert!(rt; put_parts(&mut sink, &mut line, &addresses) == Ok(()));
-    assert!(rt; sink.calls == 0);
-    assert!(rt; end_line(&mut sink, &mut line) == Ok(()));
-    assert!(rt; sink.calls == 1);
+    let mut line = Buffer::new(rt.alloc())?;
+    let mut sink = MemSink::new(rt.alloc(), 99, Vec::new(rt.alloc()))?;
     let text = b"0 184467440737095516151.255.10.0 1.0.0.0/8";
-    assert!(rt; sink.bytes.as_slice() == text.as_slice());
+    assert!(rt;
+        is_one_line(&mut sink, &mut line, &numbers, &addresses)
+            && sink.bytes.as_slice() == text.as_slice()
+    );
     Ok(())
 }
 
@@ -155,23 +171,31 @@ fn route(alloc: Global, n: u8, source: Source, hops: &[Hop]) -> Result<Route, Fa
     })
 }
 
-/// Asserts what is printed of a table, in how many calls.
-fn check_routes(
-    rt: &impl Abort,
+/// Whether this is printed of a table, in so many calls.
+fn is_printed(
     alloc: Global,
     router: RouterId,
     table: &Table,
     text: &[u8],
     calls: u64,
-) -> Result<(), Fail> {
+) -> Result<bool, Fail> {
     let net = network(alloc)?;
+    Ok(is_table(alloc, &net, router, table, text, calls)?)
+}
+
+/// Whether this is printed of a router's table, in so many calls.
+fn is_table(
+    alloc: Global,
+    net: &Network,
+    router: RouterId,
+    table: &Table,
+    text: &[u8],
+    calls: u64,
+) -> Result<bool, AllocError> {
     let mut line = Buffer::new(alloc)?;
     let mut sink = MemSink::new(alloc, 2048, Vec::new(alloc))?;
-    let said = put_routes(&mut sink, &mut line, &net, router, table);
-    assert!(rt; said == Ok(()));
-    assert!(rt; sink.calls == calls);
-    assert!(rt; sink.bytes.as_slice() == text);
-    Ok(())
+    let said = put_routes(&mut sink, &mut line, net, router, table);
+    Ok(said == Ok(()) && sink.calls == calls && sink.bytes.as_slice() == text)
 }
 
 const SOURCES: &str = "router R1
@@ -185,35 +209,33 @@ const SOURCES: &str = "router R1
 10.0.7.0/24 ospf-e2 207/4294967288 null
 ";
 
-/// A table with a route of each source.
-fn each_source(alloc: Global) -> Result<Table, Fail> {
+/// Each source, with the number of its route.
+const EACH: [(u8, Source); 8] = [
+    (0, Source::Connected),
+    (1, Source::Static),
+    (2, Source::Ebgp),
+    (3, Source::Ibgp),
+    (4, Source::Ospf),
+    (5, Source::OspfIa),
+    (6, Source::OspfE1),
+    (7, Source::OspfE2),
+];
+
+/// A table with a route of each of these sources.
+fn table_of(alloc: Global, rows: &[(u8, Source)]) -> Result<Table, Fail> {
     let mut table = Table::new(alloc);
-    for (n, source) in [
-        (0, Source::Connected),
-        (1, Source::Static),
-        (2, Source::Ebgp),
-        (3, Source::Ibgp),
-        (4, Source::Ospf),
-        (5, Source::OspfIa),
-        (6, Source::OspfE1),
-        (7, Source::OspfE2),
-    ] {
-        table.push(route(alloc, n, source, &[Hop::Null])?)?;
+    for (n, source) in rows {
+        table.push(route(alloc, *n, *source, &[Hop::Null])?)?;
     }
     Ok(table)
 }
 
 #[test]
 fn a_table_has_each_source(rt: HostRuntime) -> Result<(), Fail> {
-    let table = each_source(rt.alloc())?;
-    check_routes(
-        &rt,
-        rt.alloc(),
-        RouterId::at(0),
-        &table,
-        SOURCES.as_bytes(),
-        9,
-    )
+    let table = table_of(rt.alloc(), &EACH)?;
+    let text = SOURCES.as_bytes();
+    assert!(rt; is_printed(rt.alloc(), RouterId::at(0), &table, text, 9)?);
+    Ok(())
 }
 
 /// A table with one route.
@@ -237,7 +259,8 @@ fn a_route_has_each_kind_of_hop(rt: HostRuntime) -> Result<(), Fail> {
         Hop::Dev(IfId { router, index: 2 }),
     ];
     let table = one_route(rt.alloc(), 9, Source::Static, &hops)?;
-    check_routes(&rt, rt.alloc(), router, &table, HOPS.as_bytes(), 2)
+    assert!(rt; is_printed(rt.alloc(), router, &table, HOPS.as_bytes(), 2)?);
+    Ok(())
 }
 
 /// A route with 300 hops as it is printed, of a router without a name.
@@ -254,7 +277,8 @@ fn text_of_300(alloc: Global) -> Result<Vec<u8>, AllocError> {
 fn a_route_may_have_300_hops(rt: HostRuntime) -> Result<(), Fail> {
     let text = text_of_300(rt.alloc())?;
     let table = one_route(rt.alloc(), 1, Source::Ebgp, &[Hop::Null; 300])?;
-    check_routes(&rt, rt.alloc(), RouterId::at(1), &table, text.as_slice(), 4)
+    assert!(rt; is_printed(rt.alloc(), RouterId::at(1), &table, text.as_slice(), 4)?);
+    Ok(())
 }
 
 /// The walk from the router R1 over its interfaces in turn.
@@ -269,40 +293,46 @@ fn walk(alloc: Global, stop: Stop) -> Result<Walk, AllocError> {
 
 const POSITIONS: &str = "at R1 self\nat R1 Loopback0\nat R1 Ethernet0\n";
 
-/// Asserts that a walk is printed as its positions and this last line.
-fn check_walk(
-    rt: &impl Abort,
-    alloc: Global,
-    net: &Network,
-    walk: &Walk,
-    last: &str,
-) -> Result<(), AllocError> {
+/// Whether a walk is printed as its positions and this last line.
+fn is_walk(alloc: Global, net: &Network, walk: &Walk, last: &str) -> Result<bool, AllocError> {
     let text = format!(in alloc; "{POSITIONS}{last}")?;
     let mut line = Buffer::new(alloc)?;
     let mut sink = MemSink::new(alloc, 128, Vec::new(alloc))?;
     let said = put_walk(&mut sink, &mut line, net, walk);
-    assert!(rt; said == Ok(()), "before {last}");
-    assert!(rt; sink.calls == 4, "before {last}");
-    assert!(rt; sink.bytes.as_slice() == text.as_bytes(), "before {last}");
+    Ok(said == Ok(()) && sink.calls == 4 && sink.bytes.as_slice() == text.as_bytes())
+}
+
+/// Ways to stop, and the line that is printed of them.
+const STOPS: [(Stop, &str); 9] = [
+    (Stop::At(Kind::DeniedIn), "end denied-in\n"),
+    (Stop::At(Kind::Accepted), "end accepted\n"),
+    (Stop::At(Kind::NoRoute), "end no-route\n"),
+    (Stop::At(Kind::NullRouted), "end null-routed\n"),
+    (Stop::At(Kind::DeniedOut), "end denied-out\n"),
+    (Stop::At(Kind::Unreachable), "end unreachable\n"),
+    (Stop::At(Kind::Exits), "end exits\n"),
+    (Stop::At(Kind::Delivered), "end delivered\n"),
+    (Stop::Loop, "end loop\n"),
+];
+
+/// Asserts of each row that a walk which stops so is printed with this last line.
+fn check_stops(
+    rt: &impl Abort,
+    alloc: Global,
+    net: &Network,
+    rows: &[(Stop, &str)],
+) -> Result<(), AllocError> {
+    for (stop, last) in rows {
+        let walk = walk(alloc, *stop)?;
+        let is_walk = is_walk(alloc, net, &walk, last)?;
+        assert!(rt; is_walk, "before {last}");
+    }
     Ok(())
 }
 
 #[test]
 fn a_walk_has_its_positions_and_each_way_to_stop(rt: HostRuntime) -> Result<(), Fail> {
     let net = network(rt.alloc())?;
-    for (stop, last) in [
-        (Stop::At(Kind::DeniedIn), "end denied-in\n"),
-        (Stop::At(Kind::Accepted), "end accepted\n"),
-        (Stop::At(Kind::NoRoute), "end no-route\n"),
-        (Stop::At(Kind::NullRouted), "end null-routed\n"),
-        (Stop::At(Kind::DeniedOut), "end denied-out\n"),
-        (Stop::At(Kind::Unreachable), "end unreachable\n"),
-        (Stop::At(Kind::Exits), "end exits\n"),
-        (Stop::At(Kind::Delivered), "end delivered\n"),
-        (Stop::Loop, "end loop\n"),
-    ] {
-        let walk = walk(rt.alloc(), stop)?;
-        check_walk(&rt, rt.alloc(), &net, &walk, last)?;
-    }
+    check_stops(&rt, rt.alloc(), &net, &STOPS)?;
     Ok(())
 }

@@ -32,6 +32,13 @@ fn no_routers(alloc: Global) -> Network
     }
 }
 
+/// Whether each of five workers passed once in one round.
+fn have_passed(counts: &Counts) -> bool {
+    counts.passes.load(Ordering::SeqCst) == 5
+        && counts.phases.load(Ordering::SeqCst) == 5
+        && counts.workers.load(Ordering::SeqCst) == 10
+}
+
 #[test]
 fn each_worker_passes_once_in_a_round(rt: HostRuntime) -> Result<(), Fail> {
     let counts = Counts {
@@ -42,8 +49,6 @@ fn each_worker_passes_once_in_a_round(rt: HostRuntime) -> Result<(), Fail> {
     let net = no_routers(rt.alloc());
     let outcome = run_rounds(&rt, &net, 1000, 5, &counts)?;
     assert!(rt; matches!(&outcome, Outcome::Fixed(1, state) if state.is_empty()));
-    assert!(rt; counts.passes.load(Ordering::SeqCst) == 5);
-    assert!(rt; counts.phases.load(Ordering::SeqCst) == 5);
-    assert!(rt; counts.workers.load(Ordering::SeqCst) == 10);
+    assert!(rt; have_passed(&counts));
     Ok(())
 }

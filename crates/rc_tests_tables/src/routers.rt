@@ -3,6 +3,17 @@ use rc_base::{Addr, Name};
 use rc_config::{Command, IfAddr, Named, RouterText};
 use std::test::Fail;
 
+/// The command of an address under a mask of this length.
+fn address_of(interface: &[u8], address: u32, len: u8) -> Option<Command> {
+    let interface = Name::new(interface)?;
+    let address = IfAddr::new(Addr::new(address), len)?;
+    Some(Command::Address {
+        interface,
+        address,
+        secondary: false,
+    })
+}
+
 /// Puts an address under a mask of this length.
 pub fn put_address(
     text: &mut RouterText,
@@ -10,11 +21,7 @@ pub fn put_address(
     address: u32,
     len: u8,
 ) -> Result<(), Fail> {
-    let command = Command::Address {
-        interface: Name::new(interface).ok_or("a name")?,
-        address: IfAddr::new(Addr::new(address), len).ok_or("a mask")?,
-        secondary: false,
-    };
+    let command = address_of(interface, address, len).ok_or("an address")?;
     Ok(text.apply(command)?)
 }
 

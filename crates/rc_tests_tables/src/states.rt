@@ -131,18 +131,29 @@ fn state_of(alloc: Global, changed: usize) -> Result<State, Fail> {
     Ok(state_with(Items::new(alloc), router_at(alloc, changed)?)?)
 }
 
-/// Asserts that two states are equal, or that they are not, both ways.
-fn check_equal(rt: &impl Abort, one: &State, other: &State, wanted: bool, field: usize) {
-    assert!(rt; equal(one, other) == wanted, "field {field}");
-    assert!(rt; equal(other, one) == wanted, "field {field}");
+/// Whether two states are equal, both ways.
+fn are_equal(one: &State, other: &State) -> bool {
+    equal(one, other) && equal(other, one)
 }
 
-/// Asserts that a state with a field changed is another, and equal to one that is made again.
-fn check_field(rt: &impl Abort, alloc: Global, state: &State, changed: usize) -> Result<(), Fail> {
+/// Whether two states are not equal, both ways.
+fn differ(one: &State, other: &State) -> bool {
+    !equal(one, other) && !equal(other, one)
+}
+
+/// Whether a state with a field changed is another, and equal to one that is made again.
+fn is_told_by(alloc: Global, state: &State, changed: usize) -> Result<bool, Fail> {
     let other = state_of(alloc, changed)?;
-    check_equal(rt, state, &other, false, changed);
     let again = state_of(alloc, changed)?;
-    check_equal(rt, &other, &again, true, changed);
+    Ok(differ(state, &other) && are_equal(&other, &again))
+}
+
+/// Asserts that a state is told by each of its fields.
+fn check_fields(rt: &impl Abort, alloc: Global, state: &State) -> Result<(), Fail> {
+    for changed in 0..FIELDS {
+        let is_told = is_told_by(alloc, state, changed)?;
+        assert!(rt; is_told, "field {changed}");
+    }
     Ok(())
 }
 
@@ -150,11 +161,8 @@ fn check_field(rt: &impl Abort, alloc: Global, state: &State, changed: usize) ->
 fn states_differ_in_each_field(rt: HostRuntime) -> Result<(), Fail> {
     let state = state_of(rt.alloc(), FIELDS)?;
     let again = state_of(rt.alloc(), FIELDS)?;
-    check_equal(&rt, &state, &again, true, FIELDS);
-    for changed in 0..FIELDS {
-        check_field(&rt, rt.alloc(), &state, changed)?;
-    }
-    Ok(())
+    assert!(rt; are_equal(&state, &again));
+    check_fields(&rt, rt.alloc(), &state)
 }
 
 /// A state of one router without its route.
@@ -180,10 +188,12 @@ fn longer(alloc: Global) -> Result<State, Fail> {
 #[test]
 fn states_differ_in_what_they_lack(rt: HostRuntime) -> Result<(), Fail> {
     let state = state_of(rt.alloc(), FIELDS)?;
-    check_equal(&rt, &state, &without_route(rt.alloc())?, false, FIELDS);
-    check_equal(&rt, &state, &without_path(rt.alloc())?, false, FIELDS);
-    check_equal(&rt, &state, &Items::new(rt.alloc()), false, FIELDS);
-    check_equal(&rt, &state, &longer(rt.alloc())?, false, FIELDS);
+    assert!(rt;
+        differ(&state, &without_route(rt.alloc())?)
+            && differ(&state, &without_path(rt.alloc())?)
+            && differ(&state, &Items::new(rt.alloc()))
+            && differ(&state, &longer(rt.alloc())?)
+    );
     Ok(())
 }
 
@@ -191,26 +201,28 @@ fn states_differ_in_what_they_lack(rt: HostRuntime) -> Result<(), Fail> {
 fn tables_are_the_same(rt: HostRuntime) -> Result<(), Fail> {
     let router = router_at(rt.alloc(), FIELDS)?;
     let other = router_at(rt.alloc(), 4)?;
-    assert!(rt; same_table(&router.table, &router.table));
-    assert!(rt; !same_table(&router.table, &other.table));
+    assert!(rt;
+        same_table(&router.table, &router.table) && !same_table(&router.table, &other.table)
+    );
     Ok(())
 }
 
-/// Asserts that a copy of what a router knows is equal to it.
-fn check_copy(rt: &impl Abort, alloc: Global, router: &RouterState) -> Result<(), AllocError> {
-    let copied = copy(alloc, router)?;
-    assert!(rt; copied == *router);
-    assert!(rt; copied.table.len() == 1);
-    assert!(rt; copied.paths.len() == 1);
-    Ok(())
+/// Whether a copy of what a router knows where a field is changed is equal to it.
+fn is_copied(alloc: Global, changed: usize) -> Result<bool, Fail> {
+    let router = router_at(alloc, changed)?;
+    let copied = copy(alloc, &router)?;
+    Ok(copied == router && copied.table.len() == 1 && copied.paths.len() == 1)
 }
 
 #[test]
 fn copies_are_equal(rt: HostRuntime) -> Result<(), Fail> {
-    for changed in [FIELDS, 4, 11, 12] {
-        let router = router_at(rt.alloc(), changed)?;
-        check_copy(&rt, rt.alloc(), &router)?;
-    }
+    let alloc = rt.alloc();
+    assert!(rt;
+        is_copied(alloc, FIELDS)?
+            && is_copied(alloc, 4)?
+            && is_copied(alloc, 11)?
+            && is_copied(alloc, 12)?
+    );
     Ok(())
 }
 
@@ -219,6 +231,18 @@ fn device(index: usize) -> IfId {
         router: RouterId::at(0),
         index,
     }
+}
+
+/// Whether these stand in their order.
+fn are_hops_in_order(hops: &[Hop]) -> bool {
+    for (index, hop) in hops.iter().enumerate() {
+        for (other_index, other) in hops.iter().enumerate() {
+            if compare_hops(hop, other) != index.cmp(&other_index) {
+                return false;
+            }
+        }
+    }
+    true
 }
 
 #[test]
@@ -233,57 +257,59 @@ fn hops_in_order(rt: HostRuntime) {
         Hop::Via(Addr::new(0xc0a8_0001), None),
         Hop::Via(Addr::new(0xc0a8_0001), Some(device(1))),
     ];
-    for (index, hop) in hops.iter().enumerate() {
-        for (other_index, other) in hops.iter().enumerate() {
-            let found = compare_hops(hop, other);
-            assert!(rt;
-                found == index.cmp(&other_index),
-                "{index} and {other_index}"
-            );
+    assert!(rt; are_hops_in_order(&hops));
+}
+
+const SOURCES: [Source; 8] = [
+    Source::Connected,
+    Source::Static,
+    Source::Ebgp,
+    Source::Ospf,
+    Source::OspfIa,
+    Source::OspfE1,
+    Source::OspfE2,
+    Source::Ibgp,
+];
+
+/// Whether these stand in their order.
+fn are_sources_in_order(sources: &[Source]) -> bool {
+    for (index, source) in sources.iter().enumerate() {
+        for (other_index, other) in sources.iter().enumerate() {
+            if compare_sources(*source, *other) != index.cmp(&other_index) {
+                return false;
+            }
         }
     }
+    true
 }
 
 #[test]
 fn sources_in_order(rt: HostRuntime) {
-    let sources = [
-        Source::Connected,
-        Source::Static,
-        Source::Ebgp,
-        Source::Ospf,
-        Source::OspfIa,
-        Source::OspfE1,
-        Source::OspfE2,
-        Source::Ibgp,
-    ];
+    assert!(rt; are_sources_in_order(&SOURCES));
+}
+
+const PATH_SOURCES: [PathSource; 6] = [
+    PathSource::Network,
+    PathSource::Connected,
+    PathSource::Static,
+    PathSource::Ospf,
+    PathSource::External,
+    PathSource::Internal,
+];
+
+/// Whether these stand in their order.
+fn are_path_sources_in_order(sources: &[PathSource]) -> bool {
     for (index, source) in sources.iter().enumerate() {
         for (other_index, other) in sources.iter().enumerate() {
-            let found = compare_sources(*source, *other);
-            assert!(rt;
-                found == index.cmp(&other_index),
-                "{index} and {other_index}"
-            );
+            if compare_path_sources(*source, *other) != index.cmp(&other_index) {
+                return false;
+            }
         }
     }
+    true
 }
 
 #[test]
 fn path_sources_in_order(rt: HostRuntime) {
-    let sources = [
-        PathSource::Network,
-        PathSource::Connected,
-        PathSource::Static,
-        PathSource::Ospf,
-        PathSource::External,
-        PathSource::Internal,
-    ];
-    for (index, source) in sources.iter().enumerate() {
-        for (other_index, other) in sources.iter().enumerate() {
-            let found = compare_path_sources(*source, *other);
-            assert!(rt;
-                found == index.cmp(&other_index),
-                "{index} and {other_index}"
-            );
-        }
-    }
+    assert!(rt; are_path_sources_in_order(&PATH_SOURCES));
 }

@@ -12,7 +12,6 @@ use rc_route::{Hop, Hops, Route, RouterState, Source, State};
 use rc_topology::Links;
 use rc_walk::{Move, Plane, Stop, Walk, shortest, step, trace};
 use std::alloc::{AllocError, Global};
-use std::process::Abort;
 use std::test::Fail;
 
 fn device(router: usize, index: usize) -> IfId {
@@ -134,11 +133,10 @@ fn walk(alloc: Global, hop: &Hop, dst: u32) -> Result<Walk, Fail> {
     Ok(walk_over(alloc, &net, &state, &to(dst))?)
 }
 
-/// Asserts how that walk stops.
-fn check_end(rt: &impl Abort, alloc: Global, hop: &Hop, dst: u32, kind: Kind) -> Result<(), Fail> {
+/// Whether that walk ends so.
+fn ends_as(alloc: Global, hop: &Hop, dst: u32, kind: Kind) -> Result<bool, Fail> {
     let walk = walk(alloc, hop, dst)?;
-    assert!(rt; walk.stop == Stop::At(kind), "to {dst}");
-    Ok(())
+    Ok(walk.stop == Stop::At(kind))
 }
 
 #[test]
@@ -147,23 +145,22 @@ fn a_walk_ends_in_each_way(rt: HostRuntime) -> Result<(), Fail> {
     let nobody = Hop::Via(Addr::new(0x0a00_0009), Some(device(0, 0)));
     let unresolved = Hop::Via(Addr::new(0x0a00_0002), None);
     let loopback = Hop::Dev(device(0, 1));
-    for (hop, dst, kind) in [
-        (&straight, 0x0101_0101, Kind::Accepted),
-        (&unresolved, 0x0808_0808, Kind::NoRoute),
-        (&Hop::Null, 0x0808_0808, Kind::NullRouted),
-        (&loopback, 0x0101_0109, Kind::Unreachable),
-        (&nobody, 0x0808_0808, Kind::Exits),
-        (&straight, 0x0808_0808, Kind::Exits),
-        (&straight, 0x0a00_0009, Kind::Delivered),
-    ] {
-        check_end(&rt, rt.alloc(), hop, dst, kind)?;
-    }
+    let alloc = rt.alloc();
+    assert!(rt;
+        ends_as(alloc, &straight, 0x0101_0101, Kind::Accepted)?
+            && ends_as(alloc, &unresolved, 0x0808_0808, Kind::NoRoute)?
+            && ends_as(alloc, &Hop::Null, 0x0808_0808, Kind::NullRouted)?
+            && ends_as(alloc, &loopback, 0x0101_0109, Kind::Unreachable)?
+            && ends_as(alloc, &nobody, 0x0808_0808, Kind::Exits)?
+            && ends_as(alloc, &straight, 0x0808_0808, Kind::Exits)?
+            && ends_as(alloc, &straight, 0x0a00_0009, Kind::Delivered)?
+    );
     Ok(())
 }
 
-fn check_walk(rt: &impl Abort, walk: &Walk, stop: Stop, positions: &[Pos]) {
-    assert!(rt; walk.stop == stop);
-    assert!(rt; walk.positions.as_slice() == positions);
+/// Whether the walk is this.
+fn is_walk(walk: &Walk, stop: Stop, positions: &[Pos]) -> bool {
+    walk.stop == stop && walk.positions.as_slice() == positions
 }
 
 #[test]
@@ -174,24 +171,29 @@ fn a_walk_has_its_positions(rt: HostRuntime) -> Result<(), Fail> {
         Pos::Entering(device(1, 0)),
         Pos::Entering(device(0, 0)),
     ];
+    let straight = [home(), Pos::Entering(device(1, 0))];
     let taken = walk(rt.alloc(), &there, 0x0202_0202)?;
-    check_walk(
-        &rt,
-        &taken,
-        Stop::At(Kind::Accepted),
-        &[home(), Pos::Entering(device(1, 0))],
-    );
     let forth_and_back = walk(rt.alloc(), &there, 0x0808_0808)?;
-    check_walk(&rt, &forth_and_back, Stop::Loop, &around);
+    assert!(rt;
+        is_walk(&taken, Stop::At(Kind::Accepted), &straight)
+            && is_walk(&forth_and_back, Stop::Loop, &around)
+    );
     Ok(())
 }
 
-fn check_plane(rt: &impl Abort, plane: &Plane<'_>) {
+/// Whether the plane is that of the two routers.
+fn is_plane(plane: &Plane<'_>) -> bool {
     let owner = RouterId::at(1);
-    assert!(rt; plane.links().is_own(owner, Addr::new(0x0a00_0002)));
-    assert!(rt; plane.network().routers.len() == 2);
-    assert!(rt; plane.fib(owner).is_some());
-    assert!(rt; plane.fib(RouterId::at(2)).is_none());
+    plane.links().is_own(owner, Addr::new(0x0a00_0002))
+        && plane.network().routers.len() == 2
+        && plane.fib(owner).is_some()
+        && plane.fib(RouterId::at(2)).is_none()
+}
+
+/// Whether one step leads from the first router to the second one.
+fn steps_over(plane: &Plane<'_>) -> bool {
+    let mut moves = step(plane, home(), &to(0x0a00_0002));
+    moves.next() == Some(Move::Next(Pos::Entering(device(1, 0)))) && moves.next().is_none()
 }
 
 #[test]
@@ -200,10 +202,7 @@ fn a_step_leads_to_the_next_router(rt: HostRuntime) -> Result<(), Fail> {
     let links = Links::of(rt.alloc(), &net)?;
     let known = state(rt.alloc(), &Hop::Dev(device(0, 0)), &Hop::Null)?;
     let plane = Plane::of(rt.alloc(), &net, &links, &known)?;
-    let mut moves = step(&plane, home(), &to(0x0a00_0002));
-    assert!(rt; moves.next() == Some(Move::Next(Pos::Entering(device(1, 0)))));
-    assert!(rt; moves.next().is_none());
-    check_plane(&rt, &plane);
+    assert!(rt; steps_over(&plane) && is_plane(&plane));
     Ok(())
 }
 
@@ -218,17 +217,26 @@ fn filtered_walk(alloc: Global, direction: Direction, src: u32) -> Result<Walk, 
     Ok(walk_over(alloc, &net, &known, &header)?)
 }
 
+/// Whether that walk stops so.
+fn stops(alloc: Global, direction: Direction, src: u32, stop: Stop) -> Result<bool, Fail> {
+    let walk = filtered_walk(alloc, direction, src)?;
+    Ok(walk.stop == stop)
+}
+
 #[test]
 fn access_lists_end_a_walk(rt: HostRuntime) -> Result<(), Fail> {
-    for (direction, src, stop) in [
-        (Direction::In, 0x0a00_0007, Stop::Loop),
-        (Direction::In, 0x0a00_0008, Stop::At(Kind::DeniedIn)),
-        (Direction::Out, 0x0a00_0007, Stop::Loop),
-        (Direction::Out, 0x0a00_0008, Stop::At(Kind::DeniedOut)),
-    ] {
-        let walk = filtered_walk(rt.alloc(), direction, src)?;
-        assert!(rt; walk.stop == stop, "from {src}");
-    }
+    let alloc = rt.alloc();
+    assert!(rt;
+        stops(alloc, Direction::In, 0x0a00_0007, Stop::Loop)?
+            && stops(alloc, Direction::In, 0x0a00_0008, Stop::At(Kind::DeniedIn))?
+            && stops(alloc, Direction::Out, 0x0a00_0007, Stop::Loop)?
+            && stops(
+                alloc,
+                Direction::Out,
+                0x0a00_0008,
+                Stop::At(Kind::DeniedOut)
+            )?
+    );
     Ok(())
 }
 
@@ -269,21 +277,23 @@ fn shortest_walk(alloc: Global, hop: &Hop, dst: u32, ends: Ends) -> Result<Optio
     Ok(shortest_over(alloc, &net, &state, dst, ends)?)
 }
 
+/// Whether there is a walk, and it is this.
+fn is_there(walk: &Option<Walk>, stop: Stop, positions: &[Pos]) -> bool {
+    match walk {
+        Some(walk) => is_walk(walk, stop, positions),
+        None => false,
+    }
+}
+
 #[test]
 fn the_shortest_walk_ends_as_asked(rt: HostRuntime) -> Result<(), Fail> {
     let there = Hop::Via(Addr::new(0x0a00_0002), Some(device(0, 0)));
-    match &shortest_walk(rt.alloc(), &there, 0x0202_0202, ends(true, true))? {
-        Some(walk) => {
-            let positions = [home(), Pos::Entering(device(1, 0))];
-            check_walk(&rt, walk, Stop::At(Kind::Accepted), &positions);
-        }
-        None => assert!(rt; false, "no walk to the second router"),
-    }
+    let straight = [home(), Pos::Entering(device(1, 0))];
+    let found = shortest_walk(rt.alloc(), &there, 0x0202_0202, ends(true, true))?;
+    assert!(rt; is_there(&found, Stop::At(Kind::Accepted), &straight));
     let nobody = Hop::Via(Addr::new(0x0a00_0009), Some(device(0, 0)));
-    match &shortest_walk(rt.alloc(), &nobody, 0x0808_0808, ends(true, false))? {
-        Some(walk) => check_walk(&rt, walk, Stop::At(Kind::Exits), &[home()]),
-        None => assert!(rt; false, "no walk out of the network"),
-    }
+    let out = shortest_walk(rt.alloc(), &nobody, 0x0808_0808, ends(true, false))?;
+    assert!(rt; is_there(&out, Stop::At(Kind::Exits), &[home()]));
     Ok(())
 }
 
@@ -291,9 +301,8 @@ fn the_shortest_walk_ends_as_asked(rt: HostRuntime) -> Result<(), Fail> {
 fn no_walk_ends_as_asked(rt: HostRuntime) -> Result<(), Fail> {
     let there = Hop::Via(Addr::new(0x0a00_0002), Some(device(0, 0)));
     let nobody = Hop::Via(Addr::new(0x0a00_0009), Some(device(0, 0)));
-    for (hop, asked) in [(&there, ends(true, true)), (&nobody, ends(false, true))] {
-        let none = shortest_walk(rt.alloc(), hop, 0x0808_0808, asked)?;
-        assert!(rt; none.is_none());
-    }
+    let round = shortest_walk(rt.alloc(), &there, 0x0808_0808, ends(true, true))?;
+    let out = shortest_walk(rt.alloc(), &nobody, 0x0808_0808, ends(false, true))?;
+    assert!(rt; round.is_none() && out.is_none());
     Ok(())
 }

@@ -5,7 +5,6 @@ use rc_config::{
     Named, PortTest, Ports, ProtocolTest, RouterText,
 };
 use std::alloc::{AllocError, Global};
-use std::process::Abort;
 use std::test::Fail;
 
 /// A line `permit tcp host 10.0.0.1 any neq 22 23` of this number.
@@ -41,67 +40,65 @@ fn three_lines(alloc: Global, ports: Ports) -> Result<AccessList, AllocError> {
     access_list.with_line(AccessListLine::standard(20, Action::Deny, AddressTest::any()))
 }
 
-/// Asserts which lines are there.
-fn check_three(rt: &impl Abort, access_list: &AccessList) {
-    assert!(rt; access_list.lines.len() == 3);
-    assert!(rt; access_list.greatest() == Some(30));
-    for (sequence, wanted) in [(10, true), (15, false), (20, true), (30, true), (31, false)] {
-        assert!(rt; access_list.has_line(sequence) == wanted, "at {sequence}");
-    }
+/// Whether the list has just the lines 10, 20 and 30.
+fn has_three(access_list: &AccessList) -> bool {
+    access_list.lines.len() == 3
+        && access_list.greatest() == Some(30)
+        && access_list.has_line(10)
+        && !access_list.has_line(15)
+        && access_list.has_line(20)
+        && access_list.has_line(30)
+        && !access_list.has_line(31)
 }
 
-/// Asserts the action of a line, and how many ports it names.
-fn check_line(
-    rt: &impl Abort,
-    access_list: &AccessList,
-    sequence: u32,
-    action: Action,
-    ports: usize,
-) {
+/// Whether a line has this action, and names so many ports.
+fn is_line(access_list: &AccessList, sequence: u32, action: Action, ports: usize) -> bool {
     match access_list.lines.get(sequence) {
         Some(line) => {
-            assert!(rt; line.sequence == sequence);
-            assert!(rt; line.action == action);
-            assert!(rt; named_ports(&line.destination_port) == ports);
+            line.sequence == sequence
+                && line.action == action
+                && named_ports(&line.destination_port) == ports
         }
-        None => assert!(rt; false, "no line {sequence}"),
+        None => false,
     }
 }
 
-/// Asserts the lines 10, 20 and 30, and that they come in this order.
-fn check_lines(rt: &impl Abort, access_list: &AccessList) {
-    check_three(rt, access_list);
-    check_line(rt, access_list, 10, Action::Permit, 2);
-    check_line(rt, access_list, 20, Action::Deny, 0);
-    check_line(rt, access_list, 30, Action::Permit, 2);
+/// Whether the lines come by rising numbers.
+fn are_rising(access_list: &AccessList) -> bool {
     let mut before = 0;
     for line in access_list.lines.iter() {
-        assert!(rt; before < line.sequence);
+        if line.sequence <= before {
+            return false;
+        }
         before = line.sequence;
     }
+    true
 }
 
 #[test]
 fn lines_by_number(rt: HostRuntime) -> Result<(), Fail> {
     let ports = Ports::new(22).with_port(23).expect(&rt, "two ports");
     let access_list = three_lines(rt.alloc(), ports)?;
-    check_lines(&rt, &access_list);
+    assert!(rt; has_three(&access_list) && are_rising(&access_list));
+    assert!(rt;
+        is_line(&access_list, 10, Action::Permit, 2)
+            && is_line(&access_list, 20, Action::Deny, 0)
+            && is_line(&access_list, 30, Action::Permit, 2)
+    );
     Ok(())
 }
 
-/// Puts a list under a name, and then one without lines in its place.
+/// Puts a list under a name, and then one without lines in its place. Whether none stood there before the first, and one before the
+/// second.
 fn put_two(
-    rt: &impl Abort,
     access_lists: &mut Named<AccessList>,
     name: Name,
     full: AccessList,
-) -> Result<(), AllocError> {
-    let before = access_lists.insert(name, full)?;
-    assert!(rt; before.is_none());
+) -> Result<bool, AllocError> {
+    let first = access_lists.insert(name, full)?.is_none();
     let empty = AccessList::new(access_lists.allocator(), AccessListKind::Standard);
-    let before = access_lists.insert(name, empty)?;
-    assert!(rt; before.is_some());
-    Ok(())
+    let second = access_lists.insert(name, empty)?.is_some();
+    Ok(first && second)
 }
 
 #[test]
@@ -109,18 +106,16 @@ fn lists_under_names(rt: HostRuntime) -> Result<(), Fail> {
     let name = Name::new(b"101").expect(&rt, "101");
     let full = three_lines(rt.alloc(), Ports::new(22))?;
     let mut access_lists = Named::new(rt.alloc());
-    put_two(&rt, &mut access_lists, name, full)?;
-    check_empty(&rt, access_lists.get(&name));
+    let is_put = put_two(&mut access_lists, name, full)?;
+    assert!(rt; is_put && is_empty(access_lists.get(&name)));
     Ok(())
 }
 
-fn check_empty(rt: &impl Abort, access_list: Option<&AccessList>) {
+/// Whether it is a standard list without lines.
+fn is_empty(access_list: Option<&AccessList>) -> bool {
     match access_list {
-        Some(found) => {
-            assert!(rt; found.kind == AccessListKind::Standard);
-            assert!(rt; found.greatest().is_none());
-        }
-        None => assert!(rt; false, "no list"),
+        Some(found) => found.kind == AccessListKind::Standard && found.greatest().is_none(),
+        None => false,
     }
 }
 
@@ -133,21 +128,22 @@ fn replaced(alloc: Global) -> Result<AccessList, AllocError> {
 #[test]
 fn a_line_in_place_of_another(rt: HostRuntime) -> Result<(), Fail> {
     let access_list = replaced(rt.alloc())?;
-    check_three(&rt, &access_list);
-    check_line(&rt, &access_list, 10, Action::Deny, 0);
+    assert!(rt; has_three(&access_list) && is_line(&access_list, 10, Action::Deny, 0));
     Ok(())
 }
 
 #[test]
 fn one_to_ten_ports(rt: HostRuntime) {
-    assert!(rt; Ports::from_slice(&[]).is_none());
-    assert!(rt; Ports::from_slice(&[80; 11]).is_none());
     let ten = Ports::from_slice(&[80; 10]).expect(&rt, "ten ports");
-    assert!(rt; ten.with_port(80).is_none());
     let two = Ports::from_slice(&[22, 23]).expect(&rt, "two ports");
-    assert!(rt; Ports::new(22).with_port(23) == Some(two));
-    assert!(rt; two < ten);
-    assert!(rt; Ports::new(22) < two);
+    assert!(rt;
+        Ports::from_slice(&[]).is_none()
+            && Ports::from_slice(&[80; 11]).is_none()
+            && ten.with_port(80).is_none()
+            && Ports::new(22).with_port(23) == Some(two)
+            && two < ten
+            && Ports::new(22) < two
+    );
 }
 
 /// The model with these lines of a list more.
@@ -206,21 +202,27 @@ fn model(
     with_groups(text, interface, &groups)
 }
 
-fn check_lists(rt: &impl Abort, access_lists: &Named<AccessList>, list: &Name, empty: &Name) {
-    assert!(rt; access_lists.len() == 2);
-    assert!(rt; access_lists.index_of(empty) == Some(1));
+/// Whether there are just a list of the lines 10 and 20, and then an empty one.
+fn has_lists(access_lists: &Named<AccessList>, list: &Name, empty: &Name) -> bool {
     match access_lists.get(list) {
         Some(found) => {
-            assert!(rt; found.lines.len() == 2);
-            assert!(rt; found.greatest() == Some(20));
+            found.lines.len() == 2
+                && found.greatest() == Some(20)
+                && access_lists.len() == 2
+                && access_lists.index_of(empty) == Some(1)
         }
-        None => assert!(rt; false, "no list"),
+        None => false,
     }
 }
 
-fn check_groups(rt: &impl Abort, block: &Interface, inbound: Name, outbound: Name) {
-    assert!(rt; block.access_group_in == Some(inbound));
-    assert!(rt; block.access_group_out == Some(outbound));
+/// Whether these lists are asked at the interface.
+fn has_groups(block: Option<&Interface>, inbound: Name, outbound: Name) -> bool {
+    match block {
+        Some(block) => {
+            block.access_group_in == Some(inbound) && block.access_group_out == Some(outbound)
+        }
+        None => false,
+    }
 }
 
 #[test]
@@ -229,10 +231,7 @@ fn lists_of_a_router(rt: HostRuntime) -> Result<(), Fail> {
     let empty = Name::new(b"WEB").expect(&rt, "WEB");
     let interface = Name::new(b"Serial1").expect(&rt, "Serial1");
     let text = model(rt.alloc(), list, empty, interface)?;
-    check_lists(&rt, &text.lists.access_lists, &list, &empty);
-    match text.interfaces.get(&interface) {
-        Some(block) => check_groups(&rt, block, empty, list),
-        None => assert!(rt; false, "no interface"),
-    }
+    assert!(rt; has_lists(&text.lists.access_lists, &list, &empty));
+    assert!(rt; has_groups(text.interfaces.get(&interface), empty, list));
     Ok(())
 }

@@ -6,6 +6,34 @@ use rc_openings::{LineError, LineRefusal};
 use std::alloc::Global;
 use std::process::Abort;
 
+/// The refusal that an error is.
+fn refusal_in(error: Option<LineError>) -> Option<LineRefusal> {
+    match error {
+        Some(LineError::Refused(refusal)) => Some(refusal),
+        _ => None,
+    }
+}
+
+/// Whether a line that says this is passed over.
+fn is_passed(said: &Command) -> bool {
+    matches!(said, Command::Passed)
+}
+
+/// Whether the line is passed over in the block.
+fn passes(file: &RouterText, block: &OpenBlock, line: &Line<'_>) -> bool {
+    let block = *block;
+    match &read_line(line, Context { block, file }) {
+        Ok(said) => is_passed(said),
+        Err(_) => false,
+    }
+}
+
+/// How the line is refused in the block.
+fn refusal_of(file: &RouterText, block: &OpenBlock, line: &Line<'_>) -> Option<LineRefusal> {
+    let block = *block;
+    refusal_in(read_line(line, Context { block, file }).err())
+}
+
 /// Whether the line is refused so in the block, or is passed over where there is no refusal.
 fn says(
     file: &RouterText,
@@ -13,19 +41,9 @@ fn says(
     line: &Line<'_>,
     refusal: Option<LineRefusal>,
 ) -> bool {
-    match (
-        &read_line(
-            line,
-            Context {
-                block: *block,
-                file,
-            },
-        ),
-        refusal,
-    ) {
-        (Ok(Command::Passed), None) => true,
-        (Err(found), Some(wanted)) => *found == LineError::Refused(wanted),
-        _ => false,
+    match refusal {
+        Some(_) => refusal_of(file, block, line) == refusal,
+        None => passes(file, block, line),
     }
 }
 
@@ -50,18 +68,9 @@ pub fn all_say(
 }
 
 /// How the first line of the text is refused in the block.
-fn refusal_of(file: &RouterText, block: &OpenBlock, text: &[u8]) -> Option<LineRefusal> {
+fn first_refusal(file: &RouterText, block: &OpenBlock, text: &[u8]) -> Option<LineRefusal> {
     let line = Lines::new(text).next()?;
-    match &read_line(
-        &line,
-        Context {
-            block: *block,
-            file,
-        },
-    ) {
-        Err(LineError::Refused(refusal)) => Some(*refusal),
-        _ => None,
-    }
+    refusal_of(file, block, &line)
 }
 
 /// Asserts of each line how it is refused in the block, or that it is a command where there is no refusal.
@@ -73,7 +82,15 @@ pub fn check_lines(
 ) {
     let file = RouterText::new(alloc);
     for (text, refusal) in lines {
-        assert!(rt; refusal_of(&file, block, text) == *refusal, "{text:?}");
+        assert!(rt; first_refusal(&file, block, text) == *refusal, "{text:?}");
+    }
+}
+
+/// The static route that a command is.
+fn route_said(said: &Command) -> Option<StaticRoute> {
+    match said {
+        Command::StaticRoute { route } => Some(*route),
+        _ => None,
     }
 }
 
@@ -81,8 +98,8 @@ pub fn check_lines(
 fn route_of(file: &RouterText, line: &Line<'_>) -> Option<StaticRoute> {
     let block = OpenBlock::Global;
     match &read_line(line, Context { block, file }) {
-        Ok(Command::StaticRoute { route }) => Some(*route),
-        _ => None,
+        Ok(said) => route_said(said),
+        Err(_) => None,
     }
 }
 

@@ -1,6 +1,7 @@
 //! Files cut into lines, lines into words, and addresses that words write. Expected lines stand with a bar between them,
 //! expected words with a comma.
 use rc_lines::{Lines, Part, Words, word_addr};
+use std::process::Abort;
 
 /// Whether the file has just these lines, numbered from 1.
 fn has_lines(file: &[u8], wanted: &[u8]) -> bool {
@@ -18,26 +19,36 @@ fn has_lines(file: &[u8], wanted: &[u8]) -> bool {
     lines.next().is_none()
 }
 
-#[test]
-fn cuts_lines_at_lf_and_crlf(rt: HostRuntime) {
-    for (file, wanted, what) in [
-        (b"a\nb\n".as_slice(), b"a|b".as_slice(), "LF"),
-        (b"a\r\nb\r\n", b"a|b", "CRLF"),
-        (b"a\r\n\nb\n", b"a||b", "both, and an empty line"),
-        (b"a\nb", b"a|b", "a last line without an end"),
-        (b"a\nb\r", b"a|b\r", "a return that no LF follows"),
-        (
-            b"a\rb\r\r\n",
-            b"a\rb\r",
-            "one return of an end, and the others of the text",
-        ),
-        (b"\n", b"", "one empty line"),
-        (b"\r", b"\r", "a return alone"),
-        (b" \t\n", b" \t", "blanks alone"),
-        (b"\x00\xff\n\xff", b"\x00\xff|\xff", "bytes of no text"),
-    ] {
+/// A file, what it is cut into, and what it shows.
+type Row = (&'static [u8], &'static [u8], &'static str);
+
+/// Files, and their lines.
+const CUT: [Row; 10] = [
+    (b"a\nb\n", b"a|b", "LF"),
+    (b"a\r\nb\r\n", b"a|b", "CRLF"),
+    (b"a\r\n\nb\n", b"a||b", "both, and an empty line"),
+    (b"a\nb", b"a|b", "a last line without an end"),
+    (b"a\nb\r", b"a|b\r", "a return that no LF follows"),
+    (
+        b"a\rb\r\r\n",
+        b"a\rb\r",
+        "one return of an end, and the others of the text",
+    ),
+    (b"\n", b"", "one empty line"),
+    (b"\r", b"\r", "a return alone"),
+    (b" \t\n", b" \t", "blanks alone"),
+    (b"\x00\xff\n\xff", b"\x00\xff|\xff", "bytes of no text"),
+];
+
+fn check_lines(rt: &impl Abort, rows: &[Row]) {
+    for (file, wanted, what) in rows {
         assert!(rt; has_lines(file, wanted), "{what}");
     }
+}
+
+#[test]
+fn cuts_lines_at_lf_and_crlf(rt: HostRuntime) {
+    check_lines(&rt, &CUT);
     assert!(rt; Lines::new(b"").next().is_none(), "an empty file");
 }
 
@@ -57,20 +68,27 @@ fn has_words(file: &[u8], wanted: &[u8]) -> bool {
     words.next_word().is_none()
 }
 
-#[test]
-fn cuts_words_at_blanks(rt: HostRuntime) {
-    for (file, wanted, what) in [
-        (b"ip route\n".as_slice(), b"ip,route".as_slice(), "a space"),
-        (
-            b"\tip\t \troute \r\n",
-            b"ip,route",
-            "tabs, blanks at both ends",
-        ),
-        (b"a\r", b"a\r", "a return in the last line"),
-        (b"\x00 \xff", b"\x00,\xff", "bytes of no text"),
-    ] {
+/// Files, and the words of their first lines.
+const WORDS: [Row; 4] = [
+    (b"ip route\n", b"ip,route", "a space"),
+    (
+        b"\tip\t \troute \r\n",
+        b"ip,route",
+        "tabs, blanks at both ends",
+    ),
+    (b"a\r", b"a\r", "a return in the last line"),
+    (b"\x00 \xff", b"\x00,\xff", "bytes of no text"),
+];
+
+fn check_words(rt: &impl Abort, rows: &[Row]) {
+    for (file, wanted, what) in rows {
         assert!(rt; has_words(file, wanted), "{what}");
     }
+}
+
+#[test]
+fn cuts_words_at_blanks(rt: HostRuntime) {
+    check_words(&rt, &WORDS);
     assert!(rt; Words::new(b" \t ").next_word().is_none(), "blanks alone");
     assert!(rt; Words::new(b"").next_word().is_none(), "nothing");
 }
@@ -83,17 +101,24 @@ fn begins_flush(file: &[u8]) -> bool {
     }
 }
 
+/// Files, and whether their first lines have no indent.
+const FLUSH: [(&[u8], bool, &str); 5] = [
+    (b"ip route\n", true, "no blank in front"),
+    (b"\n", true, "an empty line"),
+    (b"\r", true, "a return is no blank"),
+    (b" ip route\n", false, "a space"),
+    (b"\tip route\n", false, "a tab"),
+];
+
+fn check_flush(rt: &impl Abort, rows: &[(&[u8], bool, &str)]) {
+    for (file, flush, what) in rows {
+        assert!(rt; begins_flush(file) == *flush, "{what}");
+    }
+}
+
 #[test]
 fn tells_an_indent(rt: HostRuntime) {
-    for (file, flush, what) in [
-        (b"ip route\n".as_slice(), true, "no blank in front"),
-        (b"\n", true, "an empty line"),
-        (b"\r", true, "a return is no blank"),
-        (b" ip route\n", false, "a space"),
-        (b"\tip route\n", false, "a tab"),
-    ] {
-        assert!(rt; begins_flush(file) == flush, "{what}");
-    }
+    check_flush(&rt, &FLUSH);
 }
 
 /// Whether the lines of the file have just these parts.
@@ -108,32 +133,39 @@ fn has_parts(file: &[u8], wanted: &[Part]) -> bool {
     lines.next().is_none()
 }
 
-#[test]
-fn passes_over_banners(rt: HostRuntime) {
-    for (file, parts, what) in [
-        (
-            b"banner motd ^C\r\n a\r\nb ^C c\r\nend\r\n".as_slice(),
-            [Part::Banner, Part::InBanner, Part::InBanner, Part::Plain].as_slice(),
-            "closed on a later line",
-        ),
-        (
-            b"banner motd #hi#\nend\n",
-            &[Part::Banner, Part::Plain],
-            "closed on its own line",
-        ),
-        (
-            b"banner motd #\nbanner exec x\n",
-            &[Part::OpenBanner, Part::InBanner],
-            "closed by no line",
-        ),
-        (
-            b"banner motd\nend\n",
-            &[Part::ShortBanner, Part::Plain],
-            "without a delimiter",
-        ),
-    ] {
+/// Files with a banner, and the parts that their lines are.
+const BANNERS: [(&[u8], &[Part], &str); 4] = [
+    (
+        b"banner motd ^C\r\n a\r\nb ^C c\r\nend\r\n",
+        &[Part::Banner, Part::InBanner, Part::InBanner, Part::Plain],
+        "closed on a later line",
+    ),
+    (
+        b"banner motd #hi#\nend\n",
+        &[Part::Banner, Part::Plain],
+        "closed on its own line",
+    ),
+    (
+        b"banner motd #\nbanner exec x\n",
+        &[Part::OpenBanner, Part::InBanner],
+        "closed by no line",
+    ),
+    (
+        b"banner motd\nend\n",
+        &[Part::ShortBanner, Part::Plain],
+        "without a delimiter",
+    ),
+];
+
+fn check_parts(rt: &impl Abort, rows: &[(&[u8], &[Part], &str)]) {
+    for (file, parts, what) in rows {
         assert!(rt; has_parts(file, parts), "{what}");
     }
+}
+
+#[test]
+fn passes_over_banners(rt: HostRuntime) {
+    check_parts(&rt, &BANNERS);
 }
 
 /// Whether the first line of the file is too long.
@@ -188,9 +220,14 @@ fn address_in(word: &[u8]) -> Option<u32> {
     }
 }
 
+/// Asserts of each word which address it writes.
+fn check_addresses(rt: &impl Abort, rows: &[(&[u8], Option<u32>)]) {
+    for (word, bits) in rows {
+        assert!(rt; address_in(word) == *bits, "at {word:?}");
+    }
+}
+
 #[test]
 fn reads_addresses(rt: HostRuntime) {
-    for (word, bits) in ADDRESSES {
-        assert!(rt; address_in(word) == bits, "at {word:?}");
-    }
+    check_addresses(&rt, &ADDRESSES);
 }

@@ -6,7 +6,6 @@ use rc_outside::{
     Folder, Gate, MemFile, MemFolder, MemSink, Names, OpenGate, Sink, SinkFailed, SourceError,
 };
 use std::alloc::{AllocError, Global};
-use std::process::Abort;
 
 fn file(alloc: Global, folder: &str, bytes: &[u8]) -> Result<MemFile, AllocError>
     ensures { IfOk result (λ f. file_of f ≡ record { folder = folder.now; name = codes "a.cfg"; bytes = bytes.now }) }
@@ -42,27 +41,30 @@ fn are_read(read: &Result<Vec<u8>, SourceError>, wanted: &[u8]) -> bool {
 fn a_file_is_read_to_one_byte_past_the_limit(rt: HostRuntime) {
     let alloc = rt.alloc();
     let mut folder = folder_of(alloc, b"first", 9).expect(&rt, "memory");
-    assert!(rt; are_read(&folder.read(alloc, "d", "a.cfg", 4), b"first"));
-    assert!(rt; are_read(&folder.read(alloc, "d", "a.cfg", 2), b"fir"));
+    let whole = are_read(&folder.read(alloc, "d", "a.cfg", 4), b"first");
+    let front = are_read(&folder.read(alloc, "d", "a.cfg", 2), b"fir");
+    assert!(rt; whole && front);
 }
 
 #[test]
 fn a_call_fails_by_its_number(rt: HostRuntime) {
     let alloc = rt.alloc();
     let mut folder = folder_of(alloc, b"first", 2).expect(&rt, "memory");
-    assert!(rt; are_read(&folder.read(alloc, "d", "a.cfg", 5), b"first"));
+    let first = are_read(&folder.read(alloc, "d", "a.cfg", 5), b"first");
     let failed = folder.read(alloc, "d", "a.cfg", 5).err();
-    assert!(rt; failed == Some(SourceError::Failed));
-    assert!(rt; folder.calls == 2 && folder.faults == 1);
+    assert!(rt;
+        first && failed == Some(SourceError::Failed) && folder.calls == 2 && folder.faults == 1
+    );
 }
 
 /// Whether just this name was told, or none.
 fn is_told(told: &Result<Names, SourceError>, wanted: Option<&str>) -> bool {
     match told {
-        Ok(names) => {
-            let first = names.as_slice().first().map(|n| n.as_str());
-            first == wanted && names.len() == usize::from(wanted.is_some())
-        }
+        Ok(names) => match (names.as_slice(), wanted) {
+            ([name], Some(text)) => name.as_str() == text,
+            ([], None) => true,
+            _ => false,
+        },
         Err(_) => false,
     }
 }
@@ -71,22 +73,15 @@ fn is_told(told: &Result<Names, SourceError>, wanted: Option<&str>) -> bool {
 fn names_are_those_of_the_folder_alone(rt: HostRuntime) {
     let alloc = rt.alloc();
     let mut folder = folder_of(alloc, b"first", 2).expect(&rt, "memory");
-    assert!(rt; is_told(&folder.names(alloc, "d"), Some("a.cfg")));
+    let one = is_told(&folder.names(alloc, "d"), Some("a.cfg"));
     let failed = folder.names(alloc, "d").err();
-    assert!(rt; failed == Some(SourceError::Failed));
-    assert!(rt; is_told(&folder.names(alloc, "f"), None));
+    let none = is_told(&folder.names(alloc, "f"), None);
+    assert!(rt; one && failed == Some(SourceError::Failed) && none);
 }
 
-/// Asserts what a sink says of a put, and what it holds then.
-fn check_put(
-    rt: &impl Abort,
-    sink: &mut MemSink,
-    bytes: &[u8],
-    said: Result<(), SinkFailed>,
-    held: &[u8],
-) {
-    assert!(rt; sink.put(bytes) == said);
-    assert!(rt; sink.bytes.as_slice() == held);
+/// Whether a sink says this of a put, and holds this then.
+fn says(sink: &mut MemSink, bytes: &[u8], said: Result<(), SinkFailed>, held: &[u8]) -> bool {
+    sink.put(bytes) == said && sink.bytes.as_slice() == held
 }
 
 /// A sink with so much room that takes so many bytes of the call of this number, and fails.
@@ -103,18 +98,24 @@ fn failing_sink(
 #[test]
 fn a_sink_fails_in_its_second_call(rt: HostRuntime) {
     let mut sink = failing_sink(rt.alloc(), 16, 2, 3).expect(&rt, "memory");
-    check_put(&rt, &mut sink, b"one ", Ok(()), b"one ");
-    check_put(&rt, &mut sink, b"second ", Err(SinkFailed), b"one sec");
-    check_put(&rt, &mut sink, b" third", Ok(()), b"one sec third");
-    assert!(rt; sink.calls == 3 && sink.faults == 1);
+    assert!(rt;
+        says(&mut sink, b"one ", Ok(()), b"one ")
+            && says(&mut sink, b"second ", Err(SinkFailed), b"one sec")
+            && says(&mut sink, b" third", Ok(()), b"one sec third")
+            && sink.calls == 3
+            && sink.faults == 1
+    );
 }
 
 #[test]
 fn a_sink_without_room_takes_what_fits(rt: HostRuntime) {
     let mut sink = failing_sink(rt.alloc(), 3, 9, 0).expect(&rt, "memory");
-    check_put(&rt, &mut sink, b"four", Err(SinkFailed), b"fou");
-    check_put(&rt, &mut sink, b"x", Err(SinkFailed), b"fou");
-    check_put(&rt, &mut sink, b"", Ok(()), b"fou");
-    assert!(rt; sink.calls == 3 && sink.faults == 2);
+    assert!(rt;
+        says(&mut sink, b"four", Err(SinkFailed), b"fou")
+            && says(&mut sink, b"x", Err(SinkFailed), b"fou")
+            && says(&mut sink, b"", Ok(()), b"fou")
+            && sink.calls == 3
+            && sink.faults == 2
+    );
     OpenGate.pass(1, 0);
 }

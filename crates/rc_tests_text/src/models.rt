@@ -79,20 +79,28 @@ fn two_interfaces(alloc: Global, values: &Values) -> Result<RouterText, AllocErr
     text.put(Command::Passed)
 }
 
-fn check_first(rt: &impl Abort, name: &Name, block: &Interface) {
-    assert!(rt; name.as_bytes() == b"Ethernet0".as_slice());
-    assert!(rt; block.primary.map(|a| a.addr().bits()) == Some(167_772_161));
-    assert!(rt; block.secondary.len() == 1);
-    assert!(rt; block.shutdown);
-    assert!(rt; block.bandwidth.is_none());
+/// Whether this is the first block, as the last lines of it say.
+fn is_first(name: &Name, block: &Interface) -> bool {
+    let address = match &block.primary {
+        Some(address) => address.addr().bits(),
+        None => 0,
+    };
+    name.as_bytes() == b"Ethernet0".as_slice()
+        && address == 167_772_161
+        && block.secondary.len() == 1
+        && block.shutdown
+        && block.bandwidth.is_none()
 }
 
-fn check_router(rt: &impl Abort, text: &RouterText) {
-    assert!(rt; text.host.map(|h| h.line) == Some(1));
-    assert!(rt; text.interfaces.len() == 2);
+/// Whether the router has its host name from the first line, and these two blocks.
+fn is_router(text: &RouterText) -> bool {
+    let line = match &text.host {
+        Some(host) => host.line,
+        None => 0,
+    };
     match text.interfaces.at(0) {
-        Some((name, block)) => check_first(rt, name, block),
-        None => assert!(rt; false, "no interface"),
+        Some((name, block)) => line == 1 && text.interfaces.len() == 2 && is_first(name, block),
+        None => false,
     }
 }
 
@@ -100,7 +108,7 @@ fn check_router(rt: &impl Abort, text: &RouterText) {
 fn commands_change_a_model(rt: HostRuntime) -> Result<(), Fail> {
     let values = example()?;
     let text = two_interfaces(rt.alloc(), &values)?;
-    check_router(&rt, &text);
+    assert!(rt; is_router(&text));
     Ok(())
 }
 
@@ -112,98 +120,113 @@ fn one_router(alloc: Global, values: &Values) -> Result<Network, AllocError> {
     Ok(Network { routers })
 }
 
-fn check_names(rt: &impl Abort, network: &Network, values: &Values) {
+/// Whether the router and its second interface are found by their names, and no others by these.
+fn has_names(network: &Network, values: &Values) -> bool {
     let first = RouterId::at(0);
-    assert!(rt; network.router(&values.host).map(|r| r.index()) == Some(0));
-    assert!(rt;
-        network.router(&values.second).is_none(),
-        "no router of that name"
-    );
-    let found = network.interface(first, &values.second);
-    assert!(rt; found.map(|i| i.index) == Some(1));
-    assert!(rt;
-        network.interface(first, &values.host).is_none(),
-        "no interface of that name"
-    );
-    assert!(rt;
-        network.interface(RouterId::at(1), &values.second).is_none(),
-        "no second router"
-    );
+    let interface = IfId {
+        router: first,
+        index: 1,
+    };
+    network.router(&values.host) == Some(first)
+        && network.router(&values.second).is_none()
+        && network.interface(first, &values.second) == Some(interface)
+        && network.interface(first, &values.host).is_none()
+        && network.interface(RouterId::at(1), &values.second).is_none()
 }
 
-fn check_indexes(rt: &impl Abort, network: &Network) {
-    for (index, wanted) in [(1, true), (2, false)] {
-        let interface = IfId {
-            router: RouterId::at(0),
-            index,
-        };
-        assert!(rt;
-            network.interface_at(interface).is_some() == wanted,
-            "at {index}"
-        );
-    }
+/// Whether the first router has an interface of this index.
+fn has_interface(network: &Network, index: usize) -> bool {
+    let interface = IfId {
+        router: RouterId::at(0),
+        index,
+    };
+    network.interface_at(interface).is_some()
 }
 
 #[test]
 fn names_are_looked_up(rt: HostRuntime) -> Result<(), Fail> {
     let values = example()?;
     let network = one_router(rt.alloc(), &values)?;
-    check_names(&rt, &network, &values);
-    check_indexes(&rt, &network);
+    assert!(rt;
+        has_names(&network, &values) && has_interface(&network, 1) && !has_interface(&network, 2)
+    );
     Ok(())
+}
+
+/// Names, and the bandwidths of interfaces of that name.
+const BANDWIDTHS: [(&[u8], Option<u32>); 8] = [
+    (b"TenGigabitEthernet1/1", Some(10_000_000)),
+    (b"GigabitEthernet0/0.5", Some(1_000_000)),
+    (b"Ethernet0", Some(10_000)),
+    (b"Serial0/0/0:0", Some(1_544)),
+    (b"Loopback0", Some(8_000_000)),
+    (b"Port-channel1", Some(1_000_000)),
+    (b"Tunnel0", None),
+    (b"0", None),
+];
+
+/// The bandwidth of an interface of this name.
+fn bandwidth_of(text: &[u8]) -> Option<u32> {
+    let name = Name::new(text)?;
+    let kind = type_of_name(&name)?;
+    Some(kind.nominal_bandwidth())
+}
+
+/// Asserts of each name which bandwidth it has.
+fn check_bandwidths(rt: &impl Abort, rows: &[(&[u8], Option<u32>)]) {
+    for (text, wanted) in rows {
+        assert!(rt; bandwidth_of(text) == *wanted, "at {text:?}");
+    }
 }
 
 #[test]
 fn types_have_bandwidths(rt: HostRuntime) {
-    for (text, wanted) in [
-        (b"TenGigabitEthernet1/1".as_slice(), Some(10_000_000)),
-        (b"GigabitEthernet0/0.5", Some(1_000_000)),
-        (b"Ethernet0", Some(10_000)),
-        (b"Serial0/0/0:0", Some(1_544)),
-        (b"Loopback0", Some(8_000_000)),
-        (b"Port-channel1", Some(1_000_000)),
-        (b"Tunnel0", None),
-        (b"0", None),
-    ] {
-        let kind = Name::new(text).and_then(|n| type_of_name(&n));
-        assert!(rt;
-            kind.map(IfType::nominal_bandwidth) == wanted,
-            "at {text:?}"
-        );
-    }
+    check_bandwidths(&rt, &BANDWIDTHS);
 }
 
 #[test]
 fn masks_have_1_to_32_bits(rt: HostRuntime) {
     let addr = Addr::new(167_772_161);
-    assert!(rt; IfAddr::new(addr, 0).is_none());
-    assert!(rt; IfAddr::new(addr, 33).is_none());
-    let network = IfAddr::new(addr, 8).map(|a| a.prefix().network().bits());
-    assert!(rt; network == Some(167_772_160));
+    let eight = IfAddr::new(addr, 8).expect(&rt, "/8");
+    assert!(rt;
+        IfAddr::new(addr, 0).is_none()
+            && IfAddr::new(addr, 33).is_none()
+            && eight.prefix().network().bits() == 167_772_160
+    );
+}
+
+/// Puts a static route.
+fn put_route(
+    text: &mut RouterText,
+    prefix: Prefix,
+    target: Target,
+    distance: u8,
+) -> Result<(), AllocError> {
+    let route = StaticRoute {
+        prefix,
+        target,
+        distance,
+    };
+    text.apply(Command::StaticRoute { route })
 }
 
 /// Puts three static routes, of which two are alike.
 fn put_routes(text: &mut RouterText, prefix: Prefix, serial: Name) -> Result<(), AllocError> {
-    for (target, distance) in [
-        (Target::Dev(serial), 250),
-        (Target::Null, 1),
-        (Target::Dev(serial), 250),
-    ] {
-        let route = StaticRoute {
-            prefix,
-            target,
-            distance,
-        };
-        text.apply(Command::StaticRoute { route })?;
-    }
-    Ok(())
+    put_route(text, prefix, Target::Dev(serial), 250)?;
+    put_route(text, prefix, Target::Null, 1)?;
+    put_route(text, prefix, Target::Dev(serial), 250)
 }
 
-fn check_routes(rt: &impl Abort, routes: &[StaticRoute], serial: Name) {
-    assert!(rt; routes.len() == 3);
-    assert!(rt; routes.get(0).map(|r| r.target) == Some(Target::Dev(serial)));
-    assert!(rt; routes.get(1).map(|r| r.target) == Some(Target::Null));
-    assert!(rt; routes.get(2).map(|r| r.distance) == Some(250));
+/// Whether the routes are those three, in order.
+fn are_three(routes: &[StaticRoute], serial: Name) -> bool {
+    match routes {
+        [first, second, third] => {
+            first.target == Target::Dev(serial)
+                && second.target == Target::Null
+                && third.distance == 250
+        }
+        _ => false,
+    }
 }
 
 #[test]
@@ -212,7 +235,7 @@ fn static_routes_stay_in_order(rt: HostRuntime) -> Result<(), Fail> {
     let serial = Name::new(b"Serial1").expect(&rt, "Serial1");
     let mut text = RouterText::new(rt.alloc());
     put_routes(&mut text, prefix, serial)?;
-    assert!(rt; text.interfaces.is_empty());
-    check_routes(&rt, text.static_routes.as_slice(), serial);
+    let are_three = are_three(text.static_routes.as_slice(), serial);
+    assert!(rt; are_three && text.interfaces.is_empty());
     Ok(())
 }

@@ -1,7 +1,6 @@
 //! Things put in and taken out by number.
 use rc_config::{ByNumber, Numbered};
 use std::alloc::AllocError;
-use std::process::Abort;
 use std::test::Fail;
 
 /// A thing with a word of its own.
@@ -31,47 +30,62 @@ fn word_of(things: &ByNumber<Thing>, number: u32) -> Option<u8> {
     Some(thing.word)
 }
 
-/// Puts four things in, out of order. None stood there before.
-fn put_four(rt: &impl Abort, things: &mut ByNumber<Thing>) -> Result<(), AllocError> {
-    for (number, word) in [(30, 3), (10, 1), (20, 2), (u32::MAX, 4)] {
-        assert!(rt; !put(things, number, word)?);
-    }
-    Ok(())
+/// Puts four things in, out of order. Whether a thing stood there before one of them.
+fn put_four(things: &mut ByNumber<Thing>) -> Result<bool, AllocError> {
+    Ok(
+        put(things, 30, 3)?
+            || put(things, 10, 1)?
+            || put(things, 20, 2)?
+            || put(things, u32::MAX, 4)?,
+    )
 }
 
-fn check_four(rt: &impl Abort, things: &ByNumber<Thing>) {
-    for (thing, word) in things.iter().zip([1, 2, 3, 4]) {
-        assert!(rt; thing.word == word);
+/// Whether those four are there, in the order of their numbers.
+fn has_four(things: &ByNumber<Thing>) -> bool {
+    let mut before = 0u8;
+    for thing in things.iter() {
+        if thing.word != before.saturating_add(1) {
+            return false;
+        }
+        before = thing.word;
     }
-    assert!(rt; things.len() == 4);
-    assert!(rt; things.greatest() == Some(u32::MAX));
-    assert!(rt; things.has(10));
-    assert!(rt; !things.has(11));
+    before == 4
+        && things.len() == 4
+        && things.greatest() == Some(u32::MAX)
+        && things.has(10)
+        && !things.has(11)
 }
 
 #[test]
 fn things_by_number(rt: HostRuntime) -> Result<(), Fail> {
     let mut things: ByNumber<Thing> = ByNumber::new(rt.alloc());
-    assert!(rt; things.is_empty());
-    assert!(rt; things.greatest().is_none());
-    put_four(&rt, &mut things)?;
-    check_four(&rt, &things);
+    assert!(rt; things.is_empty() && things.greatest().is_none());
+    let some_stood = put_four(&mut things)?;
+    assert!(rt; !some_stood && has_four(&things));
     Ok(())
 }
 
 #[test]
 fn things_in_place_of_others(rt: HostRuntime) {
     let mut things: ByNumber<Thing> = ByNumber::new(rt.alloc());
-    assert!(rt; put(&mut things, 10, 1) == Ok(false));
-    assert!(rt; put(&mut things, 10, 2) == Ok(true));
-    assert!(rt; word_of(&things, 10) == Some(2));
-    check_taken(&rt, &mut things);
+    assert!(rt;
+        put(&mut things, 10, 1) == Ok(false)
+            && put(&mut things, 10, 2) == Ok(true)
+            && word_of(&things, 10) == Some(2)
+            && is_taken(&mut things)
+    );
 }
 
-/// Asserts that the one thing is taken, and no other.
-fn check_taken(rt: &impl Abort, things: &mut ByNumber<Thing>) {
-    assert!(rt; things.take(11).is_none());
-    assert!(rt; things.take(10).map(|t| t.word) == Some(2));
-    assert!(rt; word_of(things, 10).is_none());
-    assert!(rt; things.is_empty());
+/// The word of the thing that is taken out.
+fn word_taken(things: &mut ByNumber<Thing>, number: u32) -> Option<u8> {
+    let thing = things.take(number)?;
+    Some(thing.word)
+}
+
+/// Whether the one thing is taken, and no other.
+fn is_taken(things: &mut ByNumber<Thing>) -> bool {
+    things.take(11).is_none()
+        && word_taken(things, 10) == Some(2)
+        && word_of(things, 10).is_none()
+        && things.is_empty()
 }

@@ -1,33 +1,35 @@
 //! Orders that preference and printing rest on.
 use rc_base::{IfId, Origin, RouterId, compare_interfaces, compare_origins};
 use rc_config::{MetricType, compare_metric_types};
+use std::cmp::Ordering;
+
+/// Whether these stand in their order.
+fn are_origins_in_order(origins: &[Origin]) -> bool {
+    for (index, origin) in origins.iter().enumerate() {
+        for (other_index, other) in origins.iter().enumerate() {
+            if compare_origins(*origin, *other) != index.cmp(&other_index) {
+                return false;
+            }
+        }
+    }
+    true
+}
 
 #[test]
 fn origins_in_order(rt: HostRuntime) {
     let origins = [Origin::Igp, Origin::Egp, Origin::Incomplete];
-    for (index, origin) in origins.iter().enumerate() {
-        for (other_index, other) in origins.iter().enumerate() {
-            let found = compare_origins(*origin, *other);
-            assert!(rt;
-                found == index.cmp(&other_index),
-                "{index} and {other_index}"
-            );
-        }
-    }
+    assert!(rt; are_origins_in_order(&origins));
 }
 
 #[test]
 fn metric_types_in_order(rt: HostRuntime) {
-    let kinds = [MetricType::Type1, MetricType::Type2];
-    for (index, kind) in kinds.iter().enumerate() {
-        for (other_index, other) in kinds.iter().enumerate() {
-            let found = compare_metric_types(*kind, *other);
-            assert!(rt;
-                found == index.cmp(&other_index),
-                "{index} and {other_index}"
-            );
-        }
-    }
+    let (first, second) = (MetricType::Type1, MetricType::Type2);
+    assert!(rt;
+        compare_metric_types(first, second) == Ordering::Less
+            && compare_metric_types(second, first) == Ordering::Greater
+            && compare_metric_types(first, first) == Ordering::Equal
+            && compare_metric_types(second, second) == Ordering::Equal
+    );
 }
 
 fn device(router: usize, index: usize) -> IfId {
@@ -37,16 +39,20 @@ fn device(router: usize, index: usize) -> IfId {
     }
 }
 
+/// Whether these stand in their order.
+fn are_interfaces_in_order(interfaces: &[IfId]) -> bool {
+    for (index, interface) in interfaces.iter().enumerate() {
+        for (other_index, other) in interfaces.iter().enumerate() {
+            if compare_interfaces(interface, other) != index.cmp(&other_index) {
+                return false;
+            }
+        }
+    }
+    true
+}
+
 #[test]
 fn interfaces_in_order(rt: HostRuntime) {
     let interfaces = [device(0, 0), device(0, 2), device(1, 0), device(1, 1)];
-    for (index, interface) in interfaces.iter().enumerate() {
-        for (other_index, other) in interfaces.iter().enumerate() {
-            let found = compare_interfaces(interface, other);
-            assert!(rt;
-                found == index.cmp(&other_index),
-                "{index} and {other_index}"
-            );
-        }
-    }
+    assert!(rt; are_interfaces_in_order(&interfaces));
 }

@@ -7,52 +7,73 @@ use rc_config::{
 use rc_gram_if::read_line;
 use rc_lines::Lines;
 use rc_openings::LineRefusal;
+use std::process::Abort;
 
 const BAD: Option<LineRefusal> = Some(LineRefusal::BadValue);
 
 const UNSUPPORTED: Option<LineRefusal> = Some(LineRefusal::Unsupported);
+
+/// What a command sets at an interface.
+fn setting_of(command: &Command) -> Option<OspfSetting> {
+    match command {
+        Command::InterfaceOspf { setting, .. } => Some(*setting),
+        _ => None,
+    }
+}
 
 /// What the text sets in the block of an interface.
 fn setting_in(file: &RouterText, block: &OpenBlock, text: &[u8]) -> Option<OspfSetting> {
     let line = Lines::new(text).next()?;
     let block = *block;
     match &read_line(&line, Context { block, file }) {
-        Ok(Command::InterfaceOspf { setting, .. }) => Some(*setting),
-        _ => None,
+        Ok(command) => setting_of(command),
+        Err(_) => None,
+    }
+}
+
+/// Lines, and what they set.
+const SETTINGS: [(&[u8], OspfSetting); 7] = [
+    (b" ip ospf cost 1", OspfSetting::Cost(1)),
+    (b" ip ospf cost 65535", OspfSetting::Cost(65535)),
+    (b" ip ospf hello-interval 5", OspfSetting::HelloInterval(5)),
+    (
+        b" ip ospf dead-interval 65535",
+        OspfSetting::DeadInterval(65535),
+    ),
+    (
+        b" ip ospf network broadcast",
+        OspfSetting::NetworkType(NetworkType::Broadcast),
+    ),
+    (
+        b" ip ospf network point-to-point",
+        OspfSetting::NetworkType(NetworkType::PointToPoint),
+    ),
+    (
+        b" ip ospf 1 area 0.0.1.0",
+        OspfSetting::Area(OspfArea {
+            process: 1,
+            area: 256,
+        }),
+    ),
+];
+
+/// Asserts of each line what it sets in the block of an interface.
+fn check_settings(
+    rt: &impl Abort,
+    file: &RouterText,
+    block: &OpenBlock,
+    rows: &[(&[u8], OspfSetting)],
+) {
+    for (text, setting) in rows {
+        let found = setting_in(file, block, text);
+        assert!(rt; found == Some(*setting), "{text:?}");
     }
 }
 
 #[test]
 fn settings_of_an_interface(rt: HostRuntime) {
-    let file = RouterText::new(rt.alloc());
     let inside = OpenBlock::Interface(Name::new(b"Serial0").expect(&rt, "Serial0"));
-    let area = OspfArea {
-        process: 1,
-        area: 256,
-    };
-    for (text, setting) in [
-        (b" ip ospf cost 1".as_slice(), OspfSetting::Cost(1)),
-        (b" ip ospf cost 65535", OspfSetting::Cost(65535)),
-        (b" ip ospf hello-interval 5", OspfSetting::HelloInterval(5)),
-        (
-            b" ip ospf dead-interval 65535",
-            OspfSetting::DeadInterval(65535),
-        ),
-        (
-            b" ip ospf network broadcast",
-            OspfSetting::NetworkType(NetworkType::Broadcast),
-        ),
-        (
-            b" ip ospf network point-to-point",
-            OspfSetting::NetworkType(NetworkType::PointToPoint),
-        ),
-        (b" ip ospf 1 area 0.0.1.0", OspfSetting::Area(area)),
-    ] {
-        assert!(rt;
-            setting_in(&file, &inside, text) == Some(setting),
-            "{text:?}"
-        );
-    }
+    check_settings(&rt, &RouterText::new(rt.alloc()), &inside, &SETTINGS);
 }
 
 /// A line, and how it is refused.
@@ -106,7 +127,11 @@ fn lines_of_ospf_that_are_refused(rt: HostRuntime) {
 #[test]
 fn nothing_is_set_at_first(rt: HostRuntime) {
     let settings = OspfSettings::new();
-    assert!(rt; settings.cost.is_none() && settings.hello.is_none());
-    assert!(rt; settings.dead.is_none() && settings.network.is_none());
-    assert!(rt; settings.area.is_none());
+    assert!(rt;
+        settings.cost.is_none()
+            && settings.hello.is_none()
+            && settings.dead.is_none()
+            && settings.network.is_none()
+            && settings.area.is_none()
+    );
 }

@@ -5,7 +5,6 @@ use rc_config::{
     SetLine,
 };
 use std::alloc::{AllocError, Global};
-use std::process::Abort;
 use std::test::Fail;
 
 /// A line `permit 10.0.0.0/8 le 24` of this number.
@@ -29,10 +28,12 @@ fn two_lines(alloc: Global, prefix: Prefix) -> Result<PrefixList, AllocError> {
 fn prefix_lines_by_number(rt: HostRuntime) -> Result<(), Fail> {
     let prefix = Prefix::new(Addr::new(0x0a00_0000), 8).expect(&rt, "/8");
     let list = two_lines(rt.alloc(), prefix)?;
-    assert!(rt; list.greatest() == Some(20));
-    assert!(rt; list.has_line(5));
-    assert!(rt; !list.has_line(10));
-    assert!(rt; list.lines.get(5).map(|l| l.sequence) == Some(5));
+    assert!(rt;
+        list.greatest() == Some(20)
+            && list.has_line(5)
+            && !list.has_line(10)
+            && matches!(list.lines.get(5), Some(line) if line.sequence == 5)
+    );
     Ok(())
 }
 
@@ -69,22 +70,25 @@ fn opened_twice(alloc: Global, name: Name) -> Result<RouteMap, AllocError> {
     with_two(alloc, map, name, 7, 6)
 }
 
-fn check_entry(rt: &impl Abort, entry: &MapEntry) {
-    assert!(rt; entry.action == Action::Deny);
-    let second = entry.prefix_lists.as_slice().get(1);
-    assert!(rt; second.map(|m| m.line) == Some(7));
-    assert!(rt; entry.sets.metric == Some(6));
-    assert!(rt; entry.sets.communities == CommunityChange::Keep);
+/// Whether the entry has the second action, the second condition with its line, and the second metric.
+fn is_second(entry: Option<&MapEntry>) -> bool {
+    let Some(entry) = entry else {
+        return false;
+    };
+    let line = match entry.prefix_lists.as_slice() {
+        [_, second] => second.line,
+        _ => 0,
+    };
+    line == 7
+        && entry.action == Action::Deny
+        && entry.sets.metric == Some(6)
+        && entry.sets.communities == CommunityChange::Keep
 }
 
 #[test]
 fn entries_opened_again(rt: HostRuntime) -> Result<(), Fail> {
     let name = Name::new(b"P").expect(&rt, "P");
     let map = opened_twice(rt.alloc(), name)?;
-    assert!(rt; map.entries.len() == 2);
-    match map.entries.get(20) {
-        Some(entry) => check_entry(&rt, entry),
-        None => assert!(rt; false, "no entry"),
-    }
+    assert!(rt; map.entries.len() == 2 && is_second(map.entries.get(20)));
     Ok(())
 }

@@ -3,7 +3,6 @@ use crate::line_answers::{all_say, all_say_route, route_in};
 use rc_base::{Addr, Name, Prefix};
 use rc_config::{OpenBlock, RouterText, StaticRoute, Target};
 use rc_openings::LineRefusal;
-use std::process::Abort;
 
 /// One route in every order of its options, and with some of them.
 const SAME_ROUTE: &[u8] = b"\
@@ -84,14 +83,11 @@ fn static_routes_are_refused(rt: HostRuntime) {
     assert!(rt; all_say(rt.alloc(), &OpenBlock::Global, REFUSED_ROUTES, unsupported));
 }
 
-/// Asserts the target and the distance of the route that a line says.
-fn check_target(rt: &impl Abort, file: &RouterText, text: &[u8], target: Target, distance: u8) {
+/// Whether the route that a line says has this target and this distance.
+fn has_target(file: &RouterText, text: &[u8], target: Target, distance: u8) -> bool {
     match route_in(file, text) {
-        Some(said) => {
-            assert!(rt; said.target == target, "the target of {text:?}");
-            assert!(rt; said.distance == distance, "the distance of {text:?}");
-        }
-        None => assert!(rt; false, "no route: {text:?}"),
+        Some(said) => said.target == target && said.distance == distance,
+        None => false,
     }
 }
 
@@ -99,61 +95,56 @@ fn check_target(rt: &impl Abort, file: &RouterText, text: &[u8], target: Target,
 fn static_routes_have_targets(rt: HostRuntime) {
     let gateway = Addr::new(0x0a00_0001);
     let serial = Name::new(b"Serial0").expect(&rt, "Serial0");
-    let name = Name::new(b"name").expect(&rt, "name");
-    let null = Name::new(b"null0").expect(&rt, "null0");
+    let name = Target::Dev(Name::new(b"name").expect(&rt, "name"));
+    let null = Target::Dev(Name::new(b"null0").expect(&rt, "null0"));
+    let (via, device) = (Target::Via(gateway), Target::Dev(serial));
+    let both = Target::ViaDev(gateway, serial);
     let file = RouterText::new(rt.alloc());
-    for (text, target, distance) in [
-        (
-            b"ip route 10.1.2.3 255.255.0.0 10.0.0.1".as_slice(),
-            Target::Via(gateway),
-            1,
-        ),
-        (
-            b"ip route 10.1.2.3 255.255.0.0 Null0 255",
-            Target::Null,
-            255,
-        ),
-        (
-            b"ip route 10.1.2.3 255.255.0.0 Serial0",
-            Target::Dev(serial),
-            1,
-        ),
-        (
-            b"ip route 10.1.2.3 255.255.0.0 Serial0 10.0.0.1 7",
-            Target::ViaDev(gateway, serial),
-            7,
-        ),
-        (
-            b"ip route 10.1.2.3 255.255.0.0 name 9",
-            Target::Dev(name),
-            9,
-        ),
-        (b"ip route 10.1.2.3 255.255.0.0 null0", Target::Dev(null), 1),
-    ] {
-        check_target(&rt, &file, text, target, distance);
-    }
+    assert!(rt;
+        has_target(&file, b"ip route 10.1.2.3 255.255.0.0 10.0.0.1", via, 1)
+            && has_target(
+                &file,
+                b"ip route 10.1.2.3 255.255.0.0 Null0 255",
+                Target::Null,
+                255
+            )
+            && has_target(&file, b"ip route 10.1.2.3 255.255.0.0 Serial0", device, 1)
+            && has_target(
+                &file,
+                b"ip route 10.1.2.3 255.255.0.0 Serial0 10.0.0.1 7",
+                both,
+                7
+            )
+            && has_target(&file, b"ip route 10.1.2.3 255.255.0.0 name 9", name, 9)
+            && has_target(&file, b"ip route 10.1.2.3 255.255.0.0 null0", null, 1)
+    );
 }
 
-/// The prefix of the route that a line says.
-fn prefix_in(file: &RouterText, text: &[u8]) -> Option<Prefix> {
-    match &route_in(file, text) {
-        Some(said) => Some(said.prefix),
-        None => None,
+/// Whether the route that a line says has the prefix of this network and length.
+fn has_prefix(file: &RouterText, text: &[u8], network: u32, len: u8) -> bool {
+    match route_in(file, text) {
+        Some(said) => Some(said.prefix) == Prefix::new(Addr::new(network), len),
+        None => false,
     }
 }
 
 #[test]
 fn static_routes_clear_host_bits(rt: HostRuntime) {
     let file = RouterText::new(rt.alloc());
-    for (text, network, len) in [
-        (b"ip route 10.1.2.3 0.0.0.0 Null0".as_slice(), 0, 0),
-        (b"ip route 10.1.2.3 255.0.0.0 Null0", 0x0a00_0000, 8),
-        (b"ip route 10.1.2.3 255.255.254.0 Null0", 0x0a01_0200, 23),
-        (b"ip route 10.1.2.3 255.255.255.255 Null0", 0x0a01_0203, 32),
-    ] {
-        assert!(rt;
-            prefix_in(&file, text) == Prefix::new(Addr::new(network), len),
-            "{text:?}"
-        );
-    }
+    assert!(rt;
+        has_prefix(&file, b"ip route 10.1.2.3 0.0.0.0 Null0", 0, 0)
+            && has_prefix(&file, b"ip route 10.1.2.3 255.0.0.0 Null0", 0x0a00_0000, 8)
+            && has_prefix(
+                &file,
+                b"ip route 10.1.2.3 255.255.254.0 Null0",
+                0x0a01_0200,
+                23
+            )
+            && has_prefix(
+                &file,
+                b"ip route 10.1.2.3 255.255.255.255 Null0",
+                0x0a01_0203,
+                32
+            )
+    );
 }
