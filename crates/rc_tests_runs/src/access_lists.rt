@@ -1,27 +1,39 @@
 //! Access lists, from files to walks.
-use crate::answers::{BASE, Host, NamedText, check_all_refused, check_answers, check_line};
+use crate::answers::{BASE, Host, NamedText, check_all_refused, check_answers, check_line, joined};
 use rc_analyse::Status;
 use std::test::Fail;
 
-/// A place in words and as it is printed.
-type Place = (&'static str, &'static str);
+/// Places.
+const HOME: &str = "R1";
 
-const HOME: Place = ("R1", "R1 self");
-
-const LAN: Place = ("R1:GigabitEthernet0/0", "R1 GigabitEthernet0/0");
+const LAN: &str = "R1:GigabitEthernet0/0";
 
 /// Lines behind those of the first router's interface, a place, a packet, and how its walk ends there.
-type Row = (&'static str, Place, &'static str, &'static str);
+type Row = (&'static str, &'static str, &'static str, &'static str);
 
-/// Asserts of each row how the walk of the packet ends at the place where it starts.
+/// Asserts how the walk of a packet ends at the place where it starts, in the network of one router.
+fn check_end(
+    rt: &impl Host,
+    config: &str,
+    place: &str,
+    packet: &str,
+    ending: &str,
+) -> Result<(), Fail> {
+    let at = match place.split_once(':') {
+        Some((router, interface)) => format!(in rt.alloc(); "{router} {interface}")?,
+        None => format!(in rt.alloc(); "{place} self")?,
+    };
+    let text = format!(in rt.alloc(); "outcome fixed 2\nat {at}\nend {ending}\n")?;
+    let line = format!(in rt.alloc(); "trace d --from {place} {packet}")?;
+    let files = [("a.cfg", config)];
+    check_line(rt, &files, line.as_str(), Status::Done, text.as_str())
+}
+
+/// Asserts of each row how the walk of the packet ends.
 fn check_ends(rt: &impl Host, rows: &[Row]) -> Result<(), Fail> {
     for (lines, place, packet, ending) in rows {
-        let (from, at) = place;
-        let config = format!(in rt.alloc(); "{BASE}{lines}")?;
-        let line = format!(in rt.alloc(); "trace d --from {from} {packet}")?;
-        let text = format!(in rt.alloc(); "outcome fixed 2\nat {at}\nend {ending}\n")?;
-        let files = [("a.cfg", config.as_str())];
-        check_line(rt, &files, line.as_str(), Status::Done, text.as_str())?;
+        let config = joined(rt.alloc(), &[BASE, *lines])?;
+        check_end(rt, config.as_str(), place, packet, ending)?;
     }
     Ok(())
 }
@@ -109,7 +121,7 @@ const CLOSED_LOOPBACK: &str =
     "interface Loopback0\n ip address 1.1.1.1 255.255.255.0\n ip access-group 1 out\naccess-list 1 deny any\nip route 9.0.0.0 255.0.0.0 Null0\n";
 
 /// The interface that is down.
-const DOWN: Place = ("R1:Serial0/0", "R1 Serial0/0");
+const DOWN: &str = "R1:Serial0/0";
 
 /// Lists inbound and outbound, and packets that come in, go out, or begin at the router itself.
 const ASKED: [Row; 15] = [

@@ -29,6 +29,15 @@ pub const CIRCLE: &str =
 /// A name and a text.
 pub type NamedText<'a> = (&'a str, &'a str);
 
+/// These parts as one text.
+pub fn joined(alloc: Global, parts: &[&str]) -> Result<String, AllocError> {
+    let mut text = String::new(alloc);
+    for part in parts {
+        text.push_str(part)?;
+    }
+    Ok(text)
+}
+
 /// A file of a folder.
 pub fn file_in(
     alloc: Global,
@@ -90,8 +99,10 @@ pub fn check_run(
 ) -> Result<(), Fail> {
     let mut out = sink_of(rt.alloc(), 4096)?;
     let found = ran(rt, words, folder, &mut out, &OpenGate);
-    assert!(rt; found == status, "{text}");
-    assert!(rt; out.bytes.as_slice() == text.as_bytes(), "{text}");
+    assert!(rt;
+        found == status && out.bytes.as_slice() == text.as_bytes(),
+        "{text}"
+    );
     Ok(())
 }
 
@@ -157,17 +168,17 @@ pub fn check_done(rt: &impl Host, text: &str, answer: &str) -> Result<(), Fail> 
     check_files(rt, &[("a.cfg", text)], Status::Done, answer)
 }
 
+/// Asserts how a file is refused: its line and its number.
+fn check_refused(rt: &impl Host, config: &str, answer: &str) -> Result<(), Fail> {
+    let text = joined(rt.alloc(), &["refused a.cfg:", answer, "\n"])?;
+    check_files(rt, &[("a.cfg", config)], Status::Refused, text.as_str())
+}
+
 /// Asserts of each row how the file of these lines, behind those of the first router, is refused: its line and its number.
 pub fn check_all_refused(rt: &impl Host, rows: &[NamedText<'_>]) -> Result<(), Fail> {
     for (lines, answer) in rows {
-        let config = format!(in rt.alloc(); "{BASE}{lines}")?;
-        let text = format!(in rt.alloc(); "refused a.cfg:{answer}\n")?;
-        check_files(
-            rt,
-            &[("a.cfg", config.as_str())],
-            Status::Refused,
-            text.as_str(),
-        )?;
+        let config = joined(rt.alloc(), &[BASE, *lines])?;
+        check_refused(rt, config.as_str(), answer)?;
     }
     Ok(())
 }

@@ -1,5 +1,5 @@
 //! BGP from files to answers: two ASes, an AS of several routers, policy, redistribution, and wishes that go round.
-use crate::answers::{Host, check_line};
+use crate::answers::{Host, NamedText, check_answers, check_line};
 use rc_analyse::Status;
 use std::test::Fail;
 
@@ -45,13 +45,18 @@ const SECONDS: [(&str, &str); 5] = [
     ),
 ];
 
-#[test]
-fn two_ases(rt: HostRuntime) -> Result<(), Fail> {
-    for (second, answer) in SECONDS {
-        let files = [("r1.cfg", FIRST), ("r2.cfg", second)];
-        check_line(&rt, &files, "routes d --router R2", Status::Done, answer)?;
+/// Asserts the routes of each second router beside the first one.
+fn check_seconds(rt: &impl Host, rows: &[(&str, &str)]) -> Result<(), Fail> {
+    for (second, answer) in rows {
+        let files = [("r1.cfg", FIRST), ("r2.cfg", *second)];
+        check_line(rt, &files, "routes d --router R2", Status::Done, answer)?;
     }
     Ok(())
+}
+
+#[test]
+fn two_ases(rt: HostRuntime) -> Result<(), Fail> {
+    check_seconds(&rt, &SECONDS)
 }
 
 /// The border router of AS 65002 with a neighbour of its own AS, as it is and with itself as the next hop.
@@ -104,15 +109,15 @@ const LAST_IN_A_ROW: &str =
 const MIDDLE_OF_A_ROW: &str =
     "outcome fixed 4\nrouter R2\n10.0.12.0/24 connected 0/0 dev GigabitEthernet0/0\n10.0.23.0/24 connected 0/0 dev GigabitEthernet0/1\n10.9.1.0/24 ibgp 200/0 via 10.0.12.1\n";
 
+/// Words, and the routes of the second and of the third router.
+const OF_A_ROW: [NamedText<'static>; 2] = [
+    ("routes d --router R2", MIDDLE_OF_A_ROW),
+    ("routes d --router R3", LAST_IN_A_ROW),
+];
+
 #[test]
 fn internal_paths_go_no_further(rt: HostRuntime) -> Result<(), Fail> {
-    for (line, answer) in [
-        ("routes d --router R2", MIDDLE_OF_A_ROW),
-        ("routes d --router R3", LAST_IN_A_ROW),
-    ] {
-        check_line(&rt, &IN_A_ROW, line, Status::Done, answer)?;
-    }
-    Ok(())
+    check_answers(&rt, &IN_A_ROW, &OF_A_ROW)
 }
 
 /// A border router that redistributes into OSPF, and a router that hears of it there.

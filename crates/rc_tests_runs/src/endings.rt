@@ -1,5 +1,5 @@
 //! Which packets come to each of the endings, from files to text.
-use crate::answers::{NamedText, check_answers, check_line};
+use crate::answers::{Host, NamedText, check_answers, check_line};
 use rc_analyse::Status;
 use std::alloc::{AllocError, Global};
 use std::test::Fail;
@@ -168,9 +168,9 @@ const BY_WORKERS: [&str; 3] = [
 ];
 
 /// What is said of it.
-fn all_but_telnet_text(alloc: Global) -> Result<String, AllocError> {
+fn all_but_telnet_text(alloc: Global, parts: &[&str]) -> Result<String, AllocError> {
     let mut text = String::from_str(alloc, "outcome fixed 2\n")?;
-    for part in NO_TELNET {
+    for part in parts {
         text.push_str("cube dst=10.0.0.0&255.255.255.0 ")?;
         text.push_str(part)?;
         text.push_str("\n")?;
@@ -178,20 +178,29 @@ fn all_but_telnet_text(alloc: Global) -> Result<String, AllocError> {
     Ok(text)
 }
 
+/// Asserts that each line says this of it.
+fn check_telnet(rt: &impl Host, lines: &[&str], text: &str) -> Result<(), Fail> {
+    for line in lines {
+        check_line(rt, &[("a.cfg", CLOSED_TO_TELNET)], line, Status::Done, text)?;
+    }
+    Ok(())
+}
+
 #[test]
 fn all_but_telnet(rt: HostRuntime) -> Result<(), Fail> {
-    let files = [("a.cfg", CLOSED_TO_TELNET)];
-    let text = all_but_telnet_text(rt.alloc())?;
-    for line in BY_WORKERS {
-        check_line(&rt, &files, line, Status::Done, text.as_str())?;
-    }
-    check_line(
-        &rt,
-        &files,
-        "reach d --from R1:GigabitEthernet0/0 --end denied-in",
-        Status::Done,
-        "outcome fixed 2\ncube proto=6&255 dport=23&65535\n",
-    )
+    let text = all_but_telnet_text(rt.alloc(), &NO_TELNET)?;
+    check_telnet(&rt, &BY_WORKERS, text.as_str())
+}
+
+/// What it drops.
+const TELNET: [NamedText<'static>; 1] = [(
+    "reach d --from R1:GigabitEthernet0/0 --end denied-in",
+    "outcome fixed 2\ncube proto=6&255 dport=23&65535\n",
+)];
+
+#[test]
+fn telnet_alone(rt: HostRuntime) -> Result<(), Fail> {
+    check_answers(&rt, &[("a.cfg", CLOSED_TO_TELNET)], &TELNET)
 }
 
 /// Two routers on two links, where what is let in differs.
@@ -238,29 +247,29 @@ const SERIAL_LINE: [NamedText<'static>; 3] = [
     ),
 ];
 
-/// Folders, and what is dropped in them behind the first router.
-const DROPPED: [(&[NamedText<'static>], &str); 3] = [
-    (
-        &PARALLEL,
-        "outcome fixed 3\ncube dst=9.9.9.9&255.255.255.255 proto=6&255\ncube dst=9.9.9.9&255.255.255.255 proto=17&255\n",
-    ),
-    (
-        &TAKERS,
-        "outcome fixed 3\ncube dst=5.0.0.0&255.128.0.0\ncube dst=5.192.0.0&255.192.0.0\n",
-    ),
-    (
-        &SERIAL_LINE,
-        "outcome fixed 2\ncube dst=6.0.0.0&255.128.0.0\ncube dst=6.192.0.0&255.192.0.0\n",
-    ),
-];
+/// Asserts what is dropped in a folder behind the first router.
+fn check_dropped(rt: &impl Host, files: &[NamedText<'_>], text: &str) -> Result<(), Fail> {
+    let line = "reach d --from R1 --end null-routed";
+    check_line(rt, files, line, Status::Done, text)
+}
 
 #[test]
 fn by_each_of_several_ways(rt: HostRuntime) -> Result<(), Fail> {
-    for (files, text) in DROPPED {
-        let line = "reach d --from R1 --end null-routed";
-        check_line(&rt, files, line, Status::Done, text)?;
-    }
-    Ok(())
+    check_dropped(
+        &rt,
+        &PARALLEL,
+        "outcome fixed 3\ncube dst=9.9.9.9&255.255.255.255 proto=6&255\ncube dst=9.9.9.9&255.255.255.255 proto=17&255\n",
+    )?;
+    check_dropped(
+        &rt,
+        &TAKERS,
+        "outcome fixed 3\ncube dst=5.0.0.0&255.128.0.0\ncube dst=5.192.0.0&255.192.0.0\n",
+    )?;
+    check_dropped(
+        &rt,
+        &SERIAL_LINE,
+        "outcome fixed 2\ncube dst=6.0.0.0&255.128.0.0\ncube dst=6.192.0.0&255.192.0.0\n",
+    )
 }
 
 /// A border router with a server behind it: from outside only the web gets in, and only answers of the server's subnet get out.

@@ -1,6 +1,7 @@
 //! Examples of cubes and their shortest walks, and made networks, from words to text.
 use crate::answers::{Host, NamedText, Said, check_line, check_said};
 use rc_analyse::Status;
+use std::alloc::{AllocError, Global};
 use std::test::Fail;
 
 /// Five routers of one subnet, whose addresses don't stand in the order of their names. To each of four addresses the first router
@@ -79,26 +80,36 @@ const DROPPED: [(&str, &str); 4] = [
     ),
 ];
 
-/// Asserts what is told of so many examples.
-fn check_examples(rt: &impl Host, many: usize) -> Result<(), Fail> {
-    let line = format!(in rt.alloc(); "reach d --from R1 --end null-routed --examples {many}")?;
-    let mut text = String::from_str(rt.alloc(), "outcome fixed 3\n")?;
-    for (index, row) in DROPPED.iter().enumerate() {
-        let (cube, example) = row;
+/// What is told of these cubes and of so many examples of them.
+fn text_with(alloc: Global, many: usize, rows: &[(&str, &str)]) -> Result<String, AllocError> {
+    let mut text = String::from_str(alloc, "outcome fixed 3\n")?;
+    for (index, (cube, example)) in rows.iter().enumerate() {
         text.push_str(cube)?;
         if index < many {
             text.push_str(example)?;
         }
     }
+    Ok(text)
+}
+
+/// Asserts what is told of so many examples.
+fn check_examples(rt: &impl Host, many: usize) -> Result<(), Fail> {
+    let text = text_with(rt.alloc(), many, &DROPPED)?;
+    let line = format!(in rt.alloc(); "reach d --from R1 --end null-routed --examples {many}")?;
     check_line(rt, &CHOICES, line.as_str(), Status::Done, text.as_str())
+}
+
+/// Asserts what is told of each of these numbers of examples.
+fn check_all_examples(rt: &impl Host, numbers: &[usize]) -> Result<(), Fail> {
+    for many in numbers {
+        check_examples(rt, *many)?;
+    }
+    Ok(())
 }
 
 #[test]
 fn examples_up_to_the_number_that_is_asked_for(rt: HostRuntime) -> Result<(), Fail> {
-    for many in [0, 1, 3, 4, 5, 1000] {
-        check_examples(&rt, many)?;
-    }
-    Ok(())
+    check_all_examples(&rt, &[0, 1, 3, 4, 5, 1000])
 }
 
 /// Words that ask for a made network, and what they say.

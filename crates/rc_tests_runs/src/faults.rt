@@ -16,9 +16,10 @@ fn check_call(
     let mut folder = folder_of(rt.alloc(), &[("a.cfg", BASE)], &[call])?;
     let mut out = sink_of(rt.alloc(), 4096)?;
     let found = ran(rt, &["routes", "d"], &mut folder, &mut out, &OpenGate);
-    assert!(rt; found == status, "call {call}");
-    assert!(rt; out.bytes.as_slice() == text.as_bytes(), "call {call}");
-    assert!(rt; out.calls == calls, "call {call}");
+    assert!(rt;
+        found == status && out.bytes.as_slice() == text.as_bytes() && out.calls == calls,
+        "call {call}"
+    );
     Ok(())
 }
 
@@ -44,20 +45,34 @@ fn failing_sink(
 fn check_sink(rt: &impl Host, mut out: MemSink, text: &str, calls: u64) -> Result<(), Fail> {
     let mut folder = folder_of(rt.alloc(), &[("a.cfg", BASE)], &[])?;
     let status = ran(rt, &["routes", "d"], &mut folder, &mut out, &OpenGate);
-    assert!(rt; status == Status::Sink, "{text}");
-    assert!(rt; out.bytes.as_slice() == text.as_bytes(), "{text}");
-    assert!(rt; out.calls == calls, "{text}");
+    assert!(rt;
+        status == Status::Sink && out.bytes.as_slice() == text.as_bytes() && out.calls == calls,
+        "{text}"
+    );
+    Ok(())
+}
+
+/// How much room a sink has, the call in which it fails and how many bytes of it are taken, what it holds then, and after how many calls.
+type Row = (usize, u64, usize, &'static str, u64);
+
+const SINKS: [Row; 3] = [
+    (4096, 1, 0, "", 1),
+    (4096, 2, 3, "outcome fixed 2\nrou", 2),
+    (26, 9, 0, "outcome fixed 2\nrouter R1\n", 3),
+];
+
+/// Asserts of each sink what it holds.
+fn check_sinks(rt: &impl Host, rows: &[Row]) -> Result<(), Fail> {
+    for (room, call, taken, text, calls) in rows {
+        let out = failing_sink(rt.alloc(), *room, *call, *taken)?;
+        check_sink(rt, out, text, *calls)?;
+    }
     Ok(())
 }
 
 #[test]
 fn a_sink_that_fails(rt: HostRuntime) -> Result<(), Fail> {
-    let first = failing_sink(rt.alloc(), 4096, 1, 0)?;
-    check_sink(&rt, first, "", 1)?;
-    let second = failing_sink(rt.alloc(), 4096, 2, 3)?;
-    check_sink(&rt, second, "outcome fixed 2\nrou", 2)?;
-    let short = failing_sink(rt.alloc(), 26, 9, 0)?;
-    check_sink(&rt, short, "outcome fixed 2\nrouter R1\n", 3)
+    check_sinks(&rt, &SINKS)
 }
 
 /// The name of a configuration, of 512 bytes.
@@ -70,13 +85,18 @@ fn long_name(alloc: Global) -> Result<String, AllocError> {
     Ok(name)
 }
 
+/// How a run over a folder with one empty file of this name ends, and in how many calls its answer goes out.
+fn ended(rt: &impl Host, name: &str) -> Result<(Status, u64), Fail> {
+    let mut folder = folder_of(rt.alloc(), &[(name, "")], &[])?;
+    let mut out = sink_of(rt.alloc(), 4096)?;
+    let status = ran(rt, &["routes", "d"], &mut folder, &mut out, &OpenGate);
+    Ok((status, out.calls))
+}
+
 #[test]
 fn a_line_goes_out_in_pieces(rt: HostRuntime) -> Result<(), Fail> {
     let name = long_name(rt.alloc())?;
-    let mut folder = folder_of(rt.alloc(), &[(name.as_str(), "")], &[])?;
-    let mut out = sink_of(rt.alloc(), 4096)?;
-    let status = ran(&rt, &["routes", "d"], &mut folder, &mut out, &OpenGate);
-    assert!(rt; status == Status::Refused);
-    assert!(rt; out.calls == 2);
+    let (status, calls) = ended(&rt, name.as_str())?;
+    assert!(rt; status == Status::Refused && calls == 2);
     Ok(())
 }

@@ -1,5 +1,5 @@
 //! Who passes the gate of a run: in each round each worker once, and as many workers as the words say.
-use crate::answers::{BASE, CIRCLE, Host, NamedText, folder_of, ran, sink_of};
+use crate::answers::{BASE, CIRCLE, Host, folder_of, ran, sink_of};
 use rc_outside::Gate;
 use std::alloc::Global;
 use std::sync::atomic::{AtomicU32, AtomicU64, Ordering};
@@ -44,22 +44,19 @@ impl Gate for Counts {
 /// Asserts how many rounds of so many workers a run makes.
 fn check_rounds(
     rt: &impl Host,
-    files: &[NamedText<'_>],
+    text: &str,
     words: &[&str],
     workers: u32,
     rounds: u32,
 ) -> Result<(), Fail> {
     let gate = counting(workers);
-    let mut folder = folder_of(rt.alloc(), files, &[])?;
+    let mut folder = folder_of(rt.alloc(), &[("a.cfg", text)], &[])?;
     let mut out = sink_of(rt.alloc(), 4096)?;
     let _ = ran(rt, words, &mut folder, &mut out, &gate);
     let passes = gate.passes.load(Ordering::SeqCst);
+    let wrong = gate.wrong.load(Ordering::SeqCst);
     assert!(rt;
-        passes == rounds.saturating_mul(workers),
-        "{rounds} rounds of {workers}"
-    );
-    assert!(rt;
-        gate.wrong.load(Ordering::SeqCst) == 0,
+        passes == rounds.saturating_mul(workers) && wrong == 0,
         "{rounds} rounds of {workers}"
     );
     Ok(())
@@ -69,38 +66,46 @@ fn check_rounds(
 fn check_all_rounds(rt: &impl Host, text: &str, rows: &[(&str, u32, u32)]) -> Result<(), Fail> {
     for (line, workers, rounds) in rows {
         let words: Vec<&str> = line.split(' ').collect(rt.alloc())?;
-        check_rounds(rt, &[("a.cfg", text)], words.as_slice(), *workers, *rounds)?;
+        check_rounds(rt, text, words.as_slice(), *workers, *rounds)?;
     }
     Ok(())
 }
 
+/// Words, how many workers they ask for, and how many rounds these make.
+type Row = (&'static str, u32, u32);
+
+const IN_A_CIRCLE: [Row; 6] = [
+    ("routes d", 4, 7),
+    ("routes d --workers 1", 1, 7),
+    ("routes d --workers 5", 5, 7),
+    ("routes d --workers 64", 64, 7),
+    ("routes d --workers 3 --rounds 6", 3, 6),
+    ("trace d --from R1 --dst 10.0.0.1 --workers 2", 2, 7),
+];
+
 #[test]
 fn each_worker_passes_once_in_each_round(rt: HostRuntime) -> Result<(), Fail> {
-    let rows = [
-        ("routes d", 4, 7),
-        ("routes d --workers 1", 1, 7),
-        ("routes d --workers 5", 5, 7),
-        ("routes d --workers 64", 64, 7),
-        ("routes d --workers 3 --rounds 6", 3, 6),
-        ("trace d --from R1 --dst 10.0.0.1 --workers 2", 2, 7),
-    ];
-    check_all_rounds(&rt, CIRCLE, &rows)
+    check_all_rounds(&rt, CIRCLE, &IN_A_CIRCLE)
 }
+
+const OF_ONE_ROUTER: [Row; 4] = [
+    ("routes d --workers 7", 7, 2),
+    ("routes d --router R1 --workers 8", 8, 2),
+    ("trace d --from R1 --dst 10.0.0.1 --workers 9", 9, 2),
+    ("routes nowhere --workers 6", 6, 1),
+];
 
 #[test]
 fn workers_pass_where_their_share_is_empty(rt: HostRuntime) -> Result<(), Fail> {
-    let rows = [
-        ("routes d --workers 7", 7, 2),
-        ("routes d --router R1 --workers 8", 8, 2),
-        ("trace d --from R1 --dst 10.0.0.1 --workers 9", 9, 2),
-        ("routes nowhere --workers 6", 6, 1),
-    ];
-    check_all_rounds(&rt, BASE, &rows)
+    check_all_rounds(&rt, BASE, &OF_ONE_ROUTER)
 }
+
+const WITHOUT_ROUNDS: [Row; 2] = [("routes", 4, 0), ("routes d --router R9", 4, 0)];
+
+const WHERE_REFUSED: [Row; 1] = [("routes d", 4, 0)];
 
 #[test]
 fn nobody_passes_where_no_round_is_made(rt: HostRuntime) -> Result<(), Fail> {
-    let rows = [("routes", 4, 0), ("routes d --router R9", 4, 0)];
-    check_all_rounds(&rt, BASE, &rows)?;
-    check_all_rounds(&rt, "frobnicate\n", &[("routes d", 4, 0)])
+    check_all_rounds(&rt, BASE, &WITHOUT_ROUNDS)?;
+    check_all_rounds(&rt, "frobnicate\n", &WHERE_REFUSED)
 }

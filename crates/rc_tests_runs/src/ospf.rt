@@ -1,5 +1,5 @@
 //! OSPF inside an area: two routers over two links, and what a neighbour's settings change.
-use crate::answers::{Host, NamedText, check_answers, check_line};
+use crate::answers::{Host, NamedText, check_answers, check_line, joined};
 use rc_analyse::Status;
 use std::test::Fail;
 
@@ -92,21 +92,31 @@ const STATIC_LINES: [(&str, &str); 3] = [
     ),
 ];
 
-#[test]
-fn the_least_distance_is_used(rt: HostRuntime) -> Result<(), Fail> {
-    for (line, route) in &STATIC_LINES {
-        let first = format!(in rt.alloc(); "{FIRST}{line}")?;
-        let answer = format!(in rt.alloc();
-            "outcome fixed 2\nrouter R1\n{route}10.0.1.0/30 connected 0/0 dev Serial0/0\n10.0.2.0/30 connected 0/0 dev Serial0/1\n"
-        )?;
-        let files = [("r1.cfg", first.as_str()), ("r2.cfg", SECOND)];
-        check_line(
-            &rt,
-            &files,
-            "routes d --router R1",
-            Status::Done,
-            answer.as_str(),
-        )?;
+/// Asserts the routes of the first router where it has this line more, behind the one that is told.
+fn check_static(rt: &impl Host, first: &str, route: &str) -> Result<(), Fail> {
+    let links =
+        "10.0.1.0/30 connected 0/0 dev Serial0/0\n10.0.2.0/30 connected 0/0 dev Serial0/1\n";
+    let answer = joined(rt.alloc(), &["outcome fixed 2\nrouter R1\n", route, links])?;
+    let files = [("r1.cfg", first), ("r2.cfg", SECOND)];
+    check_line(
+        rt,
+        &files,
+        "routes d --router R1",
+        Status::Done,
+        answer.as_str(),
+    )
+}
+
+/// Asserts the routes of the first router with each of these lines.
+fn check_statics(rt: &impl Host, rows: &[(&str, &str)]) -> Result<(), Fail> {
+    for (line, route) in rows {
+        let first = joined(rt.alloc(), &[FIRST, *line])?;
+        check_static(rt, first.as_str(), route)?;
     }
     Ok(())
+}
+
+#[test]
+fn the_least_distance_is_used(rt: HostRuntime) -> Result<(), Fail> {
+    check_statics(&rt, &STATIC_LINES)
 }

@@ -1,5 +1,5 @@
 //! Four routers in a row: area 1 up to the second one, area 0 up to the third one, and area 2 behind.
-use crate::answers::{Host, check_line};
+use crate::answers::{Host, check_line, joined};
 use rc_analyse::Status;
 use std::test::Fail;
 
@@ -19,45 +19,56 @@ const THIRD: &str =
 const LAST: &str =
     "hostname R4\ninterface GigabitEthernet0/0\n ip address 10.0.34.4 255.255.255.0\ninterface Loopback0\n ip address 4.4.4.4 255.255.255.255\nrouter ospf 1\n network 0.0.0.0 255.255.255.255 area 2\n";
 
-/// What the last one has from the others.
-const SUMMARIES: [&str; 2] = [
-    "1.1.1.1/32 ospf-ia 110/4 via 10.0.34.3 dev GigabitEthernet0/0\n",
-    "10.0.12.0/24 ospf-ia 110/3 via 10.0.34.3 dev GigabitEthernet0/0\n10.0.23.0/24 ospf-ia 110/2 via 10.0.34.3 dev GigabitEthernet0/0\n",
-];
+/// What the last one has from the others: the first one's loopback, and the subnets between them.
+const HOST: &str = "1.1.1.1/32 ospf-ia 110/4 via 10.0.34.3 dev GigabitEthernet0/0\n";
 
-/// Asserts an answer of four files.
-fn check_four(rt: &impl Host, texts: [&str; 4], line: &str, answer: &str) -> Result<(), Fail> {
-    let [first, second, third, last] = texts;
+const SUBNETS: &str =
+    "10.0.12.0/24 ospf-ia 110/3 via 10.0.34.3 dev GigabitEthernet0/0\n10.0.23.0/24 ospf-ia 110/2 via 10.0.34.3 dev GigabitEthernet0/0\n";
+
+/// Asserts an answer where the last two routers have these lines more.
+fn check(
+    rt: &impl Host,
+    third_more: &str,
+    last_more: &str,
+    line: &str,
+    answer: &str,
+) -> Result<(), Fail> {
+    let third = joined(rt.alloc(), &[THIRD, third_more])?;
+    let last = joined(rt.alloc(), &[LAST, last_more])?;
     let files = [
-        ("r1.cfg", first),
-        ("r2.cfg", second),
-        ("r3.cfg", third),
-        ("r4.cfg", last),
+        ("r1.cfg", FIRST),
+        ("r2.cfg", SECOND),
+        ("r3.cfg", third.as_str()),
+        ("r4.cfg", last.as_str()),
     ];
     check_line(rt, &files, line, Status::Done, answer)
 }
 
-/// Asserts an answer where the last two routers have these lines more.
-fn check(rt: &impl Host, more: (&str, &str), line: &str, answer: &str) -> Result<(), Fail> {
-    let (third_more, last_more) = more;
-    let third = format!(in rt.alloc(); "{THIRD}{third_more}")?;
-    let last = format!(in rt.alloc(); "{LAST}{last_more}")?;
-    let texts = [FIRST, SECOND, third.as_str(), last.as_str()];
-    check_four(rt, texts, line, answer)
-}
+/// Lines that the last two routers have more, the last one's default route, and what it has from the others.
+type Row = (
+    &'static str,
+    &'static str,
+    &'static str,
+    &'static str,
+    &'static str,
+);
 
-/// Asserts the routes of the last router: the default route, and those from the others.
-fn check_last(
-    rt: &impl Host,
-    more: (&str, &str),
-    default: &str,
-    others: [&str; 2],
-) -> Result<(), Fail> {
-    let [host, subnets] = others;
-    let answer = format!(in rt.alloc();
-        "outcome fixed 2\nrouter R4\n{default}{host}4.4.4.4/32 connected 0/0 dev Loopback0\n{subnets}10.0.34.0/24 connected 0/0 dev GigabitEthernet0/0\n"
-    )?;
-    check(rt, more, "routes d --router R4", answer.as_str())
+/// Asserts the routes of the last router in each row.
+fn check_last(rt: &impl Host, rows: &[Row]) -> Result<(), Fail> {
+    for (third_more, last_more, default, host, subnets) in rows {
+        let answer = [
+            "outcome fixed 2\nrouter R4\n",
+            *default,
+            *host,
+            "4.4.4.4/32 connected 0/0 dev Loopback0\n",
+            *subnets,
+            "10.0.34.0/24 connected 0/0 dev GigabitEthernet0/0\n",
+        ];
+        let answer = joined(rt.alloc(), &answer)?;
+        let line = "routes d --router R4";
+        check(rt, third_more, last_more, line, answer.as_str())?;
+    }
+    Ok(())
 }
 
 /// By which the last router reaches all that it has no route to.
@@ -67,7 +78,7 @@ const DEFAULT: &str = "0.0.0.0/0 ospf-ia 110/2 via 10.0.34.3 dev GigabitEthernet
 fn a_walk_over_two_border_routers(rt: HostRuntime) -> Result<(), Fail> {
     let walk =
         "outcome fixed 2\nat R4 self\nat R3 GigabitEthernet0/1\nat R2 GigabitEthernet0/1\nat R1 GigabitEthernet0/0\nend accepted\n";
-    check(&rt, ("", ""), "trace d --from R4 --dst 1.1.1.1", walk)
+    check(&rt, "", "", "trace d --from R4 --dst 1.1.1.1", walk)
 }
 
 const STUB: &str = " area 2 stub\n";
@@ -76,18 +87,15 @@ const STUB: &str = " area 2 stub\n";
 const SILENT: &str = " area 2 stub no-summary\n";
 
 /// What the last two routers say of their area, the last one's default route, and its others.
-const STUBS: [((&str, &str), &str, [&str; 2]); 5] = [
-    (("", ""), "", SUMMARIES),
-    ((STUB, STUB), DEFAULT, SUMMARIES),
-    ((SILENT, STUB), DEFAULT, ["", ""]),
-    ((STUB, SILENT), DEFAULT, SUMMARIES),
-    ((STUB, ""), "", ["", ""]),
+const STUBS: [Row; 5] = [
+    ("", "", "", HOST, SUBNETS),
+    (STUB, STUB, DEFAULT, HOST, SUBNETS),
+    (SILENT, STUB, DEFAULT, "", ""),
+    (STUB, SILENT, DEFAULT, HOST, SUBNETS),
+    (STUB, "", "", "", ""),
 ];
 
 #[test]
 fn a_stub_area(rt: HostRuntime) -> Result<(), Fail> {
-    for (more, default, others) in STUBS {
-        check_last(&rt, more, default, others)?;
-    }
-    Ok(())
+    check_last(&rt, &STUBS)
 }

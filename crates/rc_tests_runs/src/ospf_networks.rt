@@ -1,5 +1,5 @@
 //! Small networks with OSPF: what an interface advertises and costs, which neighbours are adjacent, and least walks.
-use crate::answers::{Host, check_line};
+use crate::answers::{Host, NamedText, check_line, joined};
 use rc_analyse::Status;
 use std::test::Fail;
 
@@ -17,22 +17,26 @@ const PROCESS: &str = "router ospf 1\n network 10.0.0.0 0.255.255.255 area 0\n";
 /// Lines of the first and of the second router, and the routes of the first one behind that of its link.
 type Row = (&'static str, &'static str, &'static str);
 
+/// Asserts the routes of the first of two routers behind that of its link.
+fn check_two(rt: &impl Host, first: &str, second: &str, routes: &str) -> Result<(), Fail> {
+    let head = "outcome fixed 2\nrouter R1\n10.0.12.0/24 connected 0/0 dev GigabitEthernet0/0\n";
+    let answer = joined(rt.alloc(), &[head, routes])?;
+    let files = [("r1.cfg", first), ("r2.cfg", second)];
+    check_line(
+        rt,
+        &files,
+        "routes d --router R1",
+        Status::Done,
+        answer.as_str(),
+    )
+}
+
 /// Asserts the routes of the first router in each row.
 fn check_all(rt: &impl Host, rows: &[Row]) -> Result<(), Fail> {
     for (first, second, routes) in rows {
-        let first = format!(in rt.alloc(); "{FIRST}{first}{PROCESS}")?;
-        let second = format!(in rt.alloc(); "{SECOND}{second}{PROCESS}")?;
-        let answer = format!(in rt.alloc();
-            "outcome fixed 2\nrouter R1\n10.0.12.0/24 connected 0/0 dev GigabitEthernet0/0\n{routes}"
-        )?;
-        let files = [("r1.cfg", first.as_str()), ("r2.cfg", second.as_str())];
-        check_line(
-            rt,
-            &files,
-            "routes d --router R1",
-            Status::Done,
-            answer.as_str(),
-        )?;
+        let first = joined(rt.alloc(), &[FIRST, *first, PROCESS])?;
+        let second = joined(rt.alloc(), &[SECOND, *second, PROCESS])?;
+        check_two(rt, first.as_str(), second.as_str(), routes)?;
     }
     Ok(())
 }
@@ -253,11 +257,25 @@ fn own_prefixes_have_no_route_of_ospf(rt: HostRuntime) -> Result<(), Fail> {
     check_all(&rt, &OWN_ROWS)
 }
 
-/// Asserts the routes of a router among three.
-fn check_three(rt: &impl Host, texts: [&str; 3], line: &str, answer: &str) -> Result<(), Fail> {
-    let [first, second, third] = texts;
+/// Asserts an answer of three routers.
+fn check_routers(
+    rt: &impl Host,
+    first: &str,
+    second: &str,
+    third: &str,
+    line: &str,
+    answer: &str,
+) -> Result<(), Fail> {
     let files = [("r1.cfg", first), ("r2.cfg", second), ("r3.cfg", third)];
     check_line(rt, &files, line, Status::Done, answer)
+}
+
+/// Asserts what each line answers of three routers.
+fn check_three(rt: &impl Host, texts: &[&str; 3], rows: &[NamedText<'_>]) -> Result<(), Fail> {
+    for (line, answer) in rows {
+        check_routers(rt, texts[0], texts[1], texts[2], line, answer)?;
+    }
+    Ok(())
 }
 
 /// A chain of three routers, with two links between the second and the third.
@@ -281,31 +299,29 @@ const TRIANGLE: [&str; 3] = [
     "hostname R3\ninterface GigabitEthernet0/0\n ip address 10.0.13.3 255.255.255.0\ninterface GigabitEthernet0/1\n ip address 10.0.23.3 255.255.255.0\ninterface Loopback0\n ip address 3.3.3.3 255.255.255.255\nrouter ospf 1\n network 0.0.0.0 255.255.255.255 area 0\n",
 ];
 
-/// Two walks by one hop; a router without a walk to it; a longer walk that costs less, and is as good as the direct link seen from its
-/// other end; and a packet that goes by it.
-const LEAST_WALKS: [([&str; 3], &str, &str); 5] = [
+/// Two walks by one hop.
+const OF_CHAIN: [NamedText<'static>; 1] = [(
+    "routes d --router R1",
+    "outcome fixed 2\nrouter R1\n3.3.3.3/32 ospf 110/3 via 10.0.12.2 dev GigabitEthernet0/0\n10.0.12.0/24 connected 0/0 dev GigabitEthernet0/0\n10.0.23.0/24 ospf 110/2 via 10.0.12.2 dev GigabitEthernet0/0\n10.1.23.0/24 ospf 110/2 via 10.0.12.2 dev GigabitEthernet0/0\n",
+)];
+
+/// A router without a walk to it.
+const OF_CUT: [NamedText<'static>; 1] = [(
+    "routes d --router R1",
+    "outcome fixed 2\nrouter R1\n10.0.12.0/24 connected 0/0 dev GigabitEthernet0/0\n",
+)];
+
+/// A longer walk that costs less, and is as good as the direct link seen from its other end; and a packet that goes by it.
+const OF_TRIANGLE: [NamedText<'static>; 3] = [
     (
-        CHAIN,
-        "routes d --router R1",
-        "outcome fixed 2\nrouter R1\n3.3.3.3/32 ospf 110/3 via 10.0.12.2 dev GigabitEthernet0/0\n10.0.12.0/24 connected 0/0 dev GigabitEthernet0/0\n10.0.23.0/24 ospf 110/2 via 10.0.12.2 dev GigabitEthernet0/0\n10.1.23.0/24 ospf 110/2 via 10.0.12.2 dev GigabitEthernet0/0\n",
-    ),
-    (
-        CUT,
-        "routes d --router R1",
-        "outcome fixed 2\nrouter R1\n10.0.12.0/24 connected 0/0 dev GigabitEthernet0/0\n",
-    ),
-    (
-        TRIANGLE,
         "routes d --router R1",
         "outcome fixed 2\nrouter R1\n3.3.3.3/32 ospf 110/3 via 10.0.12.2 dev GigabitEthernet0/0\n10.0.12.0/24 connected 0/0 dev GigabitEthernet0/0\n10.0.13.0/24 connected 0/0 dev GigabitEthernet0/1\n10.0.23.0/24 ospf 110/2 via 10.0.12.2 dev GigabitEthernet0/0\n",
     ),
     (
-        TRIANGLE,
         "routes d --router R3",
         "outcome fixed 2\nrouter R3\n3.3.3.3/32 connected 0/0 dev Loopback0\n10.0.12.0/24 ospf 110/2 via 10.0.13.1 dev GigabitEthernet0/0 via 10.0.23.2 dev GigabitEthernet0/1\n10.0.13.0/24 connected 0/0 dev GigabitEthernet0/0\n10.0.23.0/24 connected 0/0 dev GigabitEthernet0/1\n",
     ),
     (
-        TRIANGLE,
         "trace d --from R1 --dst 3.3.3.3",
         "outcome fixed 2\nat R1 self\nat R2 GigabitEthernet0/0\nat R3 GigabitEthernet0/1\nend accepted\n",
     ),
@@ -313,54 +329,65 @@ const LEAST_WALKS: [([&str; 3], &str, &str); 5] = [
 
 #[test]
 fn least_walks_among_three_routers(rt: HostRuntime) -> Result<(), Fail> {
-    for (texts, line, answer) in LEAST_WALKS {
-        check_three(&rt, texts, line, answer)?;
-    }
-    Ok(())
+    check_three(&rt, &CHAIN, &OF_CHAIN)?;
+    check_three(&rt, &CUT, &OF_CUT)?;
+    check_three(&rt, &TRIANGLE, &OF_TRIANGLE)
 }
 
 /// A router in two areas.
 const BETWEEN: &str =
     "hostname R1\ninterface GigabitEthernet0/0\n ip address 10.0.12.1 255.255.255.0\ninterface GigabitEthernet0/1\n ip address 10.0.13.1 255.255.255.0\n ip ospf 1 area 1\nrouter ospf 1\n network 0.0.0.0 255.255.255.255 area 0\n";
 
-/// Asserts its routes where a router in each area has one subnet, at these costs.
-fn check_areas(rt: &impl Host, two: u32, three: u32, route: &str) -> Result<(), Fail> {
-    let second = format!(in rt.alloc();
-        "hostname R2\ninterface GigabitEthernet0/0\n ip address 10.0.12.2 255.255.255.0\ninterface GigabitEthernet0/5\n ip address 172.16.0.2 255.255.255.0\n ip ospf cost {two}\nrouter ospf 1\n network 0.0.0.0 255.255.255.255 area 0\n"
-    )?;
-    let third = format!(in rt.alloc();
-        "hostname R3\ninterface GigabitEthernet0/0\n ip address 10.0.13.3 255.255.255.0\ninterface GigabitEthernet0/5\n ip address 172.16.0.3 255.255.255.0\n ip ospf cost {three}\nrouter ospf 1\n network 0.0.0.0 255.255.255.255 area 1\n"
-    )?;
-    let answer = format!(in rt.alloc();
-        "outcome fixed 2\nrouter R1\n10.0.12.0/24 connected 0/0 dev GigabitEthernet0/0\n10.0.13.0/24 connected 0/0 dev GigabitEthernet0/1\n{route}"
-    )?;
-    let texts = [BETWEEN, second.as_str(), third.as_str()];
-    check_three(rt, texts, "routes d --router R1", answer.as_str())
+/// The routers of the first area and of the second one, up to the cost of the subnet that both have, and behind it.
+const IN_FIRST: [&str; 2] = [
+    "hostname R2\ninterface GigabitEthernet0/0\n ip address 10.0.12.2 255.255.255.0\ninterface GigabitEthernet0/5\n ip address 172.16.0.2 255.255.255.0\n ip ospf cost ",
+    "\nrouter ospf 1\n network 0.0.0.0 255.255.255.255 area 0\n",
+];
+
+const IN_SECOND: [&str; 2] = [
+    "hostname R3\ninterface GigabitEthernet0/0\n ip address 10.0.13.3 255.255.255.0\ninterface GigabitEthernet0/5\n ip address 172.16.0.3 255.255.255.0\n ip ospf cost ",
+    "\nrouter ospf 1\n network 0.0.0.0 255.255.255.255 area 1\n",
+];
+
+/// Asserts the routes of the router in two areas beside these two.
+fn check_between(rt: &impl Host, second: &str, third: &str, route: &str) -> Result<(), Fail> {
+    let head =
+        "outcome fixed 2\nrouter R1\n10.0.12.0/24 connected 0/0 dev GigabitEthernet0/0\n10.0.13.0/24 connected 0/0 dev GigabitEthernet0/1\n";
+    let answer = joined(rt.alloc(), &[head, route])?;
+    let line = "routes d --router R1";
+    check_routers(rt, BETWEEN, second, third, line, answer.as_str())
 }
 
 /// The costs of a prefix in the first area and in the second one, and the route to it.
-const IN_TWO_AREAS: [(u32, u32, &str); 3] = [
+const IN_TWO_AREAS: [Row; 3] = [
     (
-        5,
-        9,
+        "5",
+        "9",
         "172.16.0.0/24 ospf 110/6 via 10.0.12.2 dev GigabitEthernet0/0\n",
     ),
     (
-        9,
-        5,
+        "9",
+        "5",
         "172.16.0.0/24 ospf 110/6 via 10.0.13.3 dev GigabitEthernet0/1\n",
     ),
     (
-        5,
-        5,
+        "5",
+        "5",
         "172.16.0.0/24 ospf 110/6 via 10.0.12.2 dev GigabitEthernet0/0 via 10.0.13.3 dev GigabitEthernet0/1\n",
     ),
 ];
 
-#[test]
-fn one_prefix_in_two_areas(rt: HostRuntime) -> Result<(), Fail> {
-    for (two, three, route) in IN_TWO_AREAS {
-        check_areas(&rt, two, three, route)?;
+/// Asserts of each row its routes where the prefix has these costs.
+fn check_all_areas(rt: &impl Host, rows: &[Row]) -> Result<(), Fail> {
+    for (two, three, route) in rows {
+        let second = joined(rt.alloc(), &[IN_FIRST[0], *two, IN_FIRST[1]])?;
+        let third = joined(rt.alloc(), &[IN_SECOND[0], *three, IN_SECOND[1]])?;
+        check_between(rt, second.as_str(), third.as_str(), route)?;
     }
     Ok(())
+}
+
+#[test]
+fn one_prefix_in_two_areas(rt: HostRuntime) -> Result<(), Fail> {
+    check_all_areas(&rt, &IN_TWO_AREAS)
 }

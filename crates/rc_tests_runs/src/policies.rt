@@ -1,5 +1,7 @@
 //! Prefix lists, community lists and route maps, from files to answers.
-use crate::answers::{BASE, CONNECTED, NamedText, check_all_refused, check_done, check_files};
+use crate::answers::{
+    BASE, CONNECTED, NamedText, check_all_refused, check_done, check_files, joined,
+};
 use rc_analyse::Status;
 use std::test::Fail;
 
@@ -88,7 +90,7 @@ ip community-list standard GOOD deny 4259840001 no-advertise
 
 #[test]
 fn lists_that_are_defined(rt: HostRuntime) -> Result<(), Fail> {
-    let config = format!(in rt.alloc(); "{BASE}{DEFINED}")?;
+    let config = joined(rt.alloc(), &[BASE, DEFINED])?;
     check_done(&rt, config.as_str(), CONNECTED)
 }
 

@@ -180,8 +180,7 @@ fn check_meets(rt: &impl Host, words: &[&str], phase: u32) -> Result<(), Fail> {
     let mut folder = folder_of(rt.alloc(), &IN_CIRCLES, &[])?;
     let mut out = sink_of(rt.alloc(), 4096)?;
     let status = ran(rt, words, &mut folder, &mut out, &gate);
-    assert!(rt; status == Status::Done);
-    assert!(rt; gate.met(), "phase {phase}");
+    assert!(rt; status == Status::Done && gate.met(), "phase {phase}");
     Ok(())
 }
 

@@ -55,29 +55,29 @@ line vty 0 4
 end
 ";
 
-/// Folders and their answers: without a file; with files of other names; with routers whose names stand in another order.
-const FOLDERS: [(&[NamedText<'static>], &str); 3] = [
-    (&[], "outcome fixed 1\n"),
-    (
-        &[("readme", "x"), ("a.cfg", BASE), ("a.cfg.old", "x")],
-        CONNECTED,
-    ),
-    (
-        &[
-            ("a.cfg", "hostname R2\n"),
-            ("b.cfg", BASE),
-            ("c.cfg", "hostname R10\n"),
-        ],
-        "outcome fixed 2\nrouter R1\n10.0.0.0/24 connected 0/0 dev GigabitEthernet0/0\nrouter R10\nrouter R2\n",
-    ),
+/// A configuration among files of other names.
+const AMONG_OTHERS: [NamedText<'static>; 3] = [
+    ("readme", "x"),
+    ("a.cfg", BASE),
+    ("a.cfg.old", "x"),
 ];
+
+/// Routers whose names stand in another order than their files.
+const IN_ANOTHER_ORDER: [NamedText<'static>; 3] = [
+    ("a.cfg", "hostname R2\n"),
+    ("b.cfg", BASE),
+    ("c.cfg", "hostname R10\n"),
+];
+
+/// What is said of them.
+const BY_HOST_NAME: &str =
+    "outcome fixed 2\nrouter R1\n10.0.0.0/24 connected 0/0 dev GigabitEthernet0/0\nrouter R10\nrouter R2\n";
 
 #[test]
 fn routers_of_configurations_by_host_name(rt: HostRuntime) -> Result<(), Fail> {
-    for (files, answer) in FOLDERS {
-        check_files(&rt, files, Status::Done, answer)?;
-    }
-    Ok(())
+    check_files(&rt, &[], Status::Done, "outcome fixed 1\n")?;
+    check_files(&rt, &AMONG_OTHERS, Status::Done, CONNECTED)?;
+    check_files(&rt, &IN_ANOTHER_ORDER, Status::Done, BY_HOST_NAME)
 }
 
 /// Asserts of each row the routes of one file.
@@ -181,11 +181,16 @@ fn lines_of_chain(rt: &impl Host, length: u32) -> Result<usize, Fail> {
     Ok(out.bytes.iter().filter(|byte| **byte == b'\n').count())
 }
 
-#[test]
-fn at_most_16_routes_resolve_in_a_chain(rt: HostRuntime) -> Result<(), Fail> {
-    for (length, lines) in [(15, 18), (16, 19), (17, 19)] {
-        let found = lines_of_chain(&rt, length)?;
-        assert!(rt; found == lines, "{length} routes");
+/// Asserts of each row how many lines the answer to a chain of so many routes has.
+fn check_chains(rt: &impl Host, rows: &[(u32, usize)]) -> Result<(), Fail> {
+    for (length, lines) in rows {
+        let found = lines_of_chain(rt, *length)?;
+        assert!(rt; found == *lines, "{length} routes");
     }
     Ok(())
+}
+
+#[test]
+fn at_most_16_routes_resolve_in_a_chain(rt: HostRuntime) -> Result<(), Fail> {
+    check_chains(&rt, &[(15, 18), (16, 19), (17, 19)])
 }

@@ -1,7 +1,7 @@
 //! A small network whose set doesn't fit into the small table of nodes in which it is tried first.
 //!
-//! Two lists on its way deny what has some bit 1 in both addresses, the first one the nine lowest bits and the second one the next
-//! nine. Each has some 500 nodes, and both together more than a quarter of a million.
+//! Two lists on its way deny what has some bit 1 in both addresses, the first one the eight lowest bits and the second one nine
+//! others. Each has some hundreds of nodes, and both together more than 131,072.
 use crate::answers::{Host, NamedText, check_line, folder_of, ran, sink_of};
 use rc_analyse::Status;
 use rc_outside::Gate;
@@ -26,7 +26,6 @@ access-list 101 deny ip 0.0.0.16 255.255.255.239 0.0.0.16 255.255.255.239
 access-list 101 deny ip 0.0.0.32 255.255.255.223 0.0.0.32 255.255.255.223
 access-list 101 deny ip 0.0.0.64 255.255.255.191 0.0.0.64 255.255.255.191
 access-list 101 deny ip 0.0.0.128 255.255.255.127 0.0.0.128 255.255.255.127
-access-list 101 deny ip 0.0.1.0 255.255.254.255 0.0.1.0 255.255.254.255
 access-list 101 permit ip any any
 ",
     ),
@@ -78,7 +77,7 @@ fn a_set_beyond_the_small_table_is_found(rt: HostRuntime) -> Result<(), Fail> {
 
 #[test]
 fn a_set_beyond_the_table_of_the_words_is_not(rt: HostRuntime) -> Result<(), Fail> {
-    for nodes in [" --nodes 65537", " --nodes 65536", " --nodes 131072"] {
+    for nodes in [" --nodes 65536", " --nodes 65537"] {
         let mut line = String::from_str(rt.alloc(), QUESTION)?;
         line.push_str(nodes)?;
         check_line(&rt, &ON_A_WAY, line.as_str(), Status::Nodes, "")?;
@@ -130,22 +129,12 @@ fn check_passes(rt: &impl Host, words: &[&str], workers: u32, all: u64) -> Resul
 
 #[test]
 fn each_worker_passes_once_though_the_set_is_made_twice(rt: HostRuntime) -> Result<(), Fail> {
-    for (count, workers, all) in [
-        ("1", 1, 0b111),
-        ("2", 2, 0b11_1111),
-        ("3", 3, 0b1_1111_1111),
-    ] {
-        let line = [
-            "reach",
-            "d",
-            "--from",
-            "R1:GigabitEthernet0/0",
-            "--end",
-            "accepted",
-            "--workers",
-            count,
-        ];
-        check_passes(&rt, &line, workers, all)?;
+    let rows = [(" --workers 1", 1, 0b111), (" --workers 2", 2, 0b11_1111)];
+    for (option, workers, all) in rows {
+        let mut line = String::from_str(rt.alloc(), QUESTION)?;
+        line.push_str(option)?;
+        let words: Vec<&str> = line.as_str().split(' ').collect(rt.alloc())?;
+        check_passes(&rt, words.as_slice(), workers, all)?;
     }
     Ok(())
 }

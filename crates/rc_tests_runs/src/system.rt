@@ -30,23 +30,40 @@ fn names_are_files<R: Files + AllocGlobal + Abort + Clone + Drop>(
     let names = folder.names(rt.alloc(), "tried/").ok().ok_or("names")?;
     let mut names = names.into_vec();
     names.sort()?;
-    assert!(rt; names.len() == 2);
-    assert!(rt; names[0].as_str() == "a.cfg");
-    assert!(rt; names[1].as_str() == "b.cfg");
+    match names.as_slice() {
+        [first, second] => assert!(rt; first.as_str() == "a.cfg" && second.as_str() == "b.cfg"),
+        _ => assert!(rt; false, "other names"),
+    }
     Ok(())
 }
 
 fn fronts_are_read<R: Files + AllocGlobal + Abort + Clone + Drop>(
     rt: &R,
     folder: &mut RealFolder<R>,
+    rows: &[(usize, &str)],
 ) -> Result<(), Fail> {
-    for (most, text) in [(0, "h"), (7, "hostname"), (100, "hostname R1\n")] {
-        let read = folder.read(rt.alloc(), "tried", "b.cfg", most);
+    for (most, text) in rows {
+        let read = folder.read(rt.alloc(), "tried", "b.cfg", *most);
         let bytes = read.ok().ok_or("read")?;
-        assert!(rt; bytes.as_slice() == text.as_bytes());
+        assert!(rt; bytes.as_slice() == text.as_bytes(), "{text}");
     }
     assert!(rt; folder.faults() == 0);
     Ok(())
+}
+
+/// Asserts that listing each of these fails, and how many faults there are then.
+fn listings_fail<R: Files + AllocGlobal + Abort + Clone + Drop>(
+    rt: &R,
+    folder: &mut RealFolder<R>,
+    rows: &[(&str, u64)],
+) {
+    for (dir, faults) in rows {
+        let failed = folder.names(rt.alloc(), dir).err();
+        assert!(rt;
+            failed == Some(SourceError::Failed) && folder.faults() == *faults,
+            "{dir}"
+        );
+    }
 }
 
 /// A folder that isn't there, a file in the place of a folder, a link that leads nowhere, and a file that isn't there.
@@ -55,23 +72,21 @@ fn failures_are_counted<R: Files + AllocGlobal + Abort + Clone + Drop>(
     folder: &mut RealFolder<R>,
 ) -> Result<(), Fail> {
     symlink(rt, "gone.cfg", "tried/d.cfg")?;
-    for (dir, faults) in [("none", 1), ("tried/a.cfg", 2), ("tried", 3)] {
-        let listing = folder.names(rt.alloc(), dir);
-        assert!(rt; listing.err() == Some(SourceError::Failed));
-        assert!(rt; folder.faults() == faults);
-    }
-    let read = folder.read(rt.alloc(), "tried", "none.cfg", 100);
-    assert!(rt; read.err() == Some(SourceError::Failed));
-    assert!(rt; folder.faults() == 4);
+    listings_fail(rt, folder, &[("none", 1), ("tried/a.cfg", 2), ("tried", 3)]);
+    let failed = folder.read(rt.alloc(), "tried", "none.cfg", 100).err();
+    assert!(rt; failed == Some(SourceError::Failed) && folder.faults() == 4);
     Ok(())
 }
+
+/// How many bytes are asked for, and the front that is read.
+const FRONTS: [(usize, &str); 3] = [(0, "h"), (7, "hostname"), (100, "hostname R1\n")];
 
 #[test]
 fn a_real_folder(rt: HostRuntime) -> Result<(), Fail> {
     make_files(&rt)?;
     let mut folder = RealFolder::new(rt.clone()?);
     names_are_files(&rt, &mut folder)?;
-    fronts_are_read(&rt, &mut folder)?;
+    fronts_are_read(&rt, &mut folder, &FRONTS)?;
     failures_are_counted(&rt, &mut folder)?;
     fs::remove_dir_all(&rt, "tried")?;
     Ok(())
@@ -99,22 +114,26 @@ impl Write for Narrow {
     }
 }
 
+/// Puts a line in two pieces and nothing between them, and tells the faults.
+fn put_line<W: Write + Drop>(out: &mut WriterSink<W>) -> (bool, u64) {
+    let is_put = out.put(b"outcome ") == Ok(())
+        && out.put(b"") == Ok(())
+        && out.put(b"fixed 1\n") == Ok(());
+    (is_put, out.faults())
+}
+
 #[test]
 fn a_real_stream(rt: HostRuntime) -> Result<(), Fail> {
     let mut out = WriterSink::new(fs::create(&rt, "text")?);
-    assert!(rt; out.put(b"outcome ") == Ok(()));
-    assert!(rt; out.put(b"") == Ok(()));
-    assert!(rt; out.put(b"fixed 1\n") == Ok(()));
-    assert!(rt; out.faults() == 0);
+    assert!(rt; put_line(&mut out) == (true, 0));
     // What is put is there at once.
     let text = fs::read_to_string(&rt, "text")?;
     assert!(rt; text.as_str() == "outcome fixed 1\n");
 
     // A file that is open for reading takes no bytes.
     let mut out = WriterSink::new(fs::open(&rt, "text")?);
-    assert!(rt; out.put(b"more") == Err(SinkFailed));
-    assert!(rt; out.put(b"more") == Err(SinkFailed));
-    assert!(rt; out.faults() == 2);
+    assert!(rt; put_line(&mut out) == (false, 1));
+    assert!(rt; out.put(b"more") == Err(SinkFailed) && out.faults() == 2);
     fs::remove_file(&rt, "text")?;
     Ok(())
 }
@@ -122,10 +141,12 @@ fn a_real_stream(rt: HostRuntime) -> Result<(), Fail> {
 #[test]
 fn a_writer_that_takes_no_more(rt: HostRuntime) {
     let mut out = WriterSink::new(Narrow { room: 6 });
-    assert!(rt; out.put(b"four") == Ok(()));
-    assert!(rt; out.put(b"four") == Err(SinkFailed));
-    assert!(rt; out.put(b"") == Ok(()));
-    assert!(rt; out.faults() == 1);
+    assert!(rt;
+        out.put(b"four") == Ok(())
+            && out.put(b"four") == Err(SinkFailed)
+            && out.put(b"") == Ok(())
+            && out.faults() == 1
+    );
 }
 
 // ---- whole runs, as the program makes them
@@ -160,13 +181,16 @@ where
     Ok(run(rt, words, &mut folder, &mut out, &OpenGate))
 }
 
-/// These words, over the folders of the system and to a file, end with this exit status.
-fn ends_with<R>(rt: &R, words: &[&str], code: u8) -> Result<(), Fail>
+/// Asserts of each line that its words, over the folders of the system and to a file, end with this exit status.
+fn end_with<R>(rt: &R, rows: &[(&str, u8)]) -> Result<(), Fail>
 where
     R: Threads + Sync + AllocGlobal + Files + Abort + Clone + Drop,
 {
-    let status = status_of(rt, words, fs::create(rt, "answer")?)?;
-    assert!(rt; status.code() == code);
+    for (line, code) in rows {
+        let words: Vec<&str> = line.split(' ').collect(rt.alloc())?;
+        let status = status_of(rt, words.as_slice(), fs::create(rt, "answer")?)?;
+        assert!(rt; status.code() == *code, "{line}");
+    }
     Ok(())
 }
 
@@ -180,16 +204,21 @@ where
     Ok(())
 }
 
+/// Lines, and the exit statuses with which they end.
+const CODES: [(&str, u8); 7] = [
+    ("routes ended/base", 0),
+    ("routes ended/refused", 1),
+    ("routes", 2),
+    ("routes ended/turning", 3),
+    ("routes ended/turning --rounds 6", 4),
+    ("routes ended/none", 6),
+    ("routes ended/base --router R9", 9),
+];
+
 #[test]
 fn exit_statuses(rt: HostRuntime) -> Result<(), Fail> {
     make_folders(&rt)?;
-    ends_with(&rt, &["routes", "ended/base"], 0)?;
-    ends_with(&rt, &["routes", "ended/refused"], 1)?;
-    ends_with(&rt, &["routes"], 2)?;
-    ends_with(&rt, &["routes", "ended/turning"], 3)?;
-    ends_with(&rt, &["routes", "ended/turning", "--rounds", "6"], 4)?;
-    ends_with(&rt, &["routes", "ended/none"], 6)?;
-    ends_with(&rt, &["routes", "ended/base", "--router", "R9"], 9)?;
+    end_with(&rt, &CODES)?;
     ends_with_a_fault(&rt)?;
     fs::remove_file(&rt, "answer")?;
     fs::remove_dir_all(&rt, "ended")?;

@@ -1,5 +1,5 @@
 //! Walks of packets, and the routes of one router, from files to text.
-use crate::answers::{CIRCLE, Host, NamedText, Said, check_line, check_said};
+use crate::answers::{CIRCLE, Host, NamedText, Said, check_line, check_said, joined};
 use rc_analyse::Status;
 use std::alloc::{AllocError, Global};
 use std::test::Fail;
@@ -10,7 +10,10 @@ type Row = (&'static str, &'static str, &'static str);
 /// Asserts each walk over files.
 fn check_walks(rt: &impl Host, files: &[NamedText<'_>], rows: &[Row]) -> Result<(), Fail> {
     for (place, destination, text) in rows {
-        let line = format!(in rt.alloc(); "trace d --from {place} --dst {destination}")?;
+        let line = joined(
+            rt.alloc(),
+            &["trace d --from ", *place, " --dst ", *destination],
+        )?;
         check_line(rt, files, line.as_str(), Status::Done, text)?;
     }
     Ok(())
@@ -56,13 +59,26 @@ const ENDINGS_WHERE_DOWN: [NamedText<'static>; 2] = [
     ("10.0.0.1", "accepted"),
 ];
 
+/// Asserts how a packet to an address ends at a place, which is printed so.
+fn check_end(
+    rt: &impl Host,
+    place: &str,
+    at: &str,
+    destination: &str,
+    ending: &str,
+) -> Result<(), Fail> {
+    let line = ["trace d --from ", place, " --dst ", destination];
+    let text = ["outcome fixed 3\nat ", at, "\nend ", ending, "\n"];
+    let line = joined(rt.alloc(), &line)?;
+    let text = joined(rt.alloc(), &text)?;
+    let files = [("a.cfg", ALONE)];
+    check_line(rt, &files, line.as_str(), Status::Done, text.as_str())
+}
+
 /// Asserts of each row how a packet to an address ends at a place, which is printed so.
 fn check_ends(rt: &impl Host, place: &str, at: &str, rows: &[NamedText<'_>]) -> Result<(), Fail> {
     for (destination, ending) in rows {
-        let line = format!(in rt.alloc(); "trace d --from {place} --dst {destination}")?;
-        let text = format!(in rt.alloc(); "outcome fixed 3\nat {at}\nend {ending}\n")?;
-        let files = [("a.cfg", ALONE)];
-        check_line(rt, &files, line.as_str(), Status::Done, text.as_str())?;
+        check_end(rt, place, at, destination, ending)?;
     }
     Ok(())
 }
@@ -328,32 +344,51 @@ fn ring_router(alloc: Global, number: u32) -> Result<String, AllocError> {
     )
 }
 
-#[test]
-fn a_walk_round_a_ring(rt: HostRuntime) -> Result<(), Fail> {
-    let alloc = rt.alloc();
+/// The names and the texts of these routers.
+fn ring(alloc: Global) -> Result<Vec<(String, String)>, AllocError> {
     let mut texts = Vec::new(alloc);
     for number in 0..16 {
         let name = format!(in alloc; "{number}.cfg")?;
         texts.push((name, ring_router(alloc, number)?))?;
     }
-    let mut files = Vec::new(alloc);
-    for (name, text) in &texts {
-        files.push((name.as_str(), text.as_str()))?;
-    }
+    Ok(texts)
+}
+
+/// What is said of a walk all round.
+fn all_round(alloc: Global) -> Result<String, AllocError> {
     let mut text = String::from_str(alloc, "outcome fixed 3\nat r0 self\n")?;
     for number in 1..17 {
-        let router = number % 16;
-        text.push_str(format!(in alloc; "at r{router} Vlan2\n")?.as_str())?;
+        let line = format!(in alloc; "at r{} Vlan2\n", number % 16)?;
+        text.push_str(line.as_str())?;
     }
     text.push_str("end loop\n")?;
-    let files = files.as_slice();
-    let round = "trace d --from r0 --dst 8.8.8.8";
-    check_line(&rt, files, round, Status::Done, text.as_str())?;
-    check_line(
+    Ok(text)
+}
+
+/// Asserts what a line says over these files.
+fn check_ring(
+    rt: &impl Host,
+    texts: &[(String, String)],
+    line: &str,
+    text: &str,
+) -> Result<(), Fail> {
+    let mut files = Vec::new(rt.alloc());
+    for (name, file) in texts {
+        files.push((name.as_str(), file.as_str()))?;
+    }
+    check_line(rt, files.as_slice(), line, Status::Done, text)
+}
+
+#[test]
+fn a_walk_round_a_ring(rt: HostRuntime) -> Result<(), Fail> {
+    let texts = ring(rt.alloc())?;
+    let round = all_round(rt.alloc())?;
+    let line = "trace d --from r0 --dst 8.8.8.8";
+    check_ring(&rt, texts.as_slice(), line, round.as_str())?;
+    check_ring(
         &rt,
-        files,
+        texts.as_slice(),
         "trace d --from r3 --dst 10.0.4.1",
-        Status::Done,
         "outcome fixed 3\nat r3 self\nat r4 Vlan2\nend accepted\n",
     )
 }

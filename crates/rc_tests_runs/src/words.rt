@@ -1,5 +1,5 @@
 //! Words that are not taken, and the options of a command.
-use crate::answers::{BASE, CONNECTED, Said, check_line, check_said, check_words};
+use crate::answers::{BASE, CONNECTED, Host, Said, check_line, check_said, check_words};
 use rc_analyse::Status;
 use std::test::Fail;
 
@@ -43,14 +43,18 @@ const NOT_TAKEN: [&str; 28] = [
     "trace d --from R1 --dst 1.2.3",
 ];
 
-#[test]
-fn words_that_are_not_taken(rt: HostRuntime) -> Result<(), Fail> {
-    let files = [("a.cfg", BASE)];
-    check_words(&rt, &files, &[], Status::Usage, USAGE)?;
-    for line in NOT_TAKEN {
-        check_line(&rt, &files, line, Status::Usage, USAGE)?;
+/// Asserts that the words of none of these lines are taken.
+fn check_usage(rt: &impl Host, lines: &[&str]) -> Result<(), Fail> {
+    for line in lines {
+        check_line(rt, &[("a.cfg", BASE)], line, Status::Usage, USAGE)?;
     }
     Ok(())
+}
+
+#[test]
+fn words_that_are_not_taken(rt: HostRuntime) -> Result<(), Fail> {
+    check_words(&rt, &[("a.cfg", BASE)], &[], Status::Usage, USAGE)?;
+    check_usage(&rt, &NOT_TAKEN)
 }
 
 /// Lines with options, how they end, and what they say.
