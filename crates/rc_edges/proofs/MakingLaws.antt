@@ -43,6 +43,7 @@ use Rattle.rc_nodes.specs.declared.words.Ref.{Ref}
 use Rattle.rc_places.specs.Places.{position_at}
 use Rattle.rc_route.specs.declared.route.Hop.{Hop}
 use Rattle.rc_sets.specs.Regions.{hops_in}
+use Rattle.rc_sets.specs.Stretches.{AreStretches}
 use Rattle.rc_trees.specs.Recipes.{tree}
 use Rattle.rc_trees.specs.Trees.{Tree}
 use Rattle.rc_walk.specs.Moves.{DataPlane, fib_of, router_of}
@@ -69,10 +70,11 @@ no_part LetOut = refl
 no_part Taken = refl
 no_part Subnets = refl
 
-pub nothing_made : (nodes : TableView) (seat : SeatView) (plane : DataPlane) (q : Pos) (made : RouterSets) → IsSeatOf nodes seat → made.hops ≡ hops_at plane q → made.parts.items ≡ replicate (length made.hops) no_parts → made.owned ≡ None → made.forwarded ≡ None → IsMade nodes seat plane q made
-nothing_made nodes seat plane q made table hops parts owned none = record {
+pub nothing_made : (nodes : TableView) (seat : SeatView) (plane : DataPlane) (q : Pos) (made : RouterSets) → IsSeatOf nodes seat → made.hops ≡ hops_at plane q → AreStretches made.stretches (fib_of plane (router_of q)) → made.parts.items ≡ replicate (length made.hops) no_parts → made.owned ≡ None → made.forwarded ≡ None → IsMade nodes seat plane q made
+nothing_made nodes seat plane q made table hops stretches parts owned none = record {
   table = table;
   hops = hops;
+  stretches = stretches;
   parts = λ k x p at. subst (λ o. IsKnownIfMade seat o (fixed plane (router_of q) p x)) (sym (ap (λ xs. part_in (parts_of xs k) p) parts ∙ ap (λ s. part_in s p) (unmade (length made.hops) k) ∙ no_part p)) tt;
   owned = subst (λ o. IsKnownIfMade seat o (to_router plane (router_of q))) (sym owned) tt;
   forwarded = subst (λ o. IsKnownIfMade seat o (forwarded plane q)) (sym none) tt;
@@ -85,10 +87,11 @@ made_for (Ok made) plane q entries is all = λ nodes seat table. all nodes seat 
 made_for (Err e) plane q entries is all = tt
 
 -- what is made of a router stays where only the position changes
-pub made_again : (nodes : TableView) (seat : SeatView) (plane : DataPlane) (q t : Pos) (made next : RouterSets) → router_of q ≡ router_of t → IsMade nodes seat plane q made → next.hops ≡ made.hops → next.parts.items ≡ made.parts.items → next.owned ≡ made.owned → next.forwarded ≡ None → IsMade nodes seat plane t next
-made_again nodes seat plane q t made next same m hops parts owned none = record {
+pub made_again : (nodes : TableView) (seat : SeatView) (plane : DataPlane) (q t : Pos) (made next : RouterSets) → router_of q ≡ router_of t → IsMade nodes seat plane q made → next.hops ≡ made.hops → next.stretches ≡ made.stretches → next.parts.items ≡ made.parts.items → next.owned ≡ made.owned → next.forwarded ≡ None → IsMade nodes seat plane t next
+made_again nodes seat plane q t made next same m hops stretches parts owned none = record {
   table = m.table;
   hops = hops ∙ m.hops ∙ ap (λ r. hops_in (fib_of plane r)) same;
+  stretches = subst (λ r. AreStretches next.stretches (fib_of plane r)) same (subst (λ ns. AreStretches ns (fib_of plane (router_of q))) (sym stretches) m.stretches);
   parts = λ k x p at.
       subst (λ r. IsKnownIfMade seat (part_in (parts_of next.parts.items k) p) (fixed plane r p x)) same
       (subst (λ all. IsKnownIfMade seat (part_in (parts_of all k) p) (fixed plane (router_of q) p x)) (sym parts) (m.parts k x p (ap (λ hs. slice_get hs k) (sym hops) ∙ at)));
@@ -124,6 +127,7 @@ module _ (nodes : TableView) (seat : SeatView) (plane : DataPlane) (ends : Ends)
     made = record {
       table = is.made.table;
       hops = is.made.hops ∙ hops_like plane q t like;
+      stretches = subst (λ r. AreStretches s.made.stretches (fib_of plane r)) like.router is.made.stretches;
       parts = λ k x p at. subst (λ r. IsKnownIfMade seat (part_in (parts_of s.made.parts.items k) p) (fixed plane r p x)) like.router (is.made.parts k x p at);
       owned = subst (λ r. IsKnownIfMade seat s.made.owned (to_router plane r)) like.router is.made.owned;
       forwarded = subst (IsKnownIfMade seat s.made.forwarded) (forwarded_like plane q t like) is.made.forwarded;

@@ -1,32 +1,9 @@
--- The hops of a table, and the parts of a hop that were made.
-use Rattle.std.specs.Prelude.{◌≡◌, ℕ, ◌-◌, ◌<◌, List, [], ◌∷◌, Option, Some, None, slice_get, unwrap_or}
+-- The parts of a hop that were made.
+use Rattle.std.specs.Prelude.{ℕ, List, Option, Some, None, slice_get, unwrap_or}
 use Rattle.rc_edges.specs.declared.parts.Part.{Part}
 use Rattle.rc_edges.specs.declared.parts.Part.TheVariants.{Over, LetOut, Taken, Subnets}
 use Rattle.rc_edges.specs.declared.router_sets.HopParts.{HopParts}
-use Rattle.rc_fib.specs.declared.entry.Entry.{Entry}
 use Rattle.rc_nodes.specs.declared.words.Ref.{Ref}
-use Rattle.rc_route.specs.declared.route.Hop.{Hop}
-
--- two lists are of one hop each, and of the same
-pub record IsRepeated (one other : List Hop) : Type 0 where
-  pub hop : Hop
-  pub first : one ≡ hop ∷ []
-  pub second : other ≡ hop ∷ []
-
--- an entry has these hops
-pub record HasHops (entries : List Entry) (k : ℕ) (hops : List Hop) : Type 0 where
-  pub entry : Entry
-  pub at : slice_get entries k ≡ Some entry
-  pub hops_are : entry.hops ≡ hops
-
--- an entry gives the one hop that the entry before it gives
-pub record Repeats (entries : List Entry) (k : ℕ) : Type 0 where
-  pub later : 0 < k
-  pub before : List Hop
-  pub here : List Hop
-  pub has_before : HasHops entries (k - 1) before
-  pub has_here : HasHops entries k here
-  pub repeated : IsRepeated before here
 
 abbrev pub no_parts : HopParts
 no_parts = record { over = None; let_out = None; taken = None; subnets = None }

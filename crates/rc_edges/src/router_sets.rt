@@ -1,15 +1,13 @@
 //! What is made once for a router.
-ghost use Rattle.std.specs.Prelude.{◌≡◌, ◌∷◌, ◌++◌, ◌+◌, ◌<◌, [], true, IfOk, IfErr, IfSome, OnOk, Some, length, replicate, slice_get, slice_set, take};
-ghost use Rattle.std.specs.BTreeSet.{keys, insert_key};
-ghost use Rattle.std.specs.List.{fold};
+ghost use Rattle.std.specs.Prelude.{◌≡◌, IfOk, IfErr, Some, length, replicate, slice_get, slice_set};
 ghost use Rattle.rc_bdd.specs.Work.{IsCause};
 ghost use Rattle.rc_edges.specs.HopParts as spec;
 ghost use Rattle.rc_edges.specs.Made.{IsMade};
 ghost use Rattle.rc_edges.specs.Sent.{hops_at, to_router};
 ghost use Rattle.rc_edges.specs.Steps.{fixed, part_at};
 ghost use Rattle.rc_nodes.specs.Seats.{IsSeatOf, Keeps, SeatKnows};
-ghost use Rattle.rc_route.specs.Hops.{hop_cmp};
 ghost use Rattle.rc_sets.specs.Regions.{hop_set, hops_in};
+ghost use Rattle.rc_sets.specs.Stretches.{AreStretches};
 ghost use Rattle.rc_trees.specs.Recipes.{parts, tree};
 ghost use Rattle.rc_trees.specs.Trees.{HasNodes};
 ghost use Rattle.rc_walk.specs.Moves.{fib_of, router_of};
@@ -18,15 +16,14 @@ use crate::destinations::{router_set, subnets_set, taken_set};
 use crate::groups::let_out_set;
 use crate::parts::{Part, device, is_everything};
 use crate::sent::{HopAt, Site};
-use rc_base::{IfId, Items, RouterId};
+use rc_base::{Items, RouterId};
 use rc_bdd::{SetError, Work};
 use rc_fib::Entry;
 use rc_nodes::{ALWAYS, May, NEVER, Nodes, Ref};
-use rc_route::{Hop, same_hop};
-use rc_sets::hop_set;
+use rc_route::Hop;
+use rc_sets::{TableHops, hop_set_by};
 use rc_walk::Plane;
 use std::alloc::{AllocError, Global};
-use std::collections::BTreeSet;
 
 /// The parts of a hop that were made so far.
 #[derive(Clone, Copy)]
@@ -80,6 +77,8 @@ impl HopParts {
 pub(crate) struct RouterSets {
     /// The hops of its table, in their order.
     pub hops: Items<Hop>,
+    /// How many routes stand in each stretch of its table.
+    pub stretches: Items<usize>,
     /// For each hop its parts.
     pub parts: Vec<HopParts>,
     /// The headers to an own address.
@@ -93,6 +92,7 @@ impl Drop for RouterSets {
     fn drop(self) {
         let RouterSets {
             hops: _,
+            stretches: _,
             parts: _,
             owned: _,
             forwarded: _,
@@ -100,122 +100,18 @@ impl Drop for RouterSets {
     }
 }
 
-/// Puts a hop into a set.
-fn insert_hop(set: &mut BTreeSet<Hop>, hop: Hop) -> Result<(), AllocError>
-    ensures { OnOk result (keys set.new ≡ insert_key hop_cmp (keys set.old) hop) }
-{
-    // For the proof: that of an insertion wants each enum within the element named in the function.
-    let _interface: Option<IfId> = None;
-    set.insert(hop)?;
-    Ok(())
-}
-
-/// Puts hops into a set.
-fn insert_hops(set: &mut BTreeSet<Hop>, hops: &[Hop]) -> Result<(), AllocError>
-    ensures { OnOk result (keys set.new ≡ fold (insert_key hop_cmp) (keys set.old) hops.now) }
-{
-    for hop in hops {
-        insert_hop(set, *hop)?;
-    }
-    Ok(())
-}
-
-/// The hop of a list of one.
-fn sole(hops: &[Hop]) -> Option<Hop>
-    ensures { IfSome result (λ hop. hops.now ≡ hop ∷ []) }
-{
-    match hops {
-        [hop] => Some(*hop),
-        _ => None,
-    }
-}
-
-/// Whether two lists are of one hop each, and of the same.
-fn is_repeated(one: &[Hop], other: &[Hop]) -> bool
-    ensures { result ≡ true → spec.IsRepeated one.now other.now }
-{
-    let Some(one) = sole(one) else {
-        return false;
-    };
-    let Some(other) = sole(other) else {
-        return false;
-    };
-    same_hop(&one, &other)
-}
-
-/// The hops of an entry.
-fn hops_of(entries: &[Entry], index: usize) -> &[Hop]
-    requires { index < length entries.now }
-    ensures { spec.HasHops entries.now index result.now }
-{
-    entries[index].hops.as_slice()
-}
-
-/// Whether an entry gives the one hop that the entry before it gives.
-fn repeats(entries: &[Entry], index: usize) -> bool
-    requires { index < length entries.now }
-    ensures { result ≡ true → spec.Repeats entries.now index }
-{
-    if index == 0 {
-        return false;
-    }
-    is_repeated(hops_of(entries, index - 1), hops_of(entries, index))
-}
-
-/// Puts the hops of one entry more into a set. Most entries give the one hop of the entry before them, which is there already.
-fn insert_entry(set: &mut BTreeSet<Hop>, entries: &[Entry], index: usize) -> Result<(), AllocError>
-    requires index { index < length entries.now }
-    requires before { keys set.old ≡ hops_in (take index entries.now) }
-    ensures { OnOk result (keys set.new ≡ hops_in (take (index + 1) entries.now)) }
-{
-    if repeats(entries, index) {
-        return Ok(());
-    }
-    insert_hops(set, hops_of(entries, index))
-}
-
-/// The hops of a table as a set.
-fn hops_of_table(alloc: Global, entries: &[Entry]) -> Result<BTreeSet<Hop>, AllocError>
-    ensures { IfOk result (λ set. keys set ≡ hops_in entries.now) }
-{
-    let mut set = BTreeSet::new(alloc);
-    for index in 0..entries.len() {
-        insert_entry(&mut set, entries, index)?;
-    }
-    Ok(set)
-}
-
-/// Puts a hop at the end of a list.
-fn push_hop(hops: &mut Items<Hop>, hop: Hop) -> Result<(), AllocError>
-    ensures { OnOk result (hops.new ≡ hops.old ++ hop ∷ []) }
-{
-    // For the proof: that of a push wants each enum within the element named in the function.
-    let _interface: Option<IfId> = None;
-    hops.push(hop)
-}
-
-/// The hops of a table, in their order, each once.
-fn ordered_hops(alloc: Global, entries: &[Entry]) -> Result<Items<Hop>, AllocError>
-    ensures { IfOk result (λ hops. hops ≡ hops_in entries.now) }
-{
-    let set = hops_of_table(alloc, entries)?;
-    let mut hops = Items::new(alloc);
-    for hop in set {
-        push_hop(&mut hops, hop)?;
-    }
-    Ok(hops)
-}
-
 impl RouterSets {
     /// Nothing is made yet of a router with this table.
     pub fn of(alloc: Global, entries: &[Entry]) -> Result<RouterSets, AllocError>
         ensures hops { IfOk result (λ made. made.hops ≡ hops_in entries.now) }
+        ensures stretches { IfOk result (λ made. AreStretches made.stretches entries.now) }
         ensures nothing { IfOk result (λ made. (made.parts.items ≡ replicate (length made.hops) spec.no_parts) × (made.owned ≡ None) × (made.forwarded ≡ None)) }
     {
-        let hops = ordered_hops(alloc, entries)?;
+        let TableHops { hops, stretches } = TableHops::of(alloc, entries)?;
         let parts = vec![in alloc; no_parts(); hops.len()]?;
         Ok(RouterSets {
             hops,
+            stretches,
             parts,
             owned: None,
             forwarded: None,
@@ -254,9 +150,11 @@ pub(crate) fn over_set<M: May>(
     nodes: &Nodes<M>,
     plane: &Plane<'_>,
     router: RouterId,
+    stretches: &[usize],
     hop: &Hop,
 ) -> Result<Ref, SetError>
     requires seat { IsSeatOf nodes.now work.old }
+    requires stretches { AreStretches stretches.now (fib_of plane.now router) }
     requires may { HasNodes nodes.now.may (parts (hop_set (fib_of plane.now router) hop.now)) }
     ensures seat { IsSeatOf nodes.now work.new }
     ensures keeps { Keeps work.old work.new }
@@ -266,7 +164,7 @@ pub(crate) fn over_set<M: May>(
     let Some(fib) = plane.fib(router) else {
         return Ok(NEVER);
     };
-    hop_set(alloc, work, nodes, fib, hop)
+    hop_set_by(alloc, work, nodes, fib, stretches, hop)
 }
 
 /// A part of a router's hop.
@@ -276,10 +174,12 @@ fn new_part<M: May>(
     nodes: &Nodes<M>,
     plane: &Plane<'_>,
     router: RouterId,
+    stretches: &[usize],
     hop: &Hop,
     part: Part,
 ) -> Result<Ref, SetError>
     requires seat { IsSeatOf nodes.now work.old }
+    requires stretches { AreStretches stretches.now (fib_of plane.now router) }
     requires may { HasNodes nodes.now.may (parts (fixed plane.now router part hop.now)) }
     ensures seat { IsSeatOf nodes.now work.new }
     ensures keeps { Keeps work.old work.new }
@@ -287,7 +187,7 @@ fn new_part<M: May>(
     ensures cause { IfErr result (IsCause nodes.now work.new) }
 {
     match part {
-        Part::Over => over_set(alloc, work, nodes, plane, router, hop),
+        Part::Over => over_set(alloc, work, nodes, plane, router, stretches, hop),
         Part::LetOut => let_out_set(work, nodes, plane.network(), &device(hop)),
         Part::Taken => taken_set(alloc, work, nodes, plane, &device(hop)),
         Part::Subnets => subnets_set(alloc, work, nodes, plane, &device(hop)),
@@ -340,7 +240,16 @@ pub(crate) fn part_set<M: May>(
     if let Some(set) = parts_at(made.parts.as_slice(), at.index).part(part) {
         return Ok(set);
     }
-    let set = new_part(alloc, work, nodes, site.plane, site.router(), &at.hop, part)?;
+    let set = new_part(
+        alloc,
+        work,
+        nodes,
+        site.plane,
+        site.router(),
+        made.stretches.as_slice(),
+        &at.hop,
+        part,
+    )?;
     note(&mut made.parts, at.index, part, set);
     Ok(set)
 }
