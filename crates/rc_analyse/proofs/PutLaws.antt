@@ -1,6 +1,7 @@
 -- What is written of a fixed point, and of what was found.
 use Rattle.std.proofs.Common.{refl, ◌≡◌, inl, inr, sym, subst, ℕ, List, Option}
 use Rattle.rc_base.specs.declared.ending.Ends.{Ends}
+use Rattle.rc_base.specs.declared.header.Header.{Header}
 use Rattle.rc_base.specs.declared.position.Pos.{Pos}
 use Rattle.rc_config.specs.declared.network.Network.{Network}
 use Rattle.rc_edges.specs.Query.{reaching}
@@ -11,16 +12,17 @@ use Rattle.rc_rounds.specs.declared.outcome.Outcome.{Outcome}
 use Rattle.rc_rounds.specs.declared.outcome.Outcome.TheVariants.{Fixed, Repeats, Limit}
 use Rattle.rc_walk.specs.Moves.{DataPlane, plane_of}
 use Rattle.rc_walk.specs.declared.walk.Walk.{Walk}
+use Rattle.rc_words.specs.Endings.{arrivals}
 use Rattle.rc_words.specs.declared.request.Request.{Request}
-use Rattle.rc_analyse.specs.Answer.{AreExamplesOf, IsGivenBy, IsLackingFor, IsPutAtFixed, IsPutOf, IsShown, IsShownAtFixed, IsWrittenOrMemory, NeedsMore, reaching_set, status_after}
-use Rattle.rc_analyse.specs.Given.{Shown, refused, ended, nothing, routes_of, cubes_of}
-use Rattle.rc_analyse.specs.Texts.{outcome_text, refused_line}
+use Rattle.rc_analyse.specs.Answer.{AreExamplesOf, IsGivenBy, IsLackingFor, IsPutAtFixed, IsPutOf, IsShown, IsShownAtFixed, IsWritten, IsWrittenOrMemory, NeedsMore, reaching_set, status_after}
+use Rattle.rc_analyse.specs.Given.{Shown, refused, ended, nothing, routes_of, walk_of, cubes_of, first_cube_of}
+use Rattle.rc_analyse.specs.Texts.{outcome_line, outcome_text, refused_line, route_count}
 use Rattle.rc_analyse.specs.declared.findings.Findings.{Findings}
 use Rattle.rc_analyse.specs.declared.findings.Findings.TheVariants as found
 use Rattle.rc_analyse.specs.declared.status.Status.{Status}
 use Rattle.rc_analyse.specs.declared.status.Status.TheVariants.{Refused, Memory, Nodes}
 use Rattle.rc_analyse.specs.declared.subject.Subject.{Subject}
-use Rattle.rc_analyse.specs.declared.subject.Subject.TheVariants.{OneRouter, Packets}
+use Rattle.rc_analyse.specs.declared.subject.Subject.TheVariants.{OneRouter, Packet, Packets, Made}
 
 -- what is shown was written, or memory ran out before
 pub put_at_fixed : (r : Request) (net : Network) (outcome : Outcome) (state : List RouterState) (subject : Subject) (shown : Shown) {answer : Status} {old new : Option (List ℕ)}
@@ -82,3 +84,32 @@ packets_put r net outcome state plane q ends examples walks shown {answer} {old}
     (walks, subst (λ p. AreExamplesOf p q ends examples (tree (reaching p q ends)) walks) is are, refl)
     (subst (λ ws. IsWrittenOrMemory (status_after outcome) (outcome_text r.ask net outcome (cubes_of (reaching_set net state q ends) ws)) answer old new) same
     (subst (λ p. IsWrittenOrMemory (status_after outcome) (outcome_text r.ask net outcome (cubes_of (tree (reaching p q ends)) shown)) answer old new) is put))
+
+-- ---- the line of an outcome tells no route: where none is told behind it either, it is put alike beside any routes
+
+module _ (r : Request) (net : Network) (k : ℕ) (some other state : List RouterState) where
+  written_beside : (shown told : Shown) {answer : Status} {old new : Option (List ℕ)} → shown ≡ told → outcome_text r.ask net (Fixed k some) told ≡ outcome_text r.ask net (Fixed k other) told
+      → IsWritten (status_after (Fixed k some)) (outcome_text r.ask net (Fixed k some) shown) answer old new → IsWritten (status_after (Fixed k other)) (outcome_text r.ask net (Fixed k other) shown) answer old new
+  written_beside shown told {answer} {old} {new} is same written =
+      subst (λ s. IsWritten (status_after (Fixed k other)) (outcome_text r.ask net (Fixed k other) s) answer old new) (sym is)
+      (subst (λ text. IsWritten (status_after (Fixed k other)) text answer old new) same
+      (subst (λ s. IsWritten (status_after (Fixed k some)) (outcome_text r.ask net (Fixed k some) s) answer old new) is written))
+
+  pub walk_beside : (q : Pos) (h : Header) {answer : Status} {old new : Option (List ℕ)}
+      → IsPutAtFixed r net (Fixed k some) state (Packet q h) answer old new → IsPutAtFixed r net (Fixed k other) state (Packet q h) answer old new
+  unfolding outcome_line
+  walk_beside q h (inl (shown, (walk, first, is), written)) = inl (shown, (walk, first, is), written_beside shown (walk_of walk) is refl written)
+  walk_beside q h (inr lacking) = inr lacking
+
+  pub packets_beside : (q : Pos) (ends : Ends) (examples : ℕ) {answer : Status} {old new : Option (List ℕ)}
+      → IsPutAtFixed r net (Fixed k some) state (Packets q ends examples) answer old new → IsPutAtFixed r net (Fixed k other) state (Packets q ends examples) answer old new
+  unfolding outcome_line
+  packets_beside q ends examples (inl (shown, (walks, are, is), written)) =
+      inl (shown, (walks, are, is), written_beside shown (cubes_of (reaching_set net state q ends) walks) is refl written)
+  packets_beside q ends examples (inr lacking) = inr lacking
+
+  pub made_beside : (q : Pos) {answer : Status} {old new : Option (List ℕ)}
+      → IsPutAtFixed r net (Fixed k some) state (Made q) answer old new → IsPutAtFixed r net (Fixed k other) state (Made q) answer old new
+  unfolding outcome_line
+  made_beside q (inl (shown, is, written)) = inl (shown, is, written_beside shown (first_cube_of (route_count state) (reaching_set net state q arrivals)) is refl written)
+  made_beside q (inr lacking) = inr lacking

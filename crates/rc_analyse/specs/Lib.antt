@@ -7,3 +7,4 @@ pub mod Answer
 pub mod Sound
 pub mod Lines
 pub mod Rows
+pub mod FirstTry

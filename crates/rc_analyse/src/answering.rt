@@ -17,7 +17,7 @@ use crate::findings::{Findings, analyse_folder};
 use crate::reaching::{answer_made, answer_packets};
 use crate::subject::Subject;
 use crate::writing::{Lines, put_ended, put_no_place, put_refusal, put_usage};
-use rc_base::{Header, Pos};
+use rc_base::{Header, Items, Pos};
 use rc_config::Network;
 use rc_network::NetRefusal;
 use rc_outside::{Folder, Gate, Sink, SourceError};
@@ -111,17 +111,35 @@ fn answer_lines<S: Sink>(
     }
 }
 
+/// Answers the outcome of a fixed point and what follows it line by line.
+fn answer_fixed_lines<S: Sink>(
+    alloc: Global,
+    ask: &Ask,
+    net: &Network,
+    rounds: u32,
+    state: State,
+    lines: &Lines,
+    out: &mut S,
+) -> Status
+    ensures put { IsWrittenOrMemory (status_after (Outcome.Fixed rounds state)) ((head_text ask.now ++ outcome_line (Outcome.Fixed rounds state)) ++ lines_text net.now (Outcome.Fixed rounds state) lines.now) result (S.told out.old) (S.told out.new) }
+    ensures sink_only { result ≡ Status.Sink → Rose (S.faults out.old) (S.faults out.new) }
+    ensures sink_always { S.faults out.old < S.faults out.new → result ≡ Status.Sink }
+{
+    let outcome = Outcome::Fixed(rounds, state);
+    answer_lines(alloc, ask, net, &outcome, lines, out)
+}
+
 /// The first walk of a packet in a network whose routers know these routes.
 fn first_walk(
     alloc: Global,
     net: &Network,
-    state: &State,
+    state: State,
     position: Pos,
     header: &Header,
 ) -> Result<Walk, AllocError>
     requires lawful { IsLawful net.now }
-    requires state { IsStateOf (length net.now.routers) state.now }
-    ensures { IfOk result (IsFirstWalk (plane_of net.now state.now) header.now position) }
+    requires state { IsStateOf (length net.now.routers) state }
+    ensures { IfOk result (IsFirstWalk (plane_of net.now state) header.now position) }
 {
     let links = Links::of(alloc, net)?;
     let plane = Plane::of(alloc, net, &links, state)?;
@@ -133,22 +151,31 @@ fn answer_walk<S: Sink>(
     alloc: Global,
     request: &Request,
     net: &Network,
-    outcome: &Outcome,
-    state: &State,
+    rounds: u32,
+    state: State,
     position: Pos,
     header: &Header,
     out: &mut S,
 ) -> Status
     requires lawful { IsLawful net.now }
-    requires state { IsStateOf (length net.now.routers) state.now }
-    ensures put { IsPutAtFixed request.now net.now outcome.now state.now (Subject.Packet position header.now) result (S.told out.old) (S.told out.new) }
+    requires state { IsStateOf (length net.now.routers) state }
+    ensures put { IsPutAtFixed request.now net.now (Outcome.Fixed rounds state) state (Subject.Packet position header.now) result (S.told out.old) (S.told out.new) }
     ensures sink_only { result ≡ Status.Sink → Rose (S.faults out.old) (S.faults out.new) }
     ensures sink_always { S.faults out.old < S.faults out.new → result ≡ Status.Sink }
 {
-    match first_walk(alloc, net, state, position, header) {
-        Ok(walk) => answer_lines(alloc, &request.ask, net, outcome, &Lines::WalkOf(walk), out),
-        Err(_) => Status::Memory,
-    }
+    let Ok(walk) = first_walk(alloc, net, state, position, header) else {
+        return Status::Memory;
+    };
+    let lines = Lines::WalkOf(walk);
+    answer_fixed_lines(
+        alloc,
+        &request.ask,
+        net,
+        rounds,
+        Items::new(alloc),
+        &lines,
+        out,
+    )
 }
 
 /// Answers what is asked of a fixed point.
@@ -156,37 +183,38 @@ fn answer_fixed<R: Threads + Sync + AllocGlobal, S: Sink, G: Gate>(
     rt: &R,
     request: &Request,
     net: &Network,
-    outcome: &Outcome,
-    state: &State,
+    rounds: u32,
+    state: State,
     subject: &Subject,
     out: &mut S,
     gate: &G,
 ) -> Status
     requires limits { AreInRange request.now.limits }
     requires lawful { IsLawful net.now }
-    requires state { IsStateOf (length net.now.routers) state.now }
+    requires state { IsStateOf (length net.now.routers) state }
     requires starts { StartsIn net.now subject.now }
-    ensures put { IsPutAtFixed request.now net.now outcome.now state.now subject.now result (S.told out.old) (S.told out.new) }
+    ensures put { IsPutAtFixed request.now net.now (Outcome.Fixed rounds state) state subject.now result (S.told out.old) (S.told out.new) }
     ensures sink_only { result ≡ Status.Sink → Rose (S.faults out.old) (S.faults out.new) }
     ensures sink_always { S.faults out.old < S.faults out.new → result ≡ Status.Sink }
 {
     let alloc = rt.alloc();
     match subject {
         Subject::AllRouters => {
-            answer_lines(alloc, &request.ask, net, outcome, &Lines::AllRoutes, out)
+            let lines = Lines::AllRoutes;
+            answer_fixed_lines(alloc, &request.ask, net, rounds, state, &lines, out)
         }
         Subject::OneRouter(router) => {
             let lines = Lines::RoutesOf(*router);
-            answer_lines(alloc, &request.ask, net, outcome, &lines, out)
+            answer_fixed_lines(alloc, &request.ask, net, rounds, state, &lines, out)
         }
         Subject::Packet(position, header) => {
-            answer_walk(alloc, request, net, outcome, state, *position, header, out)
+            answer_walk(alloc, request, net, rounds, state, *position, header, out)
         }
         Subject::Packets(position, ends, examples) => answer_packets(
-            rt, request, net, outcome, state, position, ends, *examples, out, gate,
+            rt, request, net, rounds, state, position, ends, *examples, out, gate,
         ),
         Subject::Made(position) => {
-            answer_made(rt, request, net, outcome, state, position, out, gate)
+            answer_made(rt, request, net, rounds, state, position, out, gate)
         }
     }
 }
@@ -196,26 +224,40 @@ fn answer_ended<R: Threads + Sync + AllocGlobal, S: Sink, G: Gate>(
     rt: &R,
     request: &Request,
     net: &Network,
-    outcome: &Outcome,
+    outcome: Outcome,
     subject: &Subject,
     out: &mut S,
     gate: &G,
 ) -> Status
     requires limits { AreInRange request.now.limits }
-    requires sound { IsSoundEnd net.now outcome.now subject.now }
-    ensures put { IsPutOf request.now (Findings.Ended net.now outcome.now subject.now) result (S.told out.old) (S.told out.new) }
+    requires sound { IsSoundEnd net.now outcome subject.now }
+    ensures put { IsPutOf request.now (Findings.Ended net.now outcome subject.now) result (S.told out.old) (S.told out.new) }
     ensures sink_only { result ≡ Status.Sink → Rose (S.faults out.old) (S.faults out.new) }
     ensures sink_always { S.faults out.old < S.faults out.new → result ≡ Status.Sink }
 {
     match outcome {
-        Outcome::Fixed(_, state) => {
-            answer_fixed(rt, request, net, outcome, state, subject, out, gate)
+        Outcome::Fixed(rounds, state) => {
+            answer_fixed(rt, request, net, rounds, state, subject, out, gate)
         }
         Outcome::Repeats(_, _) => {
-            answer_lines(rt.alloc(), &request.ask, net, outcome, &Lines::Nothing, out)
+            answer_lines(
+                rt.alloc(),
+                &request.ask,
+                net,
+                &outcome,
+                &Lines::Nothing,
+                out,
+            )
         }
         Outcome::Limit(_) => {
-            answer_lines(rt.alloc(), &request.ask, net, outcome, &Lines::Nothing, out)
+            answer_lines(
+                rt.alloc(),
+                &request.ask,
+                net,
+                &outcome,
+                &Lines::Nothing,
+                out,
+            )
         }
     }
 }
@@ -224,21 +266,21 @@ fn answer_ended<R: Threads + Sync + AllocGlobal, S: Sink, G: Gate>(
 fn answer_findings<R: Threads + Sync + AllocGlobal, S: Sink, G: Gate>(
     rt: &R,
     request: &Request,
-    found: &Findings,
+    found: Findings,
     out: &mut S,
     gate: &G,
 ) -> Status
     requires limits { AreInRange request.now.limits }
-    requires sound { IsSound found.now }
-    ensures put { IsPutOf request.now found.now result (S.told out.old) (S.told out.new) }
+    requires sound { IsSound found }
+    ensures put { IsPutOf request.now found result (S.told out.old) (S.told out.new) }
     ensures sink_only { result ≡ Status.Sink → Rose (S.faults out.old) (S.faults out.new) }
     ensures sink_always { S.faults out.old < S.faults out.new → result ≡ Status.Sink }
 {
     match found {
-        Findings::Refused(refusal) => answer_refusal(rt.alloc(), refusal, out),
+        Findings::Refused(refusal) => answer_refusal(rt.alloc(), &refusal, out),
         Findings::NoPlace => answer_no_place(rt.alloc(), &request.ask, out),
         Findings::Ended(net, outcome, subject) => {
-            answer_ended(rt, request, net, outcome, subject, out, gate)
+            answer_ended(rt, request, &net, outcome, &subject, out, gate)
         }
     }
 }
@@ -265,7 +307,7 @@ pub(crate) fn answer_folder<R: Threads + Sync + AllocGlobal, F: Folder, S: Sink,
     ensures sink_always { S.faults out.old < S.faults out.new → result ≡ Status.Sink }
 {
     match analyse_folder(rt, request, folder, gate) {
-        Ok(found) => answer_findings(rt, request, &found, out, gate),
+        Ok(found) => answer_findings(rt, request, found, out, gate),
         Err(SourceError::Failed) => Status::Source,
         Err(SourceError::Memory) => Status::Memory,
     }

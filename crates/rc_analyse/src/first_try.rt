@@ -3,7 +3,8 @@
 //! The usual table of nodes takes longer to make than all else that is done for a small network. So such a network's set is tried in a
 //! small table first, and where that is full it is made again in the one that the words name. Nobody sees the difference: a
 //! set is one in any table, and each worker passes the gate once in each phase.
-ghost use Rattle.std.specs.Prelude.{◌<◌, ◌≤◌, IfSome};
+ghost use Rattle.std.specs.Prelude.{IfSome};
+ghost use Rattle.rc_analyse.specs.FirstTry.{IsRoom};
 
 use rc_config::{Network, RouterText};
 use rc_outside::Gate;
@@ -59,7 +60,7 @@ fn is_small(net: &Network, state: &State) -> bool {
 
 /// How many nodes the table of a first try has room for, where there is one: fewer than so many.
 pub(crate) fn first_room(net: &Network, state: &State, most: u32) -> Option<u32>
-    ensures { IfSome result (λ few. (0 < few) × (few ≤ 16777216)) }
+    ensures { IfSome result IsRoom }
 {
     if FEW_NODES < most && is_small(net, state) {
         Some(FEW_NODES)

@@ -1,5 +1,5 @@
 //! The set of the headers that reach, in a table of its own.
-ghost use Rattle.std.specs.Prelude.{◌≡◌, ◌<◌, ◌≤◌, IfOk, IfErr};
+ghost use Rattle.std.specs.Prelude.{◌≡◌, ◌<◌, ◌≤◌, IfOk, IfErr, IfSome};
 ghost use Rattle.std.specs.Set.{distinct_count};
 ghost use Rattle.rc_bdd.specs.declared.work.SetError.TheVariants.{Full};
 ghost use Rattle.rc_config.specs.Lawful.{IsLawful, IsPosition};
@@ -9,16 +9,15 @@ ghost use Rattle.rc_topology.specs.Ports.{links_of};
 ghost use Rattle.rc_trees.specs.Recipes.{tree};
 ghost use Rattle.rc_trees.specs.Trees.{same_tree};
 ghost use Rattle.rc_words.specs.Request.{AreInRange};
+ghost use Rattle.rc_analyse.specs.FirstTry.{IsRoom};
 
-use crate::first_try::{Onward, first_room};
+use crate::first_try::Onward;
 use rc_base::{Ends, Pos};
 use rc_bdd::SetError;
-use rc_config::Network;
 use rc_edges::Query;
 use rc_nodes::{Nodes, Ref, Seat};
 use rc_outside::Gate;
 use rc_reach::reach;
-use rc_route::State;
 use rc_walk::Plane;
 use rc_words::Limits;
 use std::alloc::{AllocError, AllocGlobal, Global};
@@ -84,18 +83,18 @@ fn reached_within<'a, R: Threads + Sync + AllocGlobal, G: Gate>(
     }
 }
 
-/// The headers that some walk brings from a position to one of the endings asked for, within these limits. A small network's are
-/// tried in a small table first.
+/// The headers that some walk brings from a position to one of the endings asked for, within these limits. Where a small table is
+/// named, they are tried in it first.
 pub(crate) fn reached<'a, R: Threads + Sync + AllocGlobal, G: Gate>(
     rt: &R,
-    net: &Network,
-    state: &State,
+    few: Option<u32>,
     plane: &'a Plane<'a>,
     place: &Pos,
     ends: &Ends,
     limits: &Limits,
     gate: &G,
 ) -> Result<ReachedSet<'a>, SetError>
+    requires few { IfSome few IsRoom }
     requires limits { AreInRange limits.now }
     requires lawful { IsLawful plane.now.network }
     requires links { plane.now.links ≡ links_of plane.now.network }
@@ -106,7 +105,7 @@ pub(crate) fn reached<'a, R: Threads + Sync + AllocGlobal, G: Gate>(
 {
     let most = limits.nodes;
     let workers = limits.workers;
-    let Some(few) = first_room(net, state, most) else {
+    let Some(few) = few else {
         return reached_within(rt, plane, place, ends, most, workers, gate);
     };
     let onward = Onward::first(gate);

@@ -2,7 +2,7 @@
 //!
 //! The table of nodes, the set and the walks of its examples are all made before the first line is put, and a cube takes no memory: so an
 //! answer is written whole, or it lacks something and nothing is.
-ghost use Rattle.std.specs.Prelude.{◌≡◌, ◌∷◌, ◌++◌, ◌<◌, ◌≤◌, [], true, false, IfOk, length};
+ghost use Rattle.std.specs.Prelude.{◌≡◌, ◌∷◌, ◌++◌, ◌<◌, ◌≤◌, [], true, false, IfOk, IfSome, length};
 ghost use Rattle.rc_base.specs.declared.ending.Ends.{Ends as EndsModel};
 ghost use Rattle.rc_config.specs.Lawful.{IsLawful, IsPosition};
 ghost use Rattle.rc_cubes.specs.Cubes.{cubes};
@@ -17,9 +17,11 @@ ghost use Rattle.rc_walk.specs.Moves.{plane_of};
 ghost use Rattle.rc_words.specs.Endings.{arrivals};
 ghost use Rattle.rc_words.specs.Request.{AreInRange};
 ghost use Rattle.rc_analyse.specs.Answer.{AreExamplesOf, AreWalksOf, IsPutAtFixed, IsWrittenOrMemory, lacking_of, status_after};
+ghost use Rattle.rc_analyse.specs.FirstTry.{IsRoom};
 ghost use Rattle.rc_analyse.specs.Texts.{head_text, outcome_line, route_count, routes_line};
 
 use crate::answering::status_after;
+use crate::first_try::first_room;
 use crate::reached_set::{ReachedSet, reached};
 use crate::writing::{put_front, put_route_count};
 use crate::{Status, Subject};
@@ -36,6 +38,7 @@ use rc_topology::Links;
 use rc_walk::{Plane, Walk, shortest};
 use rc_words::{Ask, Request, arrivals};
 use std::alloc::{AllocError, AllocGlobal, Global};
+use std::snapshot::Snapshot;
 use std::thread::Threads;
 
 /// One walk.
@@ -243,8 +246,9 @@ fn packets_over<R: Threads + Sync + AllocGlobal, S: Sink, G: Gate>(
     request: &Request,
     net: &Network,
     outcome: &Outcome,
-    state: &State,
+    known: Snapshot<State>,
     plane: &Plane<'_>,
+    few: Option<u32>,
     position: &Pos,
     ends: &Ends,
     examples: u32,
@@ -253,14 +257,16 @@ fn packets_over<R: Threads + Sync + AllocGlobal, S: Sink, G: Gate>(
 ) -> Status
     requires limits { AreInRange request.now.limits }
     requires lawful { IsLawful net.now }
-    requires plane { plane.now ≡ plane_of net.now state.now }
+    requires plane { plane.now ≡ plane_of net.now known.value }
+    requires few { IfSome few IsRoom }
     requires place { IsPosition net.now position.now }
-    ensures put { IsPutAtFixed request.now net.now outcome.now state.now (Subject.Packets position.now ends.now examples) result (S.told out.old) (S.told out.new) }
+    ensures put { IsPutAtFixed request.now net.now outcome.now known.value (Subject.Packets position.now ends.now examples) result (S.told out.old) (S.told out.new) }
     ensures sink_only { result ≡ Status.Sink → Rose (S.faults out.old) (S.faults out.new) }
     ensures sink_always { S.faults out.old < S.faults out.new → result ≡ Status.Sink }
 {
+    let _ = known;
     let limits = &request.limits;
-    let reached = match reached(rt, net, state, &*plane, position, ends, limits, gate) {
+    let reached = match reached(rt, few, &*plane, position, ends, limits, gate) {
         Ok(reached) => reached,
         Err(error) => return lacking(error),
     };
@@ -302,27 +308,28 @@ fn made_over<R: Threads + Sync + AllocGlobal, S: Sink, G: Gate>(
     request: &Request,
     net: &Network,
     outcome: &Outcome,
-    state: &State,
+    known: Snapshot<State>,
     plane: &Plane<'_>,
+    routes: u64,
+    few: Option<u32>,
     position: &Pos,
     out: &mut S,
     gate: &G,
 ) -> Status
     requires limits { AreInRange request.now.limits }
     requires lawful { IsLawful net.now }
-    requires plane { plane.now ≡ plane_of net.now state.now }
+    requires plane { plane.now ≡ plane_of net.now known.value }
+    requires routes { routes ≡ route_count known.value }
+    requires few { IfSome few IsRoom }
     requires place { IsPosition net.now position.now }
-    ensures put { IsPutAtFixed request.now net.now outcome.now state.now (Subject.Made position.now) result (S.told out.old) (S.told out.new) }
+    ensures put { IsPutAtFixed request.now net.now outcome.now known.value (Subject.Made position.now) result (S.told out.old) (S.told out.new) }
     ensures sink_only { result ≡ Status.Sink → Rose (S.faults out.old) (S.faults out.new) }
     ensures sink_always { S.faults out.old < S.faults out.new → result ≡ Status.Sink }
 {
-    let routes = match route_count(state) {
-        Ok(routes) => routes,
-        Err(_) => return Status::Memory,
-    };
+    let _ = known;
     let ends = arrivals();
     let limits = &request.limits;
-    let reached = match reached(rt, net, state, &*plane, position, &ends, limits, gate) {
+    let reached = match reached(rt, few, &*plane, position, &ends, limits, gate) {
         Ok(reached) => reached,
         Err(error) => return lacking(error),
     };
@@ -344,14 +351,15 @@ fn made_over<R: Threads + Sync + AllocGlobal, S: Sink, G: Gate>(
     )
 }
 
-/// Answers which packets get from a position to one of some endings, at a fixed point.
+/// Answers which packets get from a position to one of some endings, at a fixed point. Its tables become those of the plane; its
+/// outcome's line names none of them.
 #[tactic(auto, using(crate::proofs::PutLaws::memory_at_fixed))]
 pub(crate) fn answer_packets<R: Threads + Sync + AllocGlobal, S: Sink, G: Gate>(
     rt: &R,
     request: &Request,
     net: &Network,
-    outcome: &Outcome,
-    state: &State,
+    rounds: u32,
+    state: State,
     position: &Pos,
     ends: &Ends,
     examples: u32,
@@ -360,50 +368,59 @@ pub(crate) fn answer_packets<R: Threads + Sync + AllocGlobal, S: Sink, G: Gate>(
 ) -> Status
     requires limits { AreInRange request.now.limits }
     requires lawful { IsLawful net.now }
-    requires state { IsStateOf (length net.now.routers) state.now }
+    requires state { IsStateOf (length net.now.routers) state }
     requires place { IsPosition net.now position.now }
-    ensures put { IsPutAtFixed request.now net.now outcome.now state.now (Subject.Packets position.now ends.now examples) result (S.told out.old) (S.told out.new) }
+    ensures put { IsPutAtFixed request.now net.now (Outcome.Fixed rounds state) state (Subject.Packets position.now ends.now examples) result (S.told out.old) (S.told out.new) }
     ensures sink_only { result ≡ Status.Sink → Rose (S.faults out.old) (S.faults out.new) }
     ensures sink_always { S.faults out.old < S.faults out.new → result ≡ Status.Sink }
 {
     let Ok(links) = Links::of(rt.alloc(), net) else {
         return Status::Memory;
     };
+    let few = first_room(net, &state, request.limits.nodes);
+    let known = Snapshot::of(&state);
     let Ok(plane) = Plane::of(rt.alloc(), net, &links, state) else {
         return Status::Memory;
     };
+    let outcome = Outcome::Fixed(rounds, Items::new(rt.alloc()));
     packets_over(
-        rt, request, net, outcome, state, &plane, position, ends, examples, out, gate,
+        rt, request, net, &outcome, known, &plane, few, position, ends, examples, out, gate,
     )
 }
 
-/// Answers what is shown of a made network at a fixed point.
+/// Answers what is shown of a made network at a fixed point, in the same way.
 #[tactic(auto, using(crate::proofs::PutLaws::memory_at_fixed))]
 pub(crate) fn answer_made<R: Threads + Sync + AllocGlobal, S: Sink, G: Gate>(
     rt: &R,
     request: &Request,
     net: &Network,
-    outcome: &Outcome,
-    state: &State,
+    rounds: u32,
+    state: State,
     position: &Pos,
     out: &mut S,
     gate: &G,
 ) -> Status
     requires limits { AreInRange request.now.limits }
     requires lawful { IsLawful net.now }
-    requires state { IsStateOf (length net.now.routers) state.now }
+    requires state { IsStateOf (length net.now.routers) state }
     requires place { IsPosition net.now position.now }
-    ensures put { IsPutAtFixed request.now net.now outcome.now state.now (Subject.Made position.now) result (S.told out.old) (S.told out.new) }
+    ensures put { IsPutAtFixed request.now net.now (Outcome.Fixed rounds state) state (Subject.Made position.now) result (S.told out.old) (S.told out.new) }
     ensures sink_only { result ≡ Status.Sink → Rose (S.faults out.old) (S.faults out.new) }
     ensures sink_always { S.faults out.old < S.faults out.new → result ≡ Status.Sink }
 {
     let Ok(links) = Links::of(rt.alloc(), net) else {
         return Status::Memory;
     };
+    let Ok(routes) = route_count(&state) else {
+        return Status::Memory;
+    };
+    let few = first_room(net, &state, request.limits.nodes);
+    let known = Snapshot::of(&state);
     let Ok(plane) = Plane::of(rt.alloc(), net, &links, state) else {
         return Status::Memory;
     };
+    let outcome = Outcome::Fixed(rounds, Items::new(rt.alloc()));
     made_over(
-        rt, request, net, outcome, state, &plane, position, out, gate,
+        rt, request, net, &outcome, known, &plane, routes, few, position, out, gate,
     )
 }

@@ -1,6 +1,6 @@
 //! Tables prepared for look-ups.
 use crate::Entry;
-use crate::layers::resolve_table;
+use crate::layers::{resolve_table, resolve_taken};
 use crate::longest::{hops_of, longest};
 use crate::resolve::some_interface;
 use rc_base::{Addr, Items, Prefix};
@@ -47,6 +47,17 @@ impl Fib {
         ensures in_order { IfOk result IsInOrder }
     {
         let entries = resolve_table(alloc, table.as_slice())?;
+        Ok(Fib { entries })
+    }
+
+    /// Prepares a table that nobody needs any more (RFC 1812 s.5.2.4.3), in about the memory that it took. It errs only where memory
+    /// runs out.
+    pub fn from_table(alloc: Global, table: Table) -> Result<Fib, AllocError>
+        requires { IsTable table }
+        ensures value { IfOk result (λ f. f ≡ spec.resolved table) }
+        ensures in_order { IfOk result IsInOrder }
+    {
+        let entries = resolve_taken(alloc, table)?;
         Ok(Fib { entries })
     }
 

@@ -1,5 +1,5 @@
 //! A table resolved layer by layer: each layer looks the gateways up in the one before it.
-ghost use Rattle.std.specs.Prelude.{◌≡◌, ◌↔◌, IsTrue, IfOk};
+ghost use Rattle.std.specs.Prelude.{◌≡◌, ◌↔◌, [], IsTrue, IfOk};
 ghost use Rattle.std.specs.List.{list_all};
 ghost use Rattle.rc_base.specs.Prefix.{IsCidr};
 ghost use Rattle.rc_route.specs.Tables.{IsTable};
@@ -8,10 +8,11 @@ ghost use Rattle.rc_fib.specs.Entries.{IsInOrder};
 ghost use Rattle.rc_fib.specs.Forwarding.{resolved, is_resolved};
 
 use crate::Entry;
-use crate::resolve::{is_resolved, resolve_hops};
+use crate::resolve::{is_resolved, resolve_hops, taken_hops};
 use rc_base::Items;
-use rc_route::Route;
+use rc_route::{Route, Table};
 use std::alloc::{AllocError, Global};
+use std::collections::VecDeque;
 
 /// How many look-ups may follow one another.
 const DEPTH: u8 = 16;
@@ -47,6 +48,32 @@ fn entries_over(
         next.push(entry_over(alloc, entries, route)?)?;
     }
     Ok(next)
+}
+
+/// A route's entry, where no other entries are known: it takes the route's hops over.
+fn entry_of(alloc: Global, route: Route) -> Result<Entry, AllocError>
+    ensures value { IfOk result (λ entry. entry ≡ layer.entry_over [] route) }
+    ensures canonical { IsCidr route.prefix }
+{
+    let prefix = route.prefix;
+    // For the proof: reading the network tells that the prefix is one.
+    let _network = prefix.network();
+    let hops = taken_hops(alloc, route.into_hops())?;
+    Ok(Entry { prefix, hops })
+}
+
+/// The entries of a table, where no other entries are known: they take its hops over.
+fn entries_of(alloc: Global, table: Table) -> Result<Items<Entry>, AllocError>
+    requires { IsTable table }
+    ensures value { IfOk result (λ made. made ≡ layer.entries_over [] table) }
+    ensures in_order { IfOk result IsInOrder }
+{
+    let mut made = Items::from_vec(Vec::with_capacity(alloc, table.len())?);
+    let mut left = VecDeque::from(table.into_vec());
+    while let Some(route) = left.pop_front() {
+        made.push(entry_of(alloc, route)?)?;
+    }
+    Ok(made)
 }
 
 /// Whether two layers are equal.
@@ -92,4 +119,16 @@ pub(crate) fn resolve_table(alloc: Global, table: &[Route]) -> Result<Items<Entr
         entries = next;
     }
     Ok(entries)
+}
+
+/// The same of a table that nobody needs any more. Where no hop needs a look-up, the entries take its hops over.
+pub(crate) fn resolve_taken(alloc: Global, table: Table) -> Result<Items<Entry>, AllocError>
+    requires { IsTable table }
+    ensures value { IfOk result (λ entries. entries ≡ resolved table) }
+    ensures in_order { IfOk result IsInOrder }
+{
+    if is_plain_table(table.as_slice()) {
+        return entries_of(alloc, table);
+    }
+    resolve_table(alloc, table.as_slice())
 }

@@ -1,5 +1,5 @@
 //! The hops of a route, where other entries give those of its gateways.
-ghost use Rattle.std.specs.Prelude.{◌≡◌, true, IfOk, OnOk, map};
+ghost use Rattle.std.specs.Prelude.{◌≡◌, [], true, IfOk, OnOk, map};
 ghost use Rattle.std.specs.List.{fold, list_any};
 ghost use Rattle.indexmap.specs.IndexSet.{insert_key};
 ghost use Rattle.rc_route.specs.Hops.{same_hop};
@@ -106,6 +106,16 @@ pub(crate) fn resolve_hops(
         return hops.copy(alloc);
     }
     resolve(alloc, entries, hops.as_slice())
+}
+
+/// The same where no entries are known, taken from the route where they are its own as they stand.
+pub(crate) fn taken_hops(alloc: Global, hops: Hops) -> Result<Hops, AllocError>
+    ensures { IfOk result (λ found. found ≡ spec.resolve_all (spec.resolved_hops []) hops) }
+{
+    if is_settled(hops.as_slice()) {
+        return Ok(hops);
+    }
+    resolve(alloc, &[], hops.as_slice())
 }
 
 /// Whether a hop says where a packet goes: nowhere, or over an interface.

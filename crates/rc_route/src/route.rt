@@ -86,6 +86,20 @@ impl Route {
             hops,
         })
     }
+
+    /// Its hops, taken out of it. It takes no memory.
+    pub fn into_hops(self) -> Hops
+        ensures { result ≡ self.hops }
+    {
+        let Route {
+            prefix: _,
+            source: _,
+            distance: _,
+            metric: _,
+            hops,
+        } = self;
+        hops
+    }
 }
 
 /// Whether two tables are equal, in all that they hold.

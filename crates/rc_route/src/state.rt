@@ -19,6 +19,16 @@ impl Drop for RouterState {
     }
 }
 
+impl RouterState {
+    /// Its table, taken out of it. It takes no memory.
+    pub fn into_table(self) -> Table
+        ensures { result ≡ self.table }
+    {
+        let RouterState { table, paths: _ } = self;
+        table
+    }
+}
+
 /// A state: what each router of a network knows, in the network's order.
 pub type State = Items<RouterState>;
 

@@ -115,10 +115,10 @@ fn state(alloc: Global, first: &Hop, second: &Hop) -> Result<State, AllocError>
 fn walk_over(
     alloc: Global,
     net: &Network,
-    state: &State,
+    state: State,
     header: &Header,
 ) -> Result<Walk, AllocError>
-    requires { All IsRouterState state.now }
+    requires { All IsRouterState state }
 {
     let links = Links::of(alloc, net)?;
     let plane = Plane::of(alloc, net, &links, state)?;
@@ -130,7 +130,7 @@ fn walk(alloc: Global, hop: &Hop, dst: u32) -> Result<Walk, Fail> {
     let net = network(alloc, None)?;
     let back = Hop::Via(Addr::new(0x0a00_0001), Some(device(1, 0)));
     let state = state(alloc, hop, &back)?;
-    Ok(walk_over(alloc, &net, &state, &to(dst))?)
+    Ok(walk_over(alloc, &net, state, &to(dst))?)
 }
 
 /// Whether that walk ends so.
@@ -201,7 +201,7 @@ fn a_step_leads_to_the_next_router(rt: HostRuntime) -> Result<(), Fail> {
     let net = network(rt.alloc(), None)?;
     let links = Links::of(rt.alloc(), &net)?;
     let known = state(rt.alloc(), &Hop::Dev(device(0, 0)), &Hop::Null)?;
-    let plane = Plane::of(rt.alloc(), &net, &links, &known)?;
+    let plane = Plane::of(rt.alloc(), &net, &links, known)?;
     assert!(rt; steps_over(&plane) && is_plane(&plane));
     Ok(())
 }
@@ -214,7 +214,7 @@ fn filtered_walk(alloc: Global, direction: Direction, src: u32) -> Result<Walk, 
     let known = state(alloc, &there, &back)?;
     let mut header = to(0x0808_0808);
     header.src = Addr::new(src);
-    Ok(walk_over(alloc, &net, &known, &header)?)
+    Ok(walk_over(alloc, &net, known, &header)?)
 }
 
 /// Whether that walk stops so.
@@ -258,11 +258,11 @@ fn ends(exits: bool, accepted: bool) -> Ends {
 fn shortest_over(
     alloc: Global,
     net: &Network,
-    state: &State,
+    state: State,
     dst: u32,
     ends: Ends,
 ) -> Result<Option<Walk>, AllocError>
-    requires { All IsRouterState state.now }
+    requires { All IsRouterState state }
 {
     let links = Links::of(alloc, net)?;
     let plane = Plane::of(alloc, net, &links, state)?;
@@ -274,7 +274,7 @@ fn shortest_walk(alloc: Global, hop: &Hop, dst: u32, ends: Ends) -> Result<Optio
     let net = network(alloc, None)?;
     let back = Hop::Via(Addr::new(0x0a00_0001), Some(device(1, 0)));
     let state = state(alloc, hop, &back)?;
-    Ok(shortest_over(alloc, &net, &state, dst, ends)?)
+    Ok(shortest_over(alloc, &net, state, dst, ends)?)
 }
 
 /// Whether there is a walk, and it is this.

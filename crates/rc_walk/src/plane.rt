@@ -10,9 +10,10 @@ ghost use Rattle.rc_topology.specs.Ports.{links_of};
 use rc_base::{Addr, Items, RouterId};
 use rc_config::Network;
 use rc_fib::Fib;
-use rc_route::{Hop, RouterState, State};
+use rc_route::{Hop, State};
 use rc_topology::Links;
 use std::alloc::{AllocError, Global};
+use std::collections::VecDeque;
 use std::marker::Model;
 
 /// A network, its links, and each router's table prepared for look-ups.
@@ -44,14 +45,15 @@ impl<'a> Model for Plane<'a> {
 }
 
 /// The tables of a state, prepared for look-ups.
-fn fibs_of(alloc: Global, state: &[RouterState]) -> Result<Items<Fib>, AllocError>
-    requires { All IsRouterState state.now }
-    ensures value { IfOk result (λ fibs. fibs ≡ map (λ (s : Known). resolved s.table) state.now) }
+fn fibs_of(alloc: Global, state: State) -> Result<Items<Fib>, AllocError>
+    requires { All IsRouterState state }
+    ensures value { IfOk result (λ fibs. fibs ≡ map (λ (s : Known). resolved s.table) state) }
     ensures in_order { IfOk result (All IsInOrder) }
 {
     let mut fibs = Vec::with_capacity(alloc, state.len())?;
-    for known in state {
-        fibs.push(Fib::of(alloc, &known.table)?)?;
+    let mut left = VecDeque::from(state.into_vec());
+    while let Some(known) = left.pop_front() {
+        fibs.push(Fib::from_table(alloc, known.into_table())?)?;
     }
     Ok(Items::from_vec(fibs))
 }
@@ -59,18 +61,18 @@ fn fibs_of(alloc: Global, state: &[RouterState]) -> Result<Items<Fib>, AllocErro
 impl<'a> Plane<'a> {
     ghost use Rattle.rc_walk.specs.Moves.{ArePrepared, plane_of, fib_of};
 
-    /// A network in a state, with the network's links. It errs only where memory runs out.
+    /// A network in a state, whose tables it takes over, with the network's links. It errs only where memory runs out.
     pub fn of(
         alloc: Global,
         net: &'a Network,
         links: &'a Links,
-        state: &State,
+        state: State,
     ) -> Result<Plane<'a>, AllocError>
-        requires state { All IsRouterState state.now }
+        requires state { All IsRouterState state }
         requires links { links.now ≡ links_of net.now }
-        ensures { IfOk result (λ plane. plane ≡ plane_of net.now state.now) }
+        ensures { IfOk result (λ plane. plane ≡ plane_of net.now state) }
     {
-        let fibs = fibs_of(alloc, state.as_slice())?;
+        let fibs = fibs_of(alloc, state)?;
         Ok(Plane {
             network: net,
             links,
