@@ -11,6 +11,7 @@ use Rattle.rc_route.specs.declared.state.RouterState.{RouterState}
 use Rattle.rc_rounds.specs.declared.outcome.Outcome.{Outcome}
 use Rattle.rc_rounds.specs.declared.outcome.Outcome.TheVariants.{Fixed, Repeats, Limit}
 use Rattle.rc_walk.specs.Moves.{DataPlane, plane_of}
+use Rattle.rc_walk.specs.Walks.{IsFirstWalk}
 use Rattle.rc_walk.specs.declared.walk.Walk.{Walk}
 use Rattle.rc_words.specs.Endings.{arrivals}
 use Rattle.rc_words.specs.declared.request.Request.{Request}
@@ -52,17 +53,19 @@ other_put r net outcome subject shows (inl written) = inl (ended net outcome not
 other_put r net outcome subject shows (inr (is, same)) = inr (subst (IsLackingFor r.limits.nodes (found.Ended net outcome subject)) (sym is) tt, same)
 
 pub fixed_put_of : (r : Request) (net : Network) (outcome : Outcome) (subject : Subject) {k : ℕ} {state : List RouterState} {answer : Status} {old new : Option (List ℕ)}
-    → outcome ≡ Fixed k state → IsPutAtFixed r net outcome state subject answer old new → IsPutOf r (found.Ended net outcome subject) answer old new
+    → outcome ≡ Fixed k state → IsPutAtFixed r net (Fixed k state) state subject answer old new → IsPutOf r (found.Ended net outcome subject) answer old new
 fixed_put_of r net outcome subject {k} {state} {answer} {old} {new} is put =
-    subst (λ o. IsPutOf r (found.Ended net o subject) answer old new) (sym is) (fixed_put r net k state subject (subst (λ o. IsPutAtFixed r net o state subject answer old new) is put))
+    subst (λ o. IsPutOf r (found.Ended net o subject) answer old new) (sym is) (fixed_put r net k state subject put)
 
 pub repeats_put : (r : Request) (net : Network) (outcome : Outcome) (subject : Subject) {i k : ℕ} {answer : Status} {old new : Option (List ℕ)}
-    → outcome ≡ Repeats i k → IsWrittenOrMemory (status_after outcome) (outcome_text r.ask net outcome nothing) answer old new → IsPutOf r (found.Ended net outcome subject) answer old new
-repeats_put r net outcome subject is put = other_put r net outcome subject (λ shown none. subst (λ o. IsShown net o subject shown) (sym is) none) put
+    → outcome ≡ Repeats i k → IsWrittenOrMemory (status_after (Repeats i k)) (outcome_text r.ask net (Repeats i k) nothing) answer old new → IsPutOf r (found.Ended net outcome subject) answer old new
+repeats_put r net outcome subject {i} {k} {answer} {old} {new} is put =
+    subst (λ o. IsPutOf r (found.Ended net o subject) answer old new) (sym is) (other_put r net (Repeats i k) subject (λ shown none. none) put)
 
 pub limit_put : (r : Request) (net : Network) (outcome : Outcome) (subject : Subject) {n : ℕ} {answer : Status} {old new : Option (List ℕ)}
-    → outcome ≡ Limit n → IsWrittenOrMemory (status_after outcome) (outcome_text r.ask net outcome nothing) answer old new → IsPutOf r (found.Ended net outcome subject) answer old new
-limit_put r net outcome subject is put = other_put r net outcome subject (λ shown none. subst (λ o. IsShown net o subject shown) (sym is) none) put
+    → outcome ≡ Limit n → IsWrittenOrMemory (status_after (Limit n)) (outcome_text r.ask net (Limit n) nothing) answer old new → IsPutOf r (found.Ended net outcome subject) answer old new
+limit_put r net outcome subject {n} {answer} {old} {new} is put =
+    subst (λ o. IsPutOf r (found.Ended net o subject) answer old new) (sym is) (other_put r net (Limit n) subject (λ shown none. none) put)
 
 pub refused_put : (r : Request) (f : Findings) {refusal : NetRefusal} {answer : Status} {old new : Option (List ℕ)}
     → f ≡ found.Refused refusal → IsWrittenOrMemory Refused (refused_line refusal) answer old new → IsPutOf r f answer old new
@@ -85,9 +88,9 @@ packets_put r net outcome state plane q ends examples walks shown {answer} {old}
     (subst (λ ws. IsWrittenOrMemory (status_after outcome) (outcome_text r.ask net outcome (cubes_of (reaching_set net state q ends) ws)) answer old new) same
     (subst (λ p. IsWrittenOrMemory (status_after outcome) (outcome_text r.ask net outcome (cubes_of (tree (reaching p q ends)) shown)) answer old new) is put))
 
--- ---- the line of an outcome tells no route: where none is told behind it either, it is put alike beside any routes
+-- ---- the line of an outcome tells no route: where none is told behind it either, what is put is the same beside any routes
 
-module _ (r : Request) (net : Network) (k : ℕ) (some other state : List RouterState) where
+module _ (r : Request) (net : Network) (k : ℕ) (some other known state : List RouterState) (is_known : known ≡ state) where
   written_beside : (shown told : Shown) {answer : Status} {old new : Option (List ℕ)} → shown ≡ told → outcome_text r.ask net (Fixed k some) told ≡ outcome_text r.ask net (Fixed k other) told
       → IsWritten (status_after (Fixed k some)) (outcome_text r.ask net (Fixed k some) shown) answer old new → IsWritten (status_after (Fixed k other)) (outcome_text r.ask net (Fixed k other) shown) answer old new
   written_beside shown told {answer} {old} {new} is same written =
@@ -95,21 +98,31 @@ module _ (r : Request) (net : Network) (k : ℕ) (some other state : List Router
       (subst (λ text. IsWritten (status_after (Fixed k other)) text answer old new) same
       (subst (λ s. IsWritten (status_after (Fixed k some)) (outcome_text r.ask net (Fixed k some) s) answer old new) is written))
 
-  pub walk_beside : (q : Pos) (h : Header) {answer : Status} {old new : Option (List ℕ)}
-      → IsPutAtFixed r net (Fixed k some) state (Packet q h) answer old new → IsPutAtFixed r net (Fixed k other) state (Packet q h) answer old new
-  unfolding outcome_line
-  walk_beside q h (inl (shown, (walk, first, is), written)) = inl (shown, (walk, first, is), written_beside shown (walk_of walk) is refl written)
-  walk_beside q h (inr lacking) = inr lacking
-
-  pub packets_beside : (q : Pos) (ends : Ends) (examples : ℕ) {answer : Status} {old new : Option (List ℕ)}
+  packets_alone : (q : Pos) (ends : Ends) (examples : ℕ) {answer : Status} {old new : Option (List ℕ)}
       → IsPutAtFixed r net (Fixed k some) state (Packets q ends examples) answer old new → IsPutAtFixed r net (Fixed k other) state (Packets q ends examples) answer old new
   unfolding outcome_line
-  packets_beside q ends examples (inl (shown, (walks, are, is), written)) =
+  packets_alone q ends examples (inl (shown, (walks, are, is), written)) =
       inl (shown, (walks, are, is), written_beside shown (cubes_of (reaching_set net state q ends) walks) is refl written)
-  packets_beside q ends examples (inr lacking) = inr lacking
+  packets_alone q ends examples (inr lacking) = inr lacking
 
-  pub made_beside : (q : Pos) {answer : Status} {old new : Option (List ℕ)}
+  made_alone : (q : Pos) {answer : Status} {old new : Option (List ℕ)}
       → IsPutAtFixed r net (Fixed k some) state (Made q) answer old new → IsPutAtFixed r net (Fixed k other) state (Made q) answer old new
   unfolding outcome_line
-  made_beside q (inl (shown, is, written)) = inl (shown, is, written_beside shown (first_cube_of (route_count state) (reaching_set net state q arrivals)) is refl written)
-  made_beside q (inr lacking) = inr lacking
+  made_alone q (inl (shown, is, written)) = inl (shown, is, written_beside shown (first_cube_of (route_count state) (reaching_set net state q arrivals)) is refl written)
+  made_alone q (inr lacking) = inr lacking
+
+  pub packets_beside : (q : Pos) (ends : Ends) (examples : ℕ) {answer : Status} {old new : Option (List ℕ)}
+      → IsPutAtFixed r net (Fixed k some) known (Packets q ends examples) answer old new → IsPutAtFixed r net (Fixed k other) state (Packets q ends examples) answer old new
+  packets_beside q ends examples {answer} {old} {new} put =
+      packets_alone q ends examples (subst (λ s. IsPutAtFixed r net (Fixed k some) s (Packets q ends examples) answer old new) is_known put)
+
+  pub made_beside : (q : Pos) {answer : Status} {old new : Option (List ℕ)}
+      → IsPutAtFixed r net (Fixed k some) known (Made q) answer old new → IsPutAtFixed r net (Fixed k other) state (Made q) answer old new
+  made_beside q {answer} {old} {new} put = made_alone q (subst (λ s. IsPutAtFixed r net (Fixed k some) s (Made q) answer old new) is_known put)
+
+-- a walk, put behind the line of such an outcome
+pub walk_put : (r : Request) (net : Network) (k : ℕ) (some state : List RouterState) (q : Pos) (h : Header) (walk : Walk) {answer : Status} {old new : Option (List ℕ)}
+    → IsFirstWalk (plane_of net state) h q walk → IsWrittenOrMemory (status_after (Fixed k some)) (outcome_text r.ask net (Fixed k some) (walk_of walk)) answer old new
+    → IsPutAtFixed r net (Fixed k state) state (Packet q h) answer old new
+unfolding outcome_line
+walk_put r net k some state q h walk first put = put_at_fixed r net (Fixed k state) state (Packet q h) (walk_of walk) (walk, first, refl) put

@@ -1,5 +1,5 @@
 -- Layer upon layer of entries comes to the resolved table.
-use Rattle.std.proofs.Common.{refl, subst, All, rules, ◌≡◌, ap, sym, ◌∙◌, append-nil, append_assoc, ℕ, zero, suc, ◌+◌, ◌-◌, ◌<◌, ◌≤◌, arith, List, [], ◌∷◌, ◌++◌, map, Bool, true, false, cond, not, ◌&&◌, ◌||◌, Some, None}
+use Rattle.std.proofs.Common.{refl, subst, All, rules, ◌≡◌, ap, sym, ◌∙◌, ℕ, zero, suc, ◌+◌, ◌-◌, ◌<◌, ◌≤◌, arith, List, [], ◌∷◌, ◌++◌, map, Bool, true, false, cond, not, ◌&&◌, ◌||◌, Some, None}
 use Rattle.std.specs.List.{list_all, flat_map}
 use Rattle.std.specs.List.Sorted.{IsStrictlySortedBy}
 use Rattle.rc_base.specs.Prefix.{IsCidr, prefix_cmp}
@@ -10,7 +10,7 @@ use Rattle.rc_route.specs.declared.route.Hop.TheVariants.{Null, Dev, Via}
 use Rattle.rc_route.specs.Hops.{same_hop}
 use Rattle.rc_base.specs.Lists.{first_seen}
 use Rattle.rc_fib.specs.declared.entry.Entry.{Entry}
-use Rattle.rc_fib.specs.Entries.{IsInOrder, entry_over, entries_over, is_settled}
+use Rattle.rc_fib.specs.Entries.{IsInOrder, entries_over, is_settled}
 use Rattle.rc_fib.specs.Forwarding.{resolve_all, resolve_hop, resolved_hops, is_resolved, hops_within, resolved, resolved_within}
 use Rattle.rc_fib.proofs.ForwardingLaws.{resolved_hops-within}
 
@@ -114,18 +114,6 @@ pub plain_table : (table : List Route) (next : List Entry) → next ≡ entries_
 unfolding more_layers
 plain_table table next is plain =
     is ∙ sym (layers_stay table 15 (entries_over [] table) (entries_plain (entries_over [] table) [] table plain)) ∙ all_layers table
-
--- ---- a table taken route by route
-
--- the first route that is left has its entry
-pub made_more : (all left rest : List Route) (made more : List Entry) (r : Route) (e : Entry) → left ≡ r ∷ rest → e ≡ entry_over [] r → more ≡ made ++ e ∷ []
-    → entries_over [] all ≡ made ++ entries_over [] left → entries_over [] all ≡ more ++ entries_over [] rest
-made_more all left rest made more r e first is pushed so_far =
-    so_far ∙ ap (λ routes. made ++ entries_over [] routes) first ∙ ap (λ x. made ++ x ∷ entries_over [] rest) (sym is) ∙ sym (append_assoc made (e ∷ []) (entries_over [] rest)) ∙ ap (λ es. es ++ entries_over [] rest) (sym pushed)
-
--- none is left
-pub made_all : (all left : List Route) (made : List Entry) → left ≡ [] → entries_over [] all ≡ made ++ entries_over [] left → made ≡ entries_over [] all
-made_all all left made none so_far = sym (so_far ∙ ap (λ routes. made ++ entries_over [] routes) none ∙ append-nil made)
 
 -- ---- the order
 

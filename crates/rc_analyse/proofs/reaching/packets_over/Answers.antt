@@ -21,4 +21,4 @@ returns-clause-put g c =
     let walks : List (List Walk) = c.in-Ok-example_walks.walks.items in
     let are : AreExamplesOf plane q ends c.args.examples (tree (reaching plane q ends)) walks = search rules in
     let put : IsWrittenOrMemory (status_after outcome) (outcome_text r.ask net outcome (cubes_of (tree (reaching plane q ends)) c.as_slice.result.now)) c.write_packets.result (g.S.Sink.told c.args.out.now) (g.S.Sink.told c.write_packets.new.out) = search rules in
-    packets_put r net outcome c.args.state.now plane q ends c.args.examples walks c.as_slice.result.now c.requires.plane c.as_slice.ensures.value are put
+    packets_put r net outcome c.args.known.value plane q ends c.args.examples walks c.as_slice.result.now c.requires.plane c.as_slice.ensures.value are put
