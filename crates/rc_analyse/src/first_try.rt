@@ -1,7 +1,8 @@
 //! In how large a table a set is tried first.
 //!
-//! The usual table of nodes takes longer to make than all else that is done for a small network. So such a network's set is tried in a
-//! small table first, and where that is full it is made again in the one that the words name. Nobody sees the difference: a
+//! A table of nodes is dear by its size alone: its memory is taken whole, and nodes stand in it far apart. The usual one is larger than most
+//! networks need, and takes longer to make than all else that is done for a small one. So a set is tried in a table first that fits the
+//! size of the network, and where that is full it is made again in the one that the words name. Nobody sees the difference: a
 //! set is one in any table, and each worker passes the gate once in each phase.
 ghost use Rattle.std.specs.Prelude.{IfSome};
 ghost use Rattle.rc_analyse.specs.FirstTry.{IsRoom};
@@ -11,50 +12,56 @@ use rc_outside::Gate;
 use rc_route::State;
 use std::sync::atomic::{AtomicU32, Ordering};
 
-/// How many nodes the small table has room for.
-const FEW_NODES: u32 = 65_536;
-
-/// How many routes a small network has at most, where each line of an access list counts as some.
-const FEW_ROUTES: usize = 16_384;
-
 /// As how many routes a line of an access list counts: it makes about as many nodes.
 const ROUTES_A_LINE: usize = 64;
 
-/// What the tables leave of the room of a small network, if they fit.
-fn beside_tables(state: &State) -> Option<usize> {
-    let mut room = FEW_ROUTES;
+/// How many routes the tables have.
+fn routes_in(state: &State) -> usize {
+    let mut routes: usize = 0;
     for known in state.as_slice() {
-        room = room.checked_sub(known.table.len())?;
+        routes = routes.saturating_add(known.table.len());
     }
-    Some(room)
+    routes
 }
 
-/// What the access lists of a router leave of a room, if they fit.
-fn beside_lists(mut room: usize, file: &RouterText) -> Option<usize> {
+/// How many lines the access lists of a router have.
+fn lines_in(file: &RouterText) -> usize {
     let lists = &file.lists.access_lists;
+    let mut lines: usize = 0;
     for index in 0..lists.len() {
         if let Some((_, list)) = lists.at(index) {
-            room = room.checked_sub(list.lines.len().saturating_mul(ROUTES_A_LINE))?;
+            lines = lines.saturating_add(list.lines.len());
         }
     }
-    Some(room)
+    lines
 }
 
-/// What the access lists of all routers leave of a room, if they fit.
-fn beside_files(mut room: usize, net: &Network) -> Option<usize> {
+/// How many routes a network has, where each line of an access list counts as some.
+fn size_of(net: &Network, state: &State) -> usize {
+    let mut size = routes_in(state);
     for index in 0..net.routers.len() {
         if let Some((_, file)) = net.routers.at(index) {
-            room = beside_lists(room, file)?;
+            size = size.saturating_add(lines_in(file).saturating_mul(ROUTES_A_LINE));
         }
     }
-    Some(room)
+    size
 }
 
-/// Whether the tables and the access lists of a network are short.
-fn is_small(net: &Network, state: &State) -> bool {
-    match beside_tables(state) {
-        Some(room) => beside_files(room, net).is_some(),
-        None => false,
+/// How many nodes the table of a first try has room for in a network of this size, where there is one. The nodes grow slower than
+/// the routes, since the tables of neighbours are alike.
+fn room_for(size: usize) -> Option<u32>
+    ensures { IfSome result IsRoom }
+{
+    if size <= 16_384 {
+        Some(65_536)
+    } else if size <= 65_536 {
+        Some(131_072)
+    } else if size <= 262_144 {
+        Some(262_144)
+    } else if size <= 1_048_576 {
+        Some(524_288)
+    } else {
+        None
     }
 }
 
@@ -62,10 +69,10 @@ fn is_small(net: &Network, state: &State) -> bool {
 pub(crate) fn first_room(net: &Network, state: &State, most: u32) -> Option<u32>
     ensures { IfSome result IsRoom }
 {
-    if FEW_NODES < most && is_small(net, state) {
-        Some(FEW_NODES)
-    } else {
-        None
+    let room = room_for(size_of(net, state));
+    match room {
+        Some(few) if few < most => Some(few),
+        _ => None,
     }
 }
 

@@ -83,7 +83,7 @@ fn reached_within<'a, R: Threads + Sync + AllocGlobal, G: Gate>(
     }
 }
 
-/// The headers that some walk brings from a position to one of the endings asked for, within these limits. Where a small table is
+/// The headers that some walk brings from a position to one of the endings asked for, within these limits. Where a smaller table is
 /// named, they are tried in it first.
 pub(crate) fn reached<'a, R: Threads + Sync + AllocGlobal, G: Gate>(
     rt: &R,
