@@ -113,12 +113,33 @@ fn prefixes_seen(
     listed(alloc, set)
 }
 
+/// A path, which shares the AS path of the last of some paths where it has the same one: paths of one origin mostly stand side by side.
+fn sharing(paths: &[BgpPath], path: BgpPath) -> Result<BgpPath, AllocError>
+    ensures { IfOk result (λ made. made ≡ path) }
+{
+    let last = paths.last();
+    match last {
+        None => Ok(path),
+        Some(last) => {
+            if last.as_path != path.as_path {
+                return Ok(path);
+            }
+            let mut made = path;
+            made.as_path = last.as_path.share()?;
+            Ok(made)
+        }
+    }
+}
+
 /// One path more, if there is one.
 pub(crate) fn push_some(paths: &mut Items<BgpPath>, path: Option<BgpPath>) -> Result<(), AllocError>
     ensures { OnOk result (paths.new ≡ paths.old ++ option_to_list path) }
 {
     match path {
-        Some(path) => paths.push(path)?,
+        Some(path) => {
+            let path = sharing(paths.as_slice(), path)?;
+            paths.push(path)?;
+        }
         None => {}
     }
     Ok(())
