@@ -25,7 +25,7 @@ use std::collections::BTreeSet;
 
 /// The best of some paths, again.
 #[tactic(auto, using(rc_bgp_decide::proofs::DecisionLaws::best_path_at_place))]
-fn best_of(alloc: Global, paths: &[BgpPath]) -> Result<Option<BgpPath>, AllocError>
+fn best_of(paths: &[BgpPath]) -> Result<Option<BgpPath>, AllocError>
     ensures { IfOk result (λ path. path ≡ best_path paths.now) }
 {
     let place = best(paths);
@@ -35,7 +35,7 @@ fn best_of(alloc: Global, paths: &[BgpPath]) -> Result<Option<BgpPath>, AllocErr
             let found = at_path(paths, place);
             match found {
                 None => Ok(None),
-                Some(path) => Ok(Some(path.copy(alloc)?)),
+                Some(path) => Ok(Some(path.copy()?)),
             }
         }
     }
@@ -57,7 +57,7 @@ pub(crate) fn best_among(
     ensures same { OnOk result (resolver.new ≡ resolver.old) }
 {
     let paths = candidates_at(alloc, net, state, resolver, own, sessions, prefix)?;
-    best_of(alloc, paths.as_slice())
+    best_of(paths.as_slice())
 }
 
 /// Puts the prefixes of paths into a set.

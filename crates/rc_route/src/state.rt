@@ -30,7 +30,7 @@ pub fn equal(a: &State, b: &State) -> bool
     a == b
 }
 
-/// What a router knows, again: routes and paths in memory of their own, but for AS paths, which both share.
+/// What a router knows, again: routes and paths in memory of their own, but for AS paths and communities, which both share.
 pub fn copy(alloc: Global, state: &RouterState) -> Result<RouterState, AllocError>
     ensures { IfOk result (λ copied. copied ≡ state.now) }
 {
@@ -56,7 +56,7 @@ fn copy_paths(alloc: Global, list: &Items<BgpPath>) -> Result<Items<BgpPath>, Al
 {
     let mut paths = Items::from_vec(Vec::with_capacity(alloc, list.len())?);
     for path in list.as_slice() {
-        paths.push(path.copy(alloc)?)?;
+        paths.push(path.copy()?)?;
     }
     Ok(paths)
 }
