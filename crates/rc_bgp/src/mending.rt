@@ -59,7 +59,7 @@ pub(crate) fn mended(
     ensures { IfOk result (λ paths. paths ≡ spec.mended (λ (x : Path). x.prefix) (best_among net.now state.now resolver.old own.now sessions.now) known.now prefixes.now) }
 {
     let room = known.len().saturating_add(prefixes.len());
-    let mut paths = Items::from_vec(Vec::with_capacity(alloc, room)?);
+    let mut paths = Items::with_room(alloc, room)?;
     let mut left = known;
     for prefix in prefixes {
         append_copies(&mut paths, before(left, prefix))?;

@@ -43,7 +43,7 @@ pub fn copy(alloc: Global, state: &RouterState) -> Result<RouterState, AllocErro
 fn copy_table(alloc: Global, table: &Table) -> Result<Table, AllocError>
     ensures { IfOk result (λ copied. copied ≡ table.now) }
 {
-    let mut routes = Items::from_vec(Vec::with_capacity(alloc, table.len())?);
+    let mut routes = Items::with_room(alloc, table.len())?;
     for route in table.as_slice() {
         routes.push(route.copy(alloc)?)?;
     }
@@ -54,7 +54,7 @@ fn copy_table(alloc: Global, table: &Table) -> Result<Table, AllocError>
 fn copy_paths(alloc: Global, list: &Items<BgpPath>) -> Result<Items<BgpPath>, AllocError>
     ensures { IfOk result (λ copied. copied ≡ list.now) }
 {
-    let mut paths = Items::from_vec(Vec::with_capacity(alloc, list.len())?);
+    let mut paths = Items::with_room(alloc, list.len())?;
     for path in list.as_slice() {
         paths.push(path.copy()?)?;
     }
