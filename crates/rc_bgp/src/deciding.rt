@@ -1,5 +1,5 @@
 //! A router's candidates and best paths.
-ghost use Rattle.std.specs.Prelude.{◌≡◌, ◌++◌, All, IfOk, OnOk};
+ghost use Rattle.std.specs.Prelude.{◌≡◌, ◌↔◌, ◌++◌, All, IfOk, IsTrue, OnOk};
 ghost use Rattle.std.specs.List.{fold, flat_map, filter_map};
 ghost use Rattle.std.specs.Option.{option_to_list};
 ghost use Rattle.std.specs.BTreeSet.{keys, insert_key};
@@ -16,6 +16,7 @@ use crate::passing::default_prefix;
 use crate::resolver::Resolver;
 use crate::up::up_sessions;
 use crate::{Session, Sessions};
+use rc_as_path::AsPath;
 use rc_base::{Items, Prefix, RouterId};
 use rc_bgp_decide::best;
 use rc_config::Network;
@@ -113,21 +114,34 @@ fn prefixes_seen(
     listed(alloc, set)
 }
 
-/// A path, which shares the AS path of the last of some paths where it has the same one: paths of one origin mostly stand side by side.
-fn sharing(paths: &[BgpPath], path: BgpPath) -> Result<BgpPath, AllocError>
+/// Whether two AS paths are the same.
+#[tactic(auto, using(crate::proofs::ChangeLaws::as_path_decides))]
+fn is_same_way(path: &AsPath, other: &AsPath) -> bool
+    ensures { IsTrue result ↔ (path.now ≡ other.now) }
+{
+    *path == *other
+}
+
+/// A path, which shares the AS path of another one where both are the same.
+fn sharing(other: &BgpPath, path: BgpPath) -> Result<BgpPath, AllocError>
+    ensures { IfOk result (λ made. made ≡ path) }
+{
+    if !is_same_way(&other.as_path, &path.as_path) {
+        return Ok(path);
+    }
+    let mut made = path;
+    made.as_path = other.as_path.share()?;
+    Ok(made)
+}
+
+/// A path, which shares the AS path of the last of some: paths of one origin mostly stand side by side.
+fn sharing_last(paths: &[BgpPath], path: BgpPath) -> Result<BgpPath, AllocError>
     ensures { IfOk result (λ made. made ≡ path) }
 {
     let last = paths.last();
     match last {
         None => Ok(path),
-        Some(last) => {
-            if last.as_path != path.as_path {
-                return Ok(path);
-            }
-            let mut made = path;
-            made.as_path = last.as_path.share()?;
-            Ok(made)
-        }
+        Some(last) => sharing(last, path),
     }
 }
 
@@ -137,7 +151,7 @@ pub(crate) fn push_some(paths: &mut Items<BgpPath>, path: Option<BgpPath>) -> Re
 {
     match path {
         Some(path) => {
-            let path = sharing(paths.as_slice(), path)?;
+            let path = sharing_last(paths.as_slice(), path)?;
             paths.push(path)?;
         }
         None => {}
