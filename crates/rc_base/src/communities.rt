@@ -1,31 +1,45 @@
 //! Sets of BGP communities.
-ghost use Rattle.std.specs.Prelude.{◌≡◌, [], ◌↔◌, IfOk, IsTrue, OnOk};
+ghost use Rattle.std.specs.Prelude.{◌≡◌, [], ◌↔◌, IfOk, IsTrue, OnOk, nat_eq};
+ghost use Rattle.std.specs.Cmp.Lexicographic.{pointwise};
+ghost use Rattle.std.specs.Cmp.Rules.{comparing};
 ghost use Rattle.std.specs.List.Sorted.{IsStrictlySortedBy};
 ghost use Rattle.std.specs.Ordering.{nat_cmp};
-ghost use Rattle.rc_base.specs.Communities.{community_set, has_all, has_community, joined};
+ghost use Rattle.std.proofs.Common.{rules};
+ghost use Rattle.rc_base.specs.Communities.{community_set, has_all, has_community, joined, kept_numbers};
 
 use crate::Items;
 use std::alloc::{AllocError, Global};
 use std::marker::Model;
+use std::sync::Arc;
+
+/// The numbers of a set, where it has some. Sets that were copied of one another share them.
+type Kept = Option<Arc<Items<u32>, Global>>;
 
 /// A set of communities (RFC 1997), seen as the list of their 32-bit numbers, rising, each once.
-#[derive(Drop, PartialEq, Eq)]
+///
+/// Most paths have none, which take no memory, and those that were made of one path share theirs.
 pub struct Communities {
-    numbers: Items<u32>,
+    kept: Kept,
+}
+
+/// By a function of its own, so that what holds sets drops each by one call.
+impl Drop for Communities {
+    fn drop(self) {
+        let Communities { kept: _ } = self;
+    }
 }
 
 impl Model for Communities {
     ghost use Rattle.std.specs.Prelude.{List, ℕ};
     ghost use Rattle.std.specs.List.Sorted.{IsStrictlySortedBy};
     ghost use Rattle.std.specs.Ordering.{nat_cmp};
+    ghost use Rattle.rc_base.specs.Communities.{kept_numbers};
 
     ghost Value = { List ℕ };
 
-    ghost view = { λ c. c.numbers };
+    ghost view = { λ c. kept_numbers c.kept };
 
-    ghost invariant = { λ c. IsStrictlySortedBy nat_cmp c.numbers };
-
-    ghost inverse = { λ numbers. record { numbers = numbers } };
+    ghost invariant = { λ c. IsStrictlySortedBy nat_cmp (kept_numbers c.kept) };
 }
 
 /// The numbers that RFC 1997 gives to the well-known communities, written as `AS:value`.
@@ -44,6 +58,31 @@ fn settle(numbers: &mut Vec<u32>) -> Result<(), AllocError>
     Ok(())
 }
 
+/// Numbers to share, where there are some.
+fn keep(numbers: Vec<u32>) -> Result<Kept, AllocError>
+    ensures { IfOk result (λ kept. kept_numbers kept ≡ numbers.items) }
+{
+    if numbers.is_empty() {
+        return Ok(None);
+    }
+    let alloc = *numbers.allocator();
+    let shared = Arc::new(alloc, Items::from_vec(numbers))?;
+    Ok(Some(shared))
+}
+
+/// Numbers again, which both share.
+fn share(kept: &Kept) -> Result<Kept, AllocError>
+    ensures { IfOk result (λ shared. kept_numbers shared ≡ kept_numbers kept.now) }
+{
+    match kept {
+        None => Ok(None),
+        Some(numbers) => {
+            let shared = Arc::try_clone(numbers)?;
+            Ok(Some(shared))
+        }
+    }
+}
+
 impl Communities {
     /// A route with this community isn't sent to a peer in another AS (RFC 1997).
     pub const NO_EXPORT: u32 = 0xffff_ff01;
@@ -57,12 +96,10 @@ impl Communities {
 
     /// No community. It takes no memory.
     #[tactic(auto, using(crate::proofs::CommunityLaws::none_rise))]
-    pub fn none(alloc: Global) -> Communities
+    pub fn none() -> Communities
         ensures { result ≡ [] }
     {
-        Communities {
-            numbers: Items::new(alloc),
-        }
+        Communities { kept: None }
     }
 
     /// The communities of these numbers, in whatever order they come. It errs only where memory runs out.
@@ -72,9 +109,8 @@ impl Communities {
     {
         let mut numbers = numbers;
         settle(&mut numbers)?;
-        Ok(Communities {
-            numbers: Items::from_vec(numbers),
-        })
+        let kept = keep(numbers)?;
+        Ok(Communities { kept })
     }
 
     /// Their numbers, rising, each once.
@@ -82,14 +118,17 @@ impl Communities {
         ensures numbers { result.now ≡ self.now }
         ensures rising { IsStrictlySortedBy nat_cmp self.now }
     {
-        self.numbers.as_slice()
+        match &self.kept {
+            None => &[],
+            Some(numbers) => numbers.as_slice(),
+        }
     }
 
     /// Whether there is none.
     pub fn is_empty(&self) -> bool
         ensures { IsTrue result ↔ (self.now ≡ []) }
     {
-        self.numbers.is_empty()
+        self.as_slice().is_empty()
     }
 
     /// Whether a number is one of them, by bisection.
@@ -116,11 +155,26 @@ impl Communities {
         Communities::of(numbers)
     }
 
-    /// The set again, in memory of its own. It errs only where memory runs out.
-    pub fn copy(&self, alloc: Global) -> Result<Communities, AllocError>
-        ensures { IfOk result (λ copied. copied ≡ self.now) }
+    /// The set again, which shares all of this one. It takes no memory, and errs only where as many hold its numbers as can be
+    /// counted.
+    pub fn share(&self) -> Result<Communities, AllocError>
+        ensures { IfOk result (λ shared. shared ≡ self.now) }
     {
-        let numbers = self.numbers.copy(alloc)?;
-        Ok(Communities { numbers })
+        let kept = share(&self.kept)?;
+        Ok(Communities { kept })
     }
+}
+
+impl PartialEq for Communities {
+    ghost eq = { pointwise nat_eq };
+
+    ghost laws = { Prim.search (comparing, rules) };
+
+    fn eq(&self, other: &Communities) -> bool {
+        self.as_slice() == other.as_slice()
+    }
+}
+
+impl Eq for Communities {
+    ghost laws = { Prim.search (comparing, rules) };
 }

@@ -5,6 +5,21 @@ ghost use Rattle.std.specs.Cmp.Lexicographic.{pointwise, lists_per, lists_equiv}
 use std::alloc::{AllocError, Global};
 use std::marker::Model;
 
+/// The room of a long list is a multiple of this.
+const STEP: usize = 128;
+
+/// The least length of a long list.
+const LONG: usize = 1024;
+
+/// The room for so many elements.
+fn room_for(count: usize) -> usize {
+    if count < LONG {
+        count
+    } else {
+        count.saturating_add(STEP).saturating_sub(count % STEP)
+    }
+}
+
 /// A `Vec`, seen as the list of its elements: its room and its place in memory are no part of its value.
 #[derive(Drop)]
 pub struct Items<T> {
@@ -27,6 +42,16 @@ impl<T> Items<T> {
         Items {
             items: Vec::new(alloc),
         }
+    }
+
+    /// The empty list, with room for so many elements.
+    ///
+    /// Long lists take memory in steps, so that one of nearly the same length, made when this one is dropped, fits into what it took.
+    pub fn with_room(alloc: Global, count: usize) -> Result<Items<T>, AllocError>
+        ensures { IfOk result (λ made. made ≡ []) }
+    {
+        let items = Vec::with_capacity(alloc, room_for(count))?;
+        Ok(Items { items })
     }
 
     /// The list of a `Vec`. It takes no memory.

@@ -1,9 +1,9 @@
 -- What changed between two lists of paths.
-use Rattle.std.proofs.Common.{refl, ◌≡◌, ap, sym, ◌∙◌, subst, ℕ, ◌+◌, ◌<◌, Bool, true, false, cond, ◌&&◌, ◌||◌, List, [], ◌∷◌, ◌++◌, length, get_or, drop, Some, None}
+use Rattle.std.proofs.Common.{refl, ◌≡◌, ap, sym, ◌∙◌, subst, ℕ, ◌+◌, ◌<◌, Bool, true, false, cond, nat_eq, ◌&&◌, ◌||◌, List, [], ◌∷◌, ◌++◌, length, get_or, drop, Some, None}
 use Rattle.std.specs.Bool.{Decides}
 use Rattle.std.specs.List.{fold, list_any}
 use Rattle.std.specs.BTreeSet.{insert_key}
-use Rattle.std.specs.Cmp.Lexicographic.{pointwise, pointwise_decides}
+use Rattle.std.specs.Cmp.Lexicographic.{pointwise, pointwise_decides, bytes_decides}
 use Rattle.std.proofs.lemmas.Bool.{or_parts}
 use Rattle.std.proofs.lemmas.List.Sums.{fold-append}
 use Rattle.rc_base.specs.Lists.{in_order}
@@ -45,6 +45,9 @@ path_decides x y = (λ is. alone_same x y ((state_decides (alone x) (alone y)).0
 
 pub lists_decide : (xs ys : List (List BgpPath)) → Decides (pointwise (pointwise path_impl.eq-value.it) xs ys) (xs ≡ ys)
 lists_decide = pointwise_decides (pointwise_decides path_decides)
+
+pub as_path_decides : (x y : List ℕ) → Decides (pointwise nat_eq x y) (x ≡ y)
+as_path_decides = bytes_decides
 
 -- ---- the prefixes of two lists
 

@@ -1,5 +1,5 @@
 //! A router's candidates and best paths.
-ghost use Rattle.std.specs.Prelude.{◌≡◌, ◌++◌, All, IfOk, OnOk};
+ghost use Rattle.std.specs.Prelude.{◌≡◌, ◌↔◌, ◌++◌, All, IfOk, IsTrue, OnOk};
 ghost use Rattle.std.specs.List.{fold, flat_map, filter_map};
 ghost use Rattle.std.specs.Option.{option_to_list};
 ghost use Rattle.std.specs.BTreeSet.{keys, insert_key};
@@ -16,6 +16,7 @@ use crate::passing::default_prefix;
 use crate::resolver::Resolver;
 use crate::up::up_sessions;
 use crate::{Session, Sessions};
+use rc_as_path::AsPath;
 use rc_base::{Items, Prefix, RouterId};
 use rc_bgp_decide::best;
 use rc_config::Network;
@@ -25,7 +26,7 @@ use std::collections::BTreeSet;
 
 /// The best of some paths, again.
 #[tactic(auto, using(rc_bgp_decide::proofs::DecisionLaws::best_path_at_place))]
-fn best_of(alloc: Global, paths: &[BgpPath]) -> Result<Option<BgpPath>, AllocError>
+fn best_of(paths: &[BgpPath]) -> Result<Option<BgpPath>, AllocError>
     ensures { IfOk result (λ path. path ≡ best_path paths.now) }
 {
     let place = best(paths);
@@ -35,7 +36,7 @@ fn best_of(alloc: Global, paths: &[BgpPath]) -> Result<Option<BgpPath>, AllocErr
             let found = at_path(paths, place);
             match found {
                 None => Ok(None),
-                Some(path) => Ok(Some(path.copy(alloc)?)),
+                Some(path) => Ok(Some(path.copy()?)),
             }
         }
     }
@@ -57,7 +58,7 @@ pub(crate) fn best_among(
     ensures same { OnOk result (resolver.new ≡ resolver.old) }
 {
     let paths = candidates_at(alloc, net, state, resolver, own, sessions, prefix)?;
-    best_of(alloc, paths.as_slice())
+    best_of(paths.as_slice())
 }
 
 /// Puts the prefixes of paths into a set.
@@ -113,12 +114,46 @@ fn prefixes_seen(
     listed(alloc, set)
 }
 
+/// Whether two AS paths are the same.
+#[tactic(auto, using(crate::proofs::ChangeLaws::as_path_decides))]
+fn is_same_way(path: &AsPath, other: &AsPath) -> bool
+    ensures { IsTrue result ↔ (path.now ≡ other.now) }
+{
+    *path == *other
+}
+
+/// A path, which shares the AS path of another one where both are the same.
+fn sharing(other: &BgpPath, path: BgpPath) -> Result<BgpPath, AllocError>
+    ensures { IfOk result (λ made. made ≡ path) }
+{
+    if !is_same_way(&other.as_path, &path.as_path) {
+        return Ok(path);
+    }
+    let mut made = path;
+    made.as_path = other.as_path.share()?;
+    Ok(made)
+}
+
+/// A path, which shares the AS path of the last of some: paths of one origin mostly stand side by side.
+fn sharing_last(paths: &[BgpPath], path: BgpPath) -> Result<BgpPath, AllocError>
+    ensures { IfOk result (λ made. made ≡ path) }
+{
+    let last = paths.last();
+    match last {
+        None => Ok(path),
+        Some(last) => sharing(last, path),
+    }
+}
+
 /// One path more, if there is one.
 pub(crate) fn push_some(paths: &mut Items<BgpPath>, path: Option<BgpPath>) -> Result<(), AllocError>
     ensures { OnOk result (paths.new ≡ paths.old ++ option_to_list path) }
 {
     match path {
-        Some(path) => paths.push(path)?,
+        Some(path) => {
+            let path = sharing_last(paths.as_slice(), path)?;
+            paths.push(path)?;
+        }
         None => {}
     }
     Ok(())

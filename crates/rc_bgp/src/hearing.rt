@@ -139,17 +139,13 @@ fn push_some(paths: &mut Vec<BgpPath>, path: Option<BgpPath>) -> Result<(), Allo
 }
 
 /// One of the paths of a prefix, again.
-fn copied_at(
-    alloc: Global,
-    paths: &[BgpPath],
-    prefix: &Prefix,
-) -> Result<Option<BgpPath>, AllocError>
+fn copied_at(paths: &[BgpPath], prefix: &Prefix) -> Result<Option<BgpPath>, AllocError>
     requires { IsPathList paths.now }
     ensures { IfOk result (λ path. path ≡ path_at paths.now prefix.now) }
 {
     let found = path_at(paths, prefix);
     match found {
-        Some(path) => Ok(Some(path.copy(alloc)?)),
+        Some(path) => Ok(Some(path.copy()?)),
         None => Ok(None),
     }
 }
@@ -165,7 +161,7 @@ fn own_at(
 {
     let mut made = Vec::new(alloc);
     for paths in own {
-        let path = copied_at(alloc, paths.as_slice(), prefix)?;
+        let path = copied_at(paths.as_slice(), prefix)?;
         push_some(&mut made, path)?;
     }
     Ok(made)

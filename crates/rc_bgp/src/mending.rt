@@ -33,15 +33,11 @@ fn behind<'a>(paths: &'a [BgpPath], prefix: &Prefix) -> &'a [BgpPath]
 }
 
 /// Puts paths at the end of others, in memory of their own.
-fn append_copies(
-    alloc: Global,
-    made: &mut Items<BgpPath>,
-    paths: &[BgpPath],
-) -> Result<(), AllocError>
+fn append_copies(made: &mut Items<BgpPath>, paths: &[BgpPath]) -> Result<(), AllocError>
     ensures { OnOk result (made.new ≡ made.old ++ paths.now) }
 {
     for path in paths {
-        made.push(path.copy(alloc)?)?;
+        made.push(path.copy()?)?;
     }
     Ok(())
 }
@@ -63,14 +59,14 @@ pub(crate) fn mended(
     ensures { IfOk result (λ paths. paths ≡ spec.mended (λ (x : Path). x.prefix) (best_among net.now state.now resolver.old own.now sessions.now) known.now prefixes.now) }
 {
     let room = known.len().saturating_add(prefixes.len());
-    let mut paths = Items::from_vec(Vec::with_capacity(alloc, room)?);
+    let mut paths = Items::with_room(alloc, room)?;
     let mut left = known;
     for prefix in prefixes {
-        append_copies(alloc, &mut paths, before(left, prefix))?;
+        append_copies(&mut paths, before(left, prefix))?;
         left = behind(left, prefix);
         let path = best_among(alloc, net, state, resolver, own, sessions, prefix)?;
         push_some(&mut paths, path)?;
     }
-    append_copies(alloc, &mut paths, left)?;
+    append_copies(&mut paths, left)?;
     Ok(paths)
 }

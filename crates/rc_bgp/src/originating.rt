@@ -26,7 +26,6 @@ fn is_bgp(source: Source) -> bool
 
 /// A path as its router originates it.
 pub(crate) fn originated(
-    alloc: Global,
     router: RouterId,
     source: PathSource,
     origin: Origin,
@@ -43,7 +42,7 @@ pub(crate) fn originated(
         weight: 32768,
         origin,
         as_path: AsPath::empty(),
-        communities: Communities::none(alloc),
+        communities: Communities::none(),
         source,
         sender: router,
         sender_id: Addr::new(0),
@@ -53,14 +52,13 @@ pub(crate) fn originated(
 }
 
 /// The path that a line `network` originates from a route.
-fn from_route(alloc: Global, router: RouterId, route: &Route, prefix: &Prefix) -> Option<BgpPath>
+fn from_route(router: RouterId, route: &Route, prefix: &Prefix) -> Option<BgpPath>
     ensures { result ≡ spec.from_route router prefix.now route.now }
 {
     if is_bgp(route.source) {
         return None;
     }
     Some(originated(
-        alloc,
         router,
         PathSource::Network,
         Origin::Igp,
@@ -70,13 +68,13 @@ fn from_route(alloc: Global, router: RouterId, route: &Route, prefix: &Prefix) -
 }
 
 /// The path that a line `network` originates, if any.
-fn by_network(alloc: Global, router: RouterId, table: &[Route], prefix: &Prefix) -> Option<BgpPath>
+fn by_network(router: RouterId, table: &[Route], prefix: &Prefix) -> Option<BgpPath>
     requires { IsTable table.now }
     ensures { result ≡ spec.by_network router table.now prefix.now }
 {
     let found = route_at(table, prefix);
     match found {
-        Some(route) => from_route(alloc, router, route, prefix),
+        Some(route) => from_route(router, route, prefix),
         None => None,
     }
 }
@@ -122,7 +120,7 @@ fn paths_for(
 {
     let mut paths = Items::new(alloc);
     for prefix in prefixes {
-        let path = by_network(alloc, router, table, prefix);
+        let path = by_network(router, table, prefix);
         match path {
             Some(path) => paths.push(path)?,
             None => {}

@@ -53,10 +53,10 @@ fn med_over(session: &Session, path: &BgpPath) -> u32
 }
 
 /// A path again, with the MED that it has over a session.
-fn with_med(alloc: Global, session: &Session, path: &BgpPath) -> Result<BgpPath, AllocError>
+fn with_med(session: &Session, path: &BgpPath) -> Result<BgpPath, AllocError>
     ensures { IfOk result (λ made. made ≡ spec.with_med session.now path.now) }
 {
-    let mut made = path.copy(alloc)?;
+    let mut made = path.copy()?;
     made.med = med_over(session, path);
     Ok(made)
 }
@@ -107,17 +107,13 @@ fn as_path_over(
 }
 
 /// The communities of a path that go to a neighbour.
-fn communities_to(
-    alloc: Global,
-    neighbor: &Neighbor,
-    path: &BgpPath,
-) -> Result<Communities, AllocError>
+fn communities_to(neighbor: &Neighbor, path: &BgpPath) -> Result<Communities, AllocError>
     ensures { IfOk result (λ made. made ≡ spec.communities_to neighbor.now path.now) }
 {
     if neighbor.send_community {
-        path.communities.copy(alloc)
+        path.communities.share()
     } else {
-        Ok(Communities::none(alloc))
+        Ok(Communities::none())
     }
 }
 
@@ -132,7 +128,7 @@ fn as_sent(
     ensures { IfOk result (λ made. made ≡ spec.as_sent asn session.now neighbor.now path.now) }
 {
     let as_path = as_path_over(alloc, asn, session, &path.as_path)?;
-    let communities = communities_to(alloc, neighbor, path)?;
+    let communities = communities_to(neighbor, path)?;
     Ok(BgpPath {
         prefix: path.prefix,
         next_hop: next_hop_over(session, neighbor, path),
@@ -167,7 +163,7 @@ fn exported(
     if !passes_list(file, &neighbor.list_out, &path.prefix) {
         return Ok(None);
     }
-    let offered = with_med(alloc, session, path)?;
+    let offered = with_med(session, path)?;
     let made = mapped(alloc, file, &neighbor.map_out, offered)?;
     match made {
         None => Ok(None),
@@ -224,7 +220,7 @@ fn default_path(alloc: Global, asn: u32, session: &Session) -> Result<BgpPath, A
         weight: 32768,
         origin: Origin::Igp,
         as_path,
-        communities: Communities::none(alloc),
+        communities: Communities::none(),
         source: PathSource::Network,
         sender: session.sender,
         sender_id: Addr::new(0),
@@ -348,6 +344,6 @@ pub fn import(
 ) -> Result<Option<BgpPath>, AllocError>
     ensures { IfOk result (λ made. made ≡ spec.import net.now session.now path.now) }
 {
-    let copied = path.copy(alloc)?;
+    let copied = path.copy()?;
     taken(alloc, net, session, copied)
 }

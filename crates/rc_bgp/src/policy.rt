@@ -25,11 +25,11 @@ pub(crate) fn passes_list(file: &RouterText, list: &Option<Mention>, prefix: &Pr
 }
 
 /// What a route map sees of a path.
-fn attrs_of(alloc: Global, path: &BgpPath) -> Result<Attrs, AllocError>
+fn attrs_of(path: &BgpPath) -> Result<Attrs, AllocError>
     ensures { IfOk result (λ a. a ≡ spec.attrs_of path.now) }
 {
     let as_path = path.as_path.share()?;
-    let communities = path.communities.copy(alloc)?;
+    let communities = path.communities.share()?;
     Ok(Attrs {
         prefix: path.prefix,
         metric: path.med,
@@ -82,7 +82,7 @@ fn mapped_by(
 ) -> Result<Option<BgpPath>, AllocError>
     ensures { IfOk result (λ made. made ≡ spec.mapped_by file.now map.now path.now) }
 {
-    let attrs = attrs_of(alloc, path)?;
+    let attrs = attrs_of(path)?;
     let made = apply(alloc, map, &file.lists, attrs)?;
     match made {
         Some(attrs) => Ok(Some(with_attrs(path, attrs))),

@@ -109,7 +109,7 @@ fn redistributed(
         return Ok(None);
     }
     let med = med_of(line, route);
-    let path = originated(alloc, router, source, Origin::Incomplete, med, route.prefix);
+    let path = originated(router, source, Origin::Incomplete, med, route.prefix);
     mapped(alloc, file, &line.route_map, path)
 }
 

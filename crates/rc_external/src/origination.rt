@@ -134,7 +134,6 @@ fn path_for<'a>(source: Source, prefix: &Prefix, paths: &'a [BgpPath]) -> Option
 
 /// What the route map of a line sees of a route that a path gave, or that begins here.
 fn attrs_with(
-    alloc: Global,
     line: &Redistribution,
     prefix: Prefix,
     path: Option<&BgpPath>,
@@ -143,7 +142,7 @@ fn attrs_with(
 {
     match path {
         Some(path) => {
-            let communities = path.communities.copy(alloc)?;
+            let communities = path.communities.share()?;
             let as_path = path.as_path.share()?;
             Ok(Attrs {
                 prefix,
@@ -164,22 +163,17 @@ fn attrs_with(
             weight: 32768,
             origin: Origin::Incomplete,
             as_path: AsPath::empty(),
-            communities: Communities::none(alloc),
+            communities: Communities::none(),
         }),
     }
 }
 
 /// What the route map of a line sees of a route.
-fn attrs_of(
-    alloc: Global,
-    paths: &[BgpPath],
-    line: &Redistribution,
-    route: &Route,
-) -> Result<Attrs, AllocError>
+fn attrs_of(paths: &[BgpPath], line: &Redistribution, route: &Route) -> Result<Attrs, AllocError>
     ensures { IfOk result (λ attrs. attrs ≡ spec.attrs_of paths.now line.now route.now) }
 {
     let path = path_for(route.source, &route.prefix, paths);
-    attrs_with(alloc, line, route.prefix, path)
+    attrs_with(line, route.prefix, path)
 }
 
 /// What a route map of the file makes of a route, `None` exactly where it rejects it, as one does that isn't there.
@@ -238,7 +232,7 @@ fn redistributed_by(
     }
     match &line.route_map {
         Some(name) => {
-            let attrs = attrs_of(alloc, paths, line, route)?;
+            let attrs = attrs_of(paths, line, route)?;
             sent_through(alloc, router, file, route.prefix, name, attrs)
         }
         None => Ok(Some(External::new(

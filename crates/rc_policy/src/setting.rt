@@ -17,7 +17,7 @@ fn with_change(
 {
     match change {
         CommunityChange::Keep => Ok(communities),
-        CommunityChange::Replace(others) => others.copy(alloc),
+        CommunityChange::Replace(others) => others.share(),
         CommunityChange::Add(others) => communities.union(alloc, others),
     }
 }

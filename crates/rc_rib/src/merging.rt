@@ -101,7 +101,7 @@ pub(crate) fn merged(alloc: Global, first: Table, second: Table) -> Result<Table
         return Ok(first);
     }
     let room = first.len().saturating_add(second.len());
-    let mut routes = Items::from_vec(Vec::with_capacity(alloc, room)?);
+    let mut routes = Items::with_room(alloc, room)?;
     let mut first = VecDeque::from(first.into_vec());
     let mut second = VecDeque::from(second.into_vec());
     while let Some(route) = take_next(&mut first, &mut second) {

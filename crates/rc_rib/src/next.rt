@@ -132,7 +132,7 @@ fn push_learned(routes: &mut Table, path: &BgpPath) -> Result<(), AllocError>
 fn learned_routes(alloc: Global, paths: &[BgpPath]) -> Result<Table, AllocError>
     ensures { IfOk result (λ routes. routes ≡ spec.learned_routes paths.now) }
 {
-    let mut routes = Items::from_vec(Vec::with_capacity(alloc, paths.len())?);
+    let mut routes = Items::with_room(alloc, paths.len())?;
     for path in paths {
         push_learned(&mut routes, path)?;
     }
@@ -151,7 +151,7 @@ fn with_learned(alloc: Global, table: Table, paths: &[BgpPath]) -> Result<Table,
 fn copied(alloc: Global, routes: &[Route]) -> Result<Table, AllocError>
     ensures { IfOk result (λ copied. copied ≡ routes.now) }
 {
-    let mut copied = Items::from_vec(Vec::with_capacity(alloc, routes.len())?);
+    let mut copied = Items::with_room(alloc, routes.len())?;
     for route in routes {
         copied.push(route.copy(alloc)?)?;
     }

@@ -6,6 +6,7 @@
 //! after all rounds, of which there is one, whatever the number of workers.
 #![tactic(auto)]
 
+mod leaving;
 mod outcome;
 mod parts;
 mod progress;

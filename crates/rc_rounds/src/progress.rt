@@ -80,11 +80,15 @@ fn next_checkpoint(round: u32, checkpoint: u32) -> u32
     }
 }
 
-/// The state that is kept of the checkpoint, where the round before the last one leaves.
-fn kept_of(is_leaving: bool, leaving: State, kept: State) -> State
-    ensures { result ≡ (if is_leaving then leaving else kept) }
+/// The state that is kept of the checkpoint, where the round before the last one leaves, and the one that isn't kept.
+fn kept_of(is_checkpoint: bool, leaving: State, kept: State) -> (State, State)
+    ensures { result.0 ≡ (if is_checkpoint then leaving else kept) }
 {
-    if is_leaving { leaving } else { kept }
+    if is_checkpoint {
+        (leaving, kept)
+    } else {
+        (kept, leaving)
+    }
 }
 
 impl Progress {
@@ -196,12 +200,12 @@ impl Progress {
         Outcome::Fixed(done + 1, last)
     }
 
-    /// One round further.
-    pub fn after(self, next: State, changed: Changes) -> Progress
+    /// One round further, and the state that isn't kept any more.
+    pub fn after(self, next: State, changed: Changes) -> (Progress, State)
         requires few { self.done < 100000 }
         requires checkpoint { self.checkpoint ≤ 100000 }
-        ensures done { result.done ≡ self.done + 1 }
-        ensures made { (net : NetworkModel) (internal : InternalModel) → IsProgress net internal self → IsStateOf (length net.routers) next → next ≡ rib.next_state net internal self.last → AreChanges changed self.last next → GoesOn net internal (self.done + 1) → IsProgress net internal result }
+        ensures done { result.0.done ≡ self.done + 1 }
+        ensures made { (net : NetworkModel) (internal : InternalModel) → IsProgress net internal self → IsStateOf (length net.routers) next → next ≡ rib.next_state net internal self.last → AreChanges changed self.last next → GoesOn net internal (self.done + 1) → IsProgress net internal result.0 }
     {
         let Progress {
             done,
@@ -212,13 +216,15 @@ impl Progress {
             kept,
         } = self;
         let round = done + 1;
-        Progress {
+        let (kept, left) = kept_of(checkpoint + 1 == done, before, kept);
+        let further = Progress {
             done: round,
             checkpoint: next_checkpoint(round, checkpoint),
             last: next,
             changes: changed,
-            kept: kept_of(checkpoint + 1 == done, before, kept),
+            kept,
             before: last,
-        }
+        };
+        (further, left)
     }
 }

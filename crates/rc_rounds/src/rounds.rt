@@ -8,6 +8,7 @@ ghost use Rattle.rc_rounds.specs.Setting.{IsSetting};
 ghost use Rattle.rc_rounds.specs.Silent.{AreAsked};
 
 use crate::Outcome;
+use crate::leaving::drop_state;
 use crate::parts::Round;
 use crate::progress::{Progress, Same};
 use crate::silent::links_asked;
@@ -100,7 +101,11 @@ fn rounds_within<R: Threads + Sync, G: Gate>(
         match same {
             Same::Last => return Ok(Outcome::Fixed(done + 1, next)),
             Same::Checkpoint => return Ok(Outcome::Repeats(progress.checkpoint, done + 1)),
-            Same::Neither => progress = progress.after(next, changes),
+            Same::Neither => {
+                let (further, left) = progress.after(next, changes);
+                progress = further;
+                drop_state(rt, alloc, left, workers);
+            }
         }
     }
     Ok(Outcome::Limit(limit))

@@ -6,7 +6,7 @@ ghost use Rattle.rc_route.specs.Paths.{path_source_rank};
 
 use rc_as_path::AsPath;
 use rc_base::{Addr, Communities, Origin, Prefix, RouterId};
-use std::alloc::{AllocError, Global};
+use std::alloc::AllocError;
 use std::cmp::Ordering;
 
 /// How a router came to a path. Of equal paths that it originates itself the one that stands first is preferred.
@@ -80,11 +80,12 @@ impl Drop for BgpPath {
 }
 
 impl BgpPath {
-    /// The path again. It shares the AS path, and has communities of its own.
-    pub fn copy(&self, alloc: Global) -> Result<BgpPath, AllocError>
+    /// The path again, which shares the AS path and the communities of this one. It takes no memory, and errs only where as many
+    /// hold these as can be counted.
+    pub fn copy(&self) -> Result<BgpPath, AllocError>
         ensures { IfOk result (λ copied. copied ≡ self.now) }
     {
-        let communities = self.communities.copy(alloc)?;
+        let communities = self.communities.share()?;
         let as_path = self.as_path.share()?;
         Ok(BgpPath {
             prefix: self.prefix,

@@ -1,5 +1,6 @@
 //! What the routers know after a round.
-ghost use Rattle.std.specs.Prelude.{◌≡◌, ◌↔◌, IsTrue, IfOk};
+ghost use Rattle.std.specs.Prelude.{◌≡◌, ◌≢◌, ◌↔◌, IsTrue, IfOk, slice_get};
+ghost use Rattle.std.specs.Option.{option_map};
 
 use crate::{BgpPath, Table};
 use rc_base::Items;
@@ -32,15 +33,64 @@ impl RouterState {
 /// A state: what each router of a network knows, in the network's order.
 pub type State = Items<RouterState>;
 
-/// Whether two states are equal, in all that they hold.
+/// Whether two routers know so many routes or paths that they can't know the same.
+#[tactic(auto, using(crate::proofs::SizeLaws::known_differ))]
+fn differ_in_size(a: &RouterState, b: &RouterState) -> bool
+    ensures { IsTrue result → a.now ≢ b.now }
+{
+    a.table.len() != b.table.len() || a.paths.len() != b.paths.len()
+}
+
+/// What a router knows in a state, or `None` exactly past its end.
+fn known_at(state: &State, index: usize) -> Option<&RouterState>
+    ensures { option_map (λ s. s.now) result ≡ slice_get state.now index }
+{
+    state.as_slice().get(index)
+}
+
+/// Whether so it is with a router in two states.
+fn differ_at(a: &State, b: &State, index: usize) -> bool
+    ensures { IsTrue result → a.now ≢ b.now }
+{
+    let one = known_at(a, index);
+    let other = known_at(b, index);
+    match one {
+        None => false,
+        Some(one) => match other {
+            None => false,
+            Some(other) => differ_in_size(one, other),
+        },
+    }
+}
+
+/// Whether two states differ in how many routes or paths some router knows, which is told at once.
+fn some_differ_in_size(a: &State, b: &State) -> bool
+    ensures { IsTrue result → a.now ≢ b.now }
+{
+    for index in 0..a.len() {
+        if differ_at(a, b, index) {
+            return true;
+        }
+    }
+    false
+}
+
+/// Whether two states are the same, by all that they hold.
 #[tactic(auto, using(crate::proofs::EqualLaws::state_decides))]
-pub fn equal(a: &State, b: &State) -> bool
+fn is_same(a: &State, b: &State) -> bool
     ensures { IsTrue result ↔ (a.now ≡ b.now) }
 {
     a == b
 }
 
-/// What a router knows, again: routes and paths in memory of their own, but for AS paths, which both share.
+/// Whether two states are equal, in all that they hold. Most that aren't differ in how much a router knows.
+pub fn equal(a: &State, b: &State) -> bool
+    ensures { IsTrue result ↔ (a.now ≡ b.now) }
+{
+    !some_differ_in_size(a, b) && is_same(a, b)
+}
+
+/// What a router knows, again: routes and paths in memory of their own, but for AS paths and communities, which both share.
 pub fn copy(alloc: Global, state: &RouterState) -> Result<RouterState, AllocError>
     ensures { IfOk result (λ copied. copied ≡ state.now) }
 {
@@ -53,7 +103,7 @@ pub fn copy(alloc: Global, state: &RouterState) -> Result<RouterState, AllocErro
 fn copy_table(alloc: Global, table: &Table) -> Result<Table, AllocError>
     ensures { IfOk result (λ copied. copied ≡ table.now) }
 {
-    let mut routes = Items::from_vec(Vec::with_capacity(alloc, table.len())?);
+    let mut routes = Items::with_room(alloc, table.len())?;
     for route in table.as_slice() {
         routes.push(route.copy(alloc)?)?;
     }
@@ -64,9 +114,9 @@ fn copy_table(alloc: Global, table: &Table) -> Result<Table, AllocError>
 fn copy_paths(alloc: Global, list: &Items<BgpPath>) -> Result<Items<BgpPath>, AllocError>
     ensures { IfOk result (λ copied. copied ≡ list.now) }
 {
-    let mut paths = Items::from_vec(Vec::with_capacity(alloc, list.len())?);
+    let mut paths = Items::with_room(alloc, list.len())?;
     for path in list.as_slice() {
-        paths.push(path.copy(alloc)?)?;
+        paths.push(path.copy()?)?;
     }
     Ok(paths)
 }

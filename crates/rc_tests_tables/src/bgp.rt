@@ -72,7 +72,7 @@ fn sessions_of(alloc: Global, net: &Network) -> Result<Sessions, AllocError> {
 }
 
 /// The path that the first router originates.
-fn own_path(alloc: Global) -> Result<BgpPath, Fail> {
+fn own_path() -> Result<BgpPath, Fail> {
     Ok(BgpPath {
         prefix: prefix(LAN)?,
         next_hop: Addr::new(0),
@@ -85,7 +85,7 @@ fn own_path(alloc: Global) -> Result<BgpPath, Fail> {
         origin: Origin::Igp,
         source: PathSource::Network,
         sender: RouterId::at(0),
-        communities: Communities::none(alloc),
+        communities: Communities::none(),
         as_path: AsPath::empty(),
     })
 }
@@ -244,7 +244,7 @@ fn to_second(all: &Sessions) -> Option<&Session> {
 
 #[test]
 fn a_path_is_sent_and_taken(rt: HostRuntime) -> Result<(), Fail> {
-    let path = own_path(rt.alloc())?;
+    let path = own_path()?;
     let net = pair(rt.alloc())?;
     let all = sessions_of(rt.alloc(), &net)?;
     let session = to_second(&all).expect(&rt, "a session");
@@ -262,7 +262,7 @@ fn is_alone(path: &BgpPath, paths: &[BgpPath]) -> bool {
 
 #[test]
 fn candidates_of_the_first_router(rt: HostRuntime) -> Result<(), Fail> {
-    let wanted = own_path(rt.alloc())?;
+    let wanted = own_path()?;
     let own = found(rt.alloc(), 0, none(rt.alloc()))?;
     assert!(rt; is_alone(&wanted, own.as_slice()));
     Ok(())
@@ -280,7 +280,7 @@ fn is_heard_alone(paths: &[BgpPath]) -> bool {
 fn candidates_of_the_second_router(rt: HostRuntime) -> Result<(), Fail> {
     let nothing = found(rt.alloc(), 1, none(rt.alloc()))?;
     assert!(rt; nothing.is_empty());
-    let paths = one(rt.alloc(), own_path(rt.alloc())?)?;
+    let paths = one(rt.alloc(), own_path()?)?;
     let heard = found(rt.alloc(), 1, paths)?;
     assert!(rt; is_heard_alone(heard.as_slice()));
     Ok(())

@@ -35,7 +35,7 @@ fn is_three(three: &Communities) -> bool {
 #[test]
 fn communities_each_once_in_order(rt: HostRuntime) -> Result<(), Fail> {
     let three = communities(rt.alloc(), &[30, 10, 20, 10])?;
-    let none = Communities::none(rt.alloc());
+    let none = Communities::none();
     assert!(rt; is_three(&three) && none.is_empty() && three.includes(&none));
     Ok(())
 }
@@ -64,7 +64,7 @@ fn unions_of_communities(rt: HostRuntime) -> Result<(), Fail> {
     let three = communities(rt.alloc(), &[30, 10, 20, 10])?;
     let two = communities(rt.alloc(), &[40, 10])?;
     let have_one = have_one_union(rt.alloc(), &three, &two)?;
-    let copied = three.copy(rt.alloc())?;
+    let copied = three.share()?;
     assert!(rt; have_one && three == copied);
     Ok(())
 }

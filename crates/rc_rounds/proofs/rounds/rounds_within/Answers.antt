@@ -35,6 +35,6 @@ loop-done-preserved g c =
     let changes : AreChanges c.in-Some.round.changes p.last c.in-Some.round.state = subst (λ o. IfSome o (λ (r : Round). AreChanges r.changes p.last r.state)) c.in-Some.is c.in_ok-round.ensures.changes in
     let neither = c.in-Neither.ensures in
     record {
-      at = c.after-progress.ensures.done ∙ ap (λ n. n + 1) c.loop-done.invariant.at;
-      made = c.after-progress.ensures.made net internal at in_order made changes (goes_on net internal p at c.in-Some.round.state made neither.0 neither.1);
+      at = c.after-further.ensures.done ∙ ap (λ n. n + 1) c.loop-done.invariant.at;
+      made = c.after-further.ensures.made net internal at in_order made changes (goes_on net internal p at c.in-Some.round.state made neither.0 neither.1);
     }

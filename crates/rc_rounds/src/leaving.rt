@@ -1,0 +1,26 @@
+//! States that nobody needs any more.
+ghost use Rattle.std.specs.Prelude.{◌≤◌};
+
+use rc_base::Items;
+use rc_route::{RouterState, State};
+use std::alloc::Global;
+use std::thread::{Threads, for_each_mut};
+
+/// Drops what a router knows.
+fn forget(alloc: Global, known: &mut RouterState) {
+    known.table = Items::new(alloc);
+    known.paths = Items::new(alloc);
+}
+
+/// Drops a state, which the workers share: to drop many paths takes as long as to copy them.
+pub(crate) fn drop_state<R: Threads + Sync>(rt: &R, alloc: Global, state: State, workers: u32)
+    requires { 1 ≤ workers }
+{
+    let mut left = state.into_vec();
+    for_each_mut(
+        rt,
+        left.as_mut_slice(),
+        workers as usize,
+        &|_, known: &mut RouterState| forget(alloc, known),
+    );
+}
