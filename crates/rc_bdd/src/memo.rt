@@ -37,11 +37,12 @@ pub fn memo_of(alloc: Global, size: usize) -> Result<Vec<Noted>, AllocError>
     Ok(memo)
 }
 
-/// The result of a note, where it is of this operation on these two.
+/// The result of a note, where it is of this operation on these two. The two are looked at first: they tell most notes apart, and whether
+/// the operation is the same is a toss-up, which a processor guesses wrongly every other time.
 pub fn result_of(noted: Noted, operation: Operation, left: Ref, right: Ref) -> Option<Ref>
     ensures { MatchOption result Unit (λ r. (noted.operation ≡ operation) × (noted.left.index ≡ left.index) × (noted.right.index ≡ right.index) × (noted.result ≡ r)) }
 {
-    if noted.operation == operation && noted.left == left && noted.right == right {
+    if noted.left == left && noted.right == right && noted.operation == operation {
         Some(noted.result)
     } else {
         None
