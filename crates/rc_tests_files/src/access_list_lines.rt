@@ -15,6 +15,14 @@ const BAD: Option<LineError> = Some(LineError::Refused(LineRefusal::BadValue));
 
 const UNSUPPORTED: Option<LineError> = Some(LineError::Refused(LineRefusal::Unsupported));
 
+/// The line of an access list that a command is, and the kind of its list.
+fn line_said(said: &Command) -> Option<(AccessListKind, AccessListLine)> {
+    match said {
+        Command::AccessListLine { kind, line, .. } => Some((*kind, *line)),
+        _ => None,
+    }
+}
+
 /// The line of an access list that the text is in this block, and the kind of its list.
 fn line_in(
     file: &RouterText,
@@ -25,10 +33,13 @@ fn line_in(
 {
     let line = Lines::new(text).next()?;
     let block = *block;
-    match &read_line(&line, Context { block, file }) {
-        Ok(Command::AccessListLine { kind, line, .. }) => Some((*kind, *line)),
-        _ => None,
-    }
+    let said = read_line(&line, Context { block, file });
+    let found = match &said {
+        Ok(said) => line_said(said),
+        Err(_) => None,
+    };
+    drop(said);
+    found
 }
 
 /// How the text is refused in this block.
@@ -40,11 +51,17 @@ fn refusal_in(file: &RouterText, block: &OpenBlock, text: &[u8]) -> Option<LineE
     read_line(&line, Context { block, file }).err()
 }
 
-fn check_range(rt: &impl Abort, line: &AccessListLine) {
-    assert!(rt; line.sequence == 10);
-    assert!(rt; line.source == AddressTest::any());
-    assert!(rt; line.destination == AddressTest::host(Addr::new(0x0a00_0001)));
-    assert!(rt; line.destination_port == PortTest::Within(22, 23));
+/// Whether it is the line of `range 22 telnet`.
+fn is_range(line: &Option<(AccessListKind, AccessListLine)>) -> bool {
+    match line {
+        Some((_, line)) => {
+            line.sequence == 10
+                && line.source == AddressTest::any()
+                && line.destination == AddressTest::host(Addr::new(0x0a00_0001))
+                && line.destination_port == PortTest::Within(22, 23)
+        }
+        None => false,
+    }
 }
 
 #[test]
@@ -53,74 +70,66 @@ fn a_line_has_its_tests(rt: HostRuntime) {
     let block = OpenBlock::AccessList(list, AccessListKind::Extended);
     let file = RouterText::new(rt.alloc());
     let text = b"permit tcp any host 10.0.0.1 range 22 telnet log";
-    match &line_in(&file, &block, text) {
-        Some((_, line)) => check_range(&rt, line),
-        None => assert!(rt; false, "no line"),
-    }
+    assert!(rt; is_range(&line_in(&file, &block, text)));
 }
 
 #[test]
 fn lines_are_refused(rt: HostRuntime) {
     let list = Name::new(b"WEB").expect(&rt, "WEB");
     let file = RouterText::new(rt.alloc());
-    for (kind, text, refusal) in [
-        (
-            AccessListKind::Extended,
-            b"permit udp any any eq 23 foo".as_slice(),
-            UNSUPPORTED,
-        ),
-        (AccessListKind::Standard, b"permit udp any any", BAD),
-    ] {
-        let block = OpenBlock::AccessList(list, kind);
-        assert!(rt; refusal_in(&file, &block, text) == refusal, "{text:?}");
-    }
+    let extended = OpenBlock::AccessList(list, AccessListKind::Extended);
+    let standard = OpenBlock::AccessList(list, AccessListKind::Standard);
+    assert!(rt;
+        refusal_in(&file, &extended, b"permit udp any any eq 23 foo") == UNSUPPORTED
+            && refusal_in(&file, &standard, b"permit udp any any") == BAD
+    );
 }
 
-fn check_kind(
-    rt: &impl Abort,
-    line: &Option<(AccessListKind, AccessListLine)>,
-    wanted: AccessListKind,
-) {
+/// Whether the line is of a list of this kind.
+fn is_of(line: &Option<(AccessListKind, AccessListLine)>, wanted: AccessListKind) -> bool {
     match line {
-        Some((kind, _)) => assert!(rt; *kind == wanted),
-        None => assert!(rt; false, "no line"),
+        Some((kind, _)) => *kind == wanted,
+        None => false,
     }
 }
 
 #[test]
 fn numbers_tell_kinds_of_lists(rt: HostRuntime) {
     let file = RouterText::new(rt.alloc());
-    for (text, kind) in [
-        (
-            b"access-list 99 permit any".as_slice(),
-            AccessListKind::Standard,
-        ),
-        (
-            b"access-list 2699 permit ip any any",
-            AccessListKind::Extended,
-        ),
-    ] {
-        check_kind(&rt, &line_in(&file, &OpenBlock::Global, text), kind);
+    let standard = line_in(&file, &OpenBlock::Global, b"access-list 99 permit any");
+    let extended = line_in(
+        &file,
+        &OpenBlock::Global,
+        b"access-list 2699 permit ip any any",
+    );
+    assert!(rt;
+        is_of(&standard, AccessListKind::Standard) && is_of(&extended, AccessListKind::Extended)
+    );
+}
+
+/// Lines, and how they are refused.
+const REMARKS: [(&[u8], Option<LineError>); 7] = [
+    (b"access-list 5 remark x", None),
+    (b"access-list 700 remark x", None),
+    (b"access-list 0 remark", None),
+    (b"access-list 4294967295 remark x", None),
+    (b"access-list WEB remark x", BAD),
+    (b"access-list 700 permit any", BAD),
+    (b"access-list 700 deny any", BAD),
+];
+
+fn check_refusals(rt: &impl Abort, file: &RouterText, rows: &[(&[u8], Option<LineError>)])
+    requires { HasLawfulLists file.now }
+{
+    for (text, refusal) in rows {
+        let found = refusal_in(file, &OpenBlock::Global, text);
+        assert!(rt; found == *refusal, "{text:?}");
     }
 }
 
 #[test]
 fn a_remark_takes_every_number(rt: HostRuntime) {
-    let file = RouterText::new(rt.alloc());
-    for (text, refusal) in [
-        (b"access-list 5 remark x".as_slice(), None),
-        (b"access-list 700 remark x", None),
-        (b"access-list 0 remark", None),
-        (b"access-list 4294967295 remark x", None),
-        (b"access-list WEB remark x", BAD),
-        (b"access-list 700 permit any", BAD),
-        (b"access-list 700 deny any", BAD),
-    ] {
-        assert!(rt;
-            refusal_in(&file, &OpenBlock::Global, text) == refusal,
-            "{text:?}"
-        );
-    }
+    check_refusals(&rt, &RouterText::new(rt.alloc()), &REMARKS);
 }
 
 /// A standard list with a line 15.
@@ -129,19 +138,20 @@ ip access-list standard 5
  15 deny 10.0.0.1
 ";
 
-fn check_number(rt: &impl Abort, line: &Option<(AccessListKind, AccessListLine)>, wanted: u32) {
+/// Whether the line has this number.
+fn has_number(line: &Option<(AccessListKind, AccessListLine)>, wanted: u32) -> bool {
     match line {
-        Some((_, line)) => assert!(rt; line.sequence == wanted),
-        None => assert!(rt; false, "no line"),
+        Some((_, line)) => line.sequence == wanted,
+        None => false,
     }
 }
 
-/// Asserts which number a line gets behind a line 15, and that this number is there already.
-fn check_next(rt: &impl Abort, file: &RouterText, block: &OpenBlock)
+/// Whether a line gets the next number behind a line 15, and this number is there already.
+fn has_fifteen(file: &RouterText, block: &OpenBlock) -> bool
     requires { HasLawfulLists file.now }
 {
-    check_number(rt, &line_in(file, block, b"deny any"), 25);
-    assert!(rt; refusal_in(file, block, b"15 deny any") == BAD);
+    has_number(&line_in(file, block, b"deny any"), 25)
+        && refusal_in(file, block, b"15 deny any") == BAD
 }
 
 #[test]
@@ -149,9 +159,11 @@ fn lines_get_numbers(rt: HostRuntime) {
     let list = Name::new(b"5").expect(&rt, "5");
     let block = OpenBlock::AccessList(list, AccessListKind::Standard);
     let empty = RouterText::new(rt.alloc());
-    check_number(&rt, &line_in(&empty, &block, b"deny any"), 10);
-    match &read_file(rt.alloc(), FIFTEEN) {
-        Ok(file) => check_next(&rt, file, &block),
-        Err(_) => assert!(rt; false, "refused"),
-    }
+    assert!(rt; has_number(&line_in(&empty, &block, b"deny any"), 10));
+    let read = read_file(rt.alloc(), FIFTEEN);
+    let holds = match &read {
+        Ok(file) => has_fifteen(file, &block),
+        Err(_) => false,
+    };
+    assert!(rt; holds);
 }

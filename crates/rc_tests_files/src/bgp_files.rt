@@ -3,7 +3,6 @@ use crate::refused_files::{BAD, OUT_OF_PLACE, Refused, UNKNOWN, UNSUPPORTED, che
 use rc_base::{Addr, Name, Prefix};
 use rc_config::{BgpLine, BgpProcess, BgpRedistributions, Command, Neighbor, RouterText};
 use rc_grammar::{FileCause, read_file};
-use std::process::Abort;
 
 const FILE: &[u8] = b"hostname X
 router bgp 65001
@@ -33,87 +32,102 @@ router bgp 65001
  neighbor 10.0.0.3 shutdown
 ";
 
-fn check_neighbor(rt: &impl Abort, neighbor: &Neighbor, last: u32, remote_as: Option<u32>) {
-    assert!(rt; neighbor.address == Addr::new(0x0a00_0000 + last % 16));
-    assert!(rt; neighbor.remote_as == remote_as);
-    assert!(rt; neighbor.is_multihop == (last == 1));
-    assert!(rt; neighbor.is_shutdown == (last == 3));
+/// Whether the neighbour is that of this last octet.
+fn is_neighbor(neighbor: &Neighbor, last: u32, remote_as: Option<u32>) -> bool {
+    neighbor.address == Addr::new(0x0a00_0000 + last % 16)
+        && neighbor.remote_as == remote_as
+        && neighbor.is_multihop == (last == 1)
+        && neighbor.is_shutdown == (last == 3)
 }
 
-fn check_neighbors(rt: &impl Abort, process: &BgpProcess) {
-    let wanted = [(1, Some(65002)), (2, Some(65000)), (3, None)];
-    assert!(rt; process.neighbors.len() == 3);
-    for (neighbor, (last, remote_as)) in process.neighbors.iter().zip(wanted) {
-        check_neighbor(rt, neighbor, last, remote_as);
+/// Whether the process has just its three neighbours, in order.
+fn has_neighbors(process: &BgpProcess) -> bool {
+    let mut last = 0u32;
+    for neighbor in process.neighbors.iter() {
+        last = last.saturating_add(1);
+        let remote_as = match last {
+            1 => Some(65002),
+            2 => Some(65000),
+            _ => None,
+        };
+        if !is_neighbor(neighbor, last, remote_as) {
+            return false;
+        }
     }
+    last == 3
 }
 
-fn check_source(rt: &impl Abort, process: &BgpProcess, source: &Name) {
+/// Whether the second neighbour's sessions come from this interface.
+fn has_source(process: &BgpProcess, source: &Name) -> bool {
     match process.neighbors.get(0x0a00_0002) {
-        Some(neighbor) => assert!(rt; neighbor.update_source == Some(*source)),
-        None => assert!(rt; false, "no neighbour"),
+        Some(neighbor) => neighbor.update_source == Some(*source),
+        None => false,
     }
 }
 
-fn check_policy(rt: &impl Abort, neighbor: &Neighbor) {
-    assert!(rt; neighbor.weight == 7);
-    assert!(rt; neighbor.send_community);
-    assert!(rt; neighbor.map_in.is_some() && neighbor.map_out.is_none());
-    assert!(rt; neighbor.list_in.is_none() && neighbor.list_out.is_some());
-}
-
-fn check_redistributed(rt: &impl Abort, lines: &BgpRedistributions) {
-    assert!(rt; lines.connected.is_none());
-    match &lines.static_routes {
-        Some(line) => assert!(rt; line.metric == Some(5) && line.route_map.is_some()),
-        None => assert!(rt; false, "no static routes"),
-    }
-    match lines.ospf.get(1) {
-        Some(line) => assert!(rt; line.kinds.external_1 && !line.kinds.external_2),
-        None => assert!(rt; false, "no OSPF"),
-    }
-}
-
-fn check_policies(rt: &impl Abort, process: &BgpProcess) {
+/// Whether the first neighbour has its weight, its communities, a map inbound and a list outbound.
+fn has_policy(process: &BgpProcess) -> bool {
     match process.neighbors.get(0x0a00_0001) {
-        Some(neighbor) => check_policy(rt, neighbor),
-        None => assert!(rt; false, "no neighbour"),
-    }
-    check_redistributed(rt, &process.redistributions);
-}
-
-fn check_process(rt: &impl Abort, process: &BgpProcess) {
-    assert!(rt; process.asn == 65001);
-    assert!(rt; process.router_id == Some(Addr::new(0x0101_0101)));
-    assert!(rt; process.networks.len() == 2);
-    let wanted = [
-        Prefix::new(Addr::new(0x0a09_0100), 24),
-        Prefix::new(Addr::new(0xac10_0000), 16),
-    ];
-    for (network, wanted) in process.networks.as_slice().iter().zip(wanted) {
-        assert!(rt; Some(*network) == wanted);
+        Some(neighbor) => {
+            neighbor.weight == 7
+                && neighbor.send_community
+                && neighbor.map_in.is_some()
+                && neighbor.map_out.is_none()
+                && neighbor.list_in.is_none()
+                && neighbor.list_out.is_some()
+        }
+        None => false,
     }
 }
 
-fn check_file(rt: &impl Abort, file: &RouterText, source: &Name) {
+/// Whether static routes are redistributed, and those of OSPF from outside.
+fn has_redistributed(lines: &BgpRedistributions) -> bool {
+    let has_static = match &lines.static_routes {
+        Some(line) => line.metric == Some(5) && line.route_map.is_some(),
+        None => false,
+    };
+    let has_ospf = match lines.ospf.get(1) {
+        Some(line) => line.kinds.external_1 && !line.kinds.external_2,
+        None => false,
+    };
+    has_static && has_ospf && lines.connected.is_none()
+}
+
+/// Whether the process has its number, its router id and its two networks.
+fn is_process(process: &BgpProcess) -> bool {
+    let are_networks = match process.networks.as_slice() {
+        [first, second] => {
+            Some(*first) == Prefix::new(Addr::new(0x0a09_0100), 24)
+                && Some(*second) == Prefix::new(Addr::new(0xac10_0000), 16)
+        }
+        _ => false,
+    };
+    are_networks && process.asn == 65001 && process.router_id == Some(Addr::new(0x0101_0101))
+}
+
+/// Whether the process of the file is as its lines say.
+fn has_process(file: &RouterText, source: &Name) -> bool {
     match &file.bgp {
         Some(process) => {
-            check_process(rt, process);
-            check_neighbors(rt, process);
-            check_source(rt, process, source);
-            check_policies(rt, process);
+            is_process(process)
+                && has_neighbors(process)
+                && has_source(process, source)
+                && has_policy(process)
+                && has_redistributed(&process.redistributions)
         }
-        None => assert!(rt; false, "no process"),
+        None => false,
     }
 }
 
 #[test]
 fn a_file_with_a_process(rt: HostRuntime) {
     let source = Name::new(b"Loopback0").expect(&rt, "Loopback0");
-    match &read_file(rt.alloc(), FILE) {
-        Ok(file) => check_file(&rt, file, &source),
-        Err(_) => assert!(rt; false, "refused"),
-    }
+    let read = read_file(rt.alloc(), FILE);
+    let holds = match &read {
+        Ok(file) => has_process(file, &source),
+        Err(_) => false,
+    };
+    assert!(rt; holds);
 }
 
 /// Lines of a process.

@@ -6,7 +6,6 @@ use rc_base::Name;
 use rc_config::{Interface, RouterText, StaticRoute};
 use rc_grammar::{FileCause, read_file};
 use std::alloc::{AllocError, Global};
-use std::process::Abort;
 use std::test::Fail;
 
 const RUNNING: &[u8] = b"Building configuration...
@@ -50,19 +49,28 @@ interface GigabitEthernet0/0
 end
 ";
 
-fn check_interface(rt: &impl Abort, interface: &Interface) {
-    assert!(rt; interface.primary.map(|a| a.addr().bits()) == Some(0x0a00_0002));
-    assert!(rt; interface.secondary.len() == 1);
-    assert!(rt; !interface.shutdown);
+/// Whether the interface has its second address, its secondary one, and isn't shut any more.
+fn is_interface(interface: &Interface) -> bool {
+    match &interface.primary {
+        Some(address) => {
+            address.addr().bits() == 0x0a00_0002
+                && interface.secondary.len() == 1
+                && !interface.shutdown
+        }
+        None => false,
+    }
 }
 
-fn check_running(rt: &impl Abort, file: &RouterText, name: &Name, host: Name) {
-    assert!(rt; file.host.map(|h| h.name) == Some(host));
-    assert!(rt; file.host.map(|h| h.line) == Some(8));
-    assert!(rt; file.interfaces.len() == 2);
-    match file.interfaces.get(name) {
-        Some(interface) => check_interface(rt, interface),
-        None => assert!(rt; false, "no interface"),
+/// Whether the file has its host name, from line 8, and its two interfaces.
+fn is_running(file: &RouterText, name: &Name, host: Name) -> bool {
+    match (&file.host, file.interfaces.get(name)) {
+        (Some(line), Some(interface)) => {
+            line.name == host
+                && line.line == 8
+                && file.interfaces.len() == 2
+                && is_interface(interface)
+        }
+        _ => false,
     }
 }
 
@@ -70,10 +78,12 @@ fn check_running(rt: &impl Abort, file: &RouterText, name: &Name, host: Name) {
 fn a_running_configuration(rt: HostRuntime) {
     let name = Name::new(b"GigabitEthernet0/0").expect(&rt, "GigabitEthernet0/0");
     let host = Name::new(b"R1").expect(&rt, "R1");
-    match &read_file(rt.alloc(), RUNNING) {
-        Ok(file) => check_running(&rt, file, &name, host),
-        Err(_) => assert!(rt; false, "refused"),
-    }
+    let read = read_file(rt.alloc(), RUNNING);
+    let holds = match &read {
+        Ok(file) => is_running(file, &name, host),
+        Err(_) => false,
+    };
+    assert!(rt; holds);
 }
 
 /// The least line is the one that is told.
@@ -163,7 +173,7 @@ fn with_interfaces(alloc: Global, count: u32) -> Result<Vec<u8>, AllocError> {
 #[test]
 fn a_file_has_at_most_256_interfaces(rt: HostRuntime) -> Result<(), Fail> {
     let most = with_interfaces(rt.alloc(), 256)?;
-    assert!(rt; read_file(rt.alloc(), most.as_slice()).is_ok());
+    assert!(rt; read_file(rt.alloc(), most.as_slice()).err().is_none());
     let over = with_interfaces(rt.alloc(), 257)?;
     let cause = FileCause::TooManyInterfaces;
     check_refused(&rt, rt.alloc(), over.as_slice(), 258, cause);
@@ -178,20 +188,27 @@ ip route 10.1.0.0 255.255.0.0 Null0
 ip route 10.1.0.0 255.255.0.0 Serial9 200 name again
 ";
 
-fn check_routes(rt: &impl Abort, routes: &[StaticRoute]) {
-    assert!(rt; routes.len() == 3);
-    for (route, distance) in routes.iter().zip([200, 1, 200]) {
-        assert!(rt; route.distance == distance);
+/// Whether the routes are those three, in order.
+fn are_three(routes: &[StaticRoute]) -> bool {
+    match routes {
+        [first, second, third] => {
+            first.distance == 200 && second.distance == 1 && third.distance == 200
+        }
+        _ => false,
     }
+}
+
+/// Whether the file has one interface and those routes.
+fn has_routes(file: &RouterText) -> bool {
+    file.interfaces.len() == 1 && are_three(file.static_routes.as_slice())
 }
 
 #[test]
 fn a_file_keeps_its_static_routes(rt: HostRuntime) {
-    match &read_file(rt.alloc(), ROUTES) {
-        Ok(file) => {
-            assert!(rt; file.interfaces.len() == 1);
-            check_routes(&rt, file.static_routes.as_slice());
-        }
-        Err(_) => assert!(rt; false, "refused"),
-    }
+    let read = read_file(rt.alloc(), ROUTES);
+    let holds = match &read {
+        Ok(file) => has_routes(file),
+        Err(_) => false,
+    };
+    assert!(rt; holds);
 }

@@ -1,9 +1,8 @@
 //! Whole files with access groups and access lists.
 use crate::refused_files::{BAD, OUT_OF_PLACE, Refused, UNKNOWN, UNSUPPORTED, check_all_refused};
 use rc_base::Name;
-use rc_config::{AccessList, Interface, Named};
+use rc_config::{AccessList, Named, RouterText};
 use rc_grammar::read_file;
-use std::process::Abort;
 
 const GROUPS: &[u8] = b"hostname X
 interface Serial0
@@ -12,21 +11,27 @@ interface Serial0
  ip access-group 6 in
 ";
 
-fn check_groups(rt: &impl Abort, block: Option<&Interface>) {
-    assert!(rt; block.map(|b| b.access_group_in) == Some(Name::new(b"6")));
-    assert!(rt; block.map(|b| b.access_group_out) == Some(Name::new(b"WEB")));
+/// Whether the interface asks these lists, and no list has a line.
+fn has_groups(file: &RouterText, interface: &Name) -> bool {
+    match file.interfaces.get(interface) {
+        Some(block) => {
+            block.access_group_in == Name::new(b"6")
+                && block.access_group_out == Name::new(b"WEB")
+                && file.lists.access_lists.is_empty()
+        }
+        None => false,
+    }
 }
 
 #[test]
 fn the_last_group_counts(rt: HostRuntime) {
     let serial = Name::new(b"Serial0").expect(&rt, "Serial0");
-    match &read_file(rt.alloc(), GROUPS) {
-        Ok(file) => {
-            assert!(rt; file.lists.access_lists.is_empty());
-            check_groups(&rt, file.interfaces.get(&serial));
-        }
-        Err(_) => assert!(rt; false, "refused"),
-    }
+    let read = read_file(rt.alloc(), GROUPS);
+    let holds = match &read {
+        Ok(file) => has_groups(file, &serial),
+        Err(_) => false,
+    };
+    assert!(rt; holds);
 }
 
 const LISTS: &[u8] = b"hostname X
@@ -44,29 +49,33 @@ ip access-list extended WEB
  deny ip any any
 ";
 
-fn check_numbers(rt: &impl Abort, lists: &Named<AccessList>, name: &[u8], numbers: &[u32]) {
-    match Name::new(name).and_then(|n| lists.get(&n)) {
-        Some(list) => {
-            assert!(rt; list.lines.len() == numbers.len(), "{name:?}");
-            assert!(rt; list.greatest() == numbers.last().copied(), "{name:?}");
-        }
-        None => assert!(rt; false, "no list {name:?}"),
+/// Whether a list has so many lines up to this number.
+fn has_lines(lists: &Named<AccessList>, name: &[u8], count: usize, greatest: Option<u32>) -> bool {
+    let Some(name) = Name::new(name) else {
+        return false;
+    };
+    match lists.get(&name) {
+        Some(list) => list.lines.len() == count && list.greatest() == greatest,
+        None => false,
     }
 }
 
-fn check_lists(rt: &impl Abort, lists: &Named<AccessList>) {
-    assert!(rt; lists.len() == 3);
-    check_numbers(rt, lists, b"WEB", &[5, 10, 20]);
-    check_numbers(rt, lists, b"5", &[10, 20]);
-    check_numbers(rt, lists, b"EMPTY", &[]);
+/// Whether there are just these three lists.
+fn are_lists(lists: &Named<AccessList>) -> bool {
+    lists.len() == 3
+        && has_lines(lists, b"WEB", 3, Some(20))
+        && has_lines(lists, b"5", 2, Some(20))
+        && has_lines(lists, b"EMPTY", 0, None)
 }
 
 #[test]
 fn lines_get_their_numbers(rt: HostRuntime) {
-    match &read_file(rt.alloc(), LISTS) {
-        Ok(file) => check_lists(&rt, &file.lists.access_lists),
-        Err(_) => assert!(rt; false, "refused"),
-    }
+    let read = read_file(rt.alloc(), LISTS);
+    let holds = match &read {
+        Ok(file) => are_lists(&file.lists.access_lists),
+        Err(_) => false,
+    };
+    assert!(rt; holds);
 }
 
 /// Lines of lists.

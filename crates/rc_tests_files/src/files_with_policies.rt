@@ -2,12 +2,10 @@
 use crate::refused_files::{BAD, OUT_OF_PLACE, Refused, UNKNOWN, UNSUPPORTED, check_all_refused};
 use rc_base::{Communities, Items, Name, Origin};
 use rc_config::{
-    Action, CommunityChange, CommunityList, MapEntry, Mention, MetricType, Named, PrefixList,
-    RouteMap, Sets,
+    Action, CommunityChange, CommunityLine, CommunityList, MapEntry, Mention, MetricType, Named,
+    PrefixList, RouteMap, Sets,
 };
 use rc_grammar::{FileCause, read_file};
-use std::alloc::Global;
-use std::process::Abort;
 
 const LISTS: &[u8] = b"hostname X
 ip prefix-list P seq 20 deny 10.1.2.3/16 ge 20 le 24
@@ -23,63 +21,70 @@ ip community-list standard 7 deny 65000:2
 ip community-list 007 deny 5
 ";
 
-fn check_prefixes(rt: &impl Abort, list: &PrefixList) {
-    assert!(rt; list.lines.len() == 3);
-    assert!(rt; list.greatest() == Some(25));
-    for (number, bits, ge, le) in [
-        (5, 0x0a00_0000, None, None),
-        (20, 0x0a01_0000, Some(20), Some(24)),
-        (25, 0, None, Some(32)),
-    ] {
-        let line = list.lines.get(number);
-        assert!(rt;
-            line.map(|l| l.prefix.network().bits()) == Some(bits),
-            "{number}"
-        );
-        assert!(rt; line.map(|l| (l.ge, l.le)) == Some((ge, le)), "{number}");
+/// Whether the line of this number has this network and these lengths.
+fn is_line(list: &PrefixList, number: u32, bits: u32, ge: Option<u8>, le: Option<u8>) -> bool {
+    match list.lines.get(number) {
+        Some(line) => line.prefix.network().bits() == bits && line.ge == ge && line.le == le,
+        None => false,
+    }
+}
+
+/// Whether there is just the list of this name, of three lines.
+fn has_prefixes(lists: &Named<PrefixList>, name: &Name) -> bool {
+    match lists.get(name) {
+        Some(list) => {
+            lists.len() == 1
+                && list.lines.len() == 3
+                && list.greatest() == Some(25)
+                && is_line(list, 5, 0x0a00_0000, None, None)
+                && is_line(list, 20, 0x0a01_0000, Some(20), Some(24))
+                && is_line(list, 25, 0, None, Some(32))
+        }
+        None => false,
     }
 }
 
 #[test]
 fn prefix_lists_of_a_file(rt: HostRuntime) {
     let name = Name::new(b"P").expect(&rt, "P");
-    match &read_file(rt.alloc(), LISTS) {
-        Ok(file) => {
-            assert!(rt; file.lists.prefix_lists.len() == 1);
-            match file.lists.prefix_lists.get(&name) {
-                Some(list) => check_prefixes(&rt, list),
-                None => assert!(rt; false, "no list"),
-            }
-        }
-        Err(_) => assert!(rt; false, "refused"),
-    }
+    let read = read_file(rt.alloc(), LISTS);
+    let holds = match &read {
+        Ok(file) => has_prefixes(&file.lists.prefix_lists, &name),
+        Err(_) => false,
+    };
+    assert!(rt; holds);
 }
 
-fn check_communities(rt: &impl Abort, list: &CommunityList) {
-    assert!(rt; list.lines.len() == 3);
-    for (line, (action, number)) in list.lines.as_slice().iter().zip([
-        (Action::Permit, Communities::NO_EXPORT),
-        (Action::Deny, 4_259_840_002),
-        (Action::Deny, 5),
-    ]) {
-        assert!(rt; line.action == action, "{number}");
-        assert!(rt; line.communities.has(number), "{number}");
+/// Whether a line has this action and this community.
+fn has_community(line: &CommunityLine, action: Action, number: u32) -> bool {
+    line.action == action && line.communities.has(number)
+}
+
+/// Whether there are two lists, and that of this name has its three lines.
+fn has_communities(lists: &Named<CommunityList>, name: &Name) -> bool {
+    let Some(list) = lists.get(name) else {
+        return false;
+    };
+    match list.lines.as_slice() {
+        [first, second, third] => {
+            lists.len() == 2
+                && has_community(first, Action::Permit, Communities::NO_EXPORT)
+                && has_community(second, Action::Deny, 4_259_840_002)
+                && has_community(third, Action::Deny, 5)
+        }
+        _ => false,
     }
 }
 
 #[test]
 fn community_lists_of_a_file(rt: HostRuntime) {
     let name = Name::new(b"7").expect(&rt, "7");
-    match &read_file(rt.alloc(), LISTS) {
-        Ok(file) => {
-            assert!(rt; file.lists.community_lists.len() == 2);
-            match file.lists.community_lists.get(&name) {
-                Some(list) => check_communities(&rt, list),
-                None => assert!(rt; false, "no list"),
-            }
-        }
-        Err(_) => assert!(rt; false, "refused"),
-    }
+    let read = read_file(rt.alloc(), LISTS);
+    let holds = match &read {
+        Ok(file) => has_communities(&file.lists.community_lists, &name),
+        Err(_) => false,
+    };
+    assert!(rt; holds);
 }
 
 const MAPS: &[u8] = b"hostname X
@@ -106,68 +111,78 @@ route-map M permit 10
  set origin igp
 ";
 
-fn check_last(rt: &impl Abort, entry: Option<&MapEntry>) {
-    assert!(rt; entry.map(|e| e.access_lists.len()) == Some(2));
-    assert!(rt; entry.map(|e| e.sets.metric) == Some(None));
+/// Whether the entry has two lists and no metric.
+fn is_last(entry: Option<&MapEntry>) -> bool {
+    match entry {
+        Some(entry) => entry.access_lists.len() == 2 && entry.sets.metric.is_none(),
+        None => false,
+    }
 }
 
-/// Asserts how many lists are named, and on which line the first of them.
-fn check_mentions(rt: &impl Abort, mentions: &Items<Mention>, count: usize, line: u64) {
-    assert!(rt; mentions.len() == count, "line {line}");
-    let first = mentions.as_slice().first();
-    assert!(rt; first.map(|m| m.line) == Some(line));
+/// Whether so many lists are named, the first of them on this line.
+fn are_named(mentions: &Items<Mention>, count: usize, line: u64) -> bool {
+    match mentions.as_slice().first() {
+        Some(first) => mentions.len() == count && first.line == line,
+        None => false,
+    }
 }
 
-fn check_first(rt: &impl Abort, entry: &MapEntry) {
-    assert!(rt; entry.action == Action::Permit);
-    check_mentions(rt, &entry.access_lists, 1, 20);
-    check_mentions(rt, &entry.prefix_lists, 1, 8);
-    check_mentions(rt, &entry.community_lists, 2, 9);
-    check_sets(rt, &entry.sets);
-    check_change(rt, &entry.sets.communities);
+/// Whether the entry has its conditions and changes.
+fn is_first(entry: Option<&MapEntry>) -> bool {
+    match entry {
+        Some(entry) => {
+            entry.action == Action::Permit
+                && are_named(&entry.access_lists, 1, 20)
+                && are_named(&entry.prefix_lists, 1, 8)
+                && are_named(&entry.community_lists, 2, 9)
+                && are_sets(&entry.sets)
+                && is_added(&entry.sets.communities)
+        }
+        None => false,
+    }
 }
 
-fn check_sets(rt: &impl Abort, sets: &Sets) {
-    assert!(rt; sets.local_preference == Some(200));
-    assert!(rt; sets.metric == Some(6));
-    assert!(rt; sets.metric_type == Some(MetricType::Type2));
-    assert!(rt; sets.weight == Some(7));
-    assert!(rt; sets.origin == Some(Origin::Igp));
-    assert!(rt; sets.prepended.as_slice() == [65000, 65001].as_slice());
+/// Whether these are the values that the entry sets.
+fn are_sets(sets: &Sets) -> bool {
+    sets.local_preference == Some(200)
+        && sets.metric == Some(6)
+        && sets.metric_type == Some(MetricType::Type2)
+        && sets.weight == Some(7)
+        && sets.origin == Some(Origin::Igp)
+        && sets.prepended.as_slice() == [65000, 65001].as_slice()
 }
 
-fn check_change(rt: &impl Abort, change: &CommunityChange) {
+/// Whether 65000:1 is added.
+fn is_added(change: &CommunityChange) -> bool {
     match change {
-        CommunityChange::Add(added) => assert!(rt; added.has(4_259_840_001)),
-        _ => assert!(rt; false, "another change of communities"),
+        CommunityChange::Add(added) => added.has(4_259_840_001),
+        _ => false,
     }
 }
 
-fn check_map(rt: &impl Abort, map: &RouteMap) {
-    assert!(rt; map.entries.len() == 2);
-    assert!(rt; map.entries.greatest() == Some(20));
-    check_last(rt, map.entries.get(20));
-    match map.entries.get(10) {
-        Some(entry) => check_first(rt, entry),
-        None => assert!(rt; false, "no entry"),
-    }
-}
-
-fn check_maps(rt: &impl Abort, maps: &Named<RouteMap>, name: &Name) {
-    assert!(rt; maps.len() == 2);
+/// Whether there are two maps, and that of this name has its two entries.
+fn has_map(maps: &Named<RouteMap>, name: &Name) -> bool {
     match maps.get(name) {
-        Some(map) => check_map(rt, map),
-        None => assert!(rt; false, "no map"),
+        Some(map) => {
+            maps.len() == 2
+                && map.entries.len() == 2
+                && map.entries.greatest() == Some(20)
+                && is_last(map.entries.get(20))
+                && is_first(map.entries.get(10))
+        }
+        None => false,
     }
 }
 
 #[test]
 fn route_maps_of_a_file(rt: HostRuntime) {
     let name = Name::new(b"M").expect(&rt, "M");
-    match &read_file(rt.alloc(), MAPS) {
-        Ok(file) => check_maps(&rt, &file.route_maps, &name),
-        Err(_) => assert!(rt; false, "refused"),
-    }
+    let read = read_file(rt.alloc(), MAPS);
+    let holds = match &read {
+        Ok(file) => has_map(&file.route_maps, &name),
+        Err(_) => false,
+    };
+    assert!(rt; holds);
 }
 
 /// Lines of lists.

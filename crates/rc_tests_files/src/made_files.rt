@@ -48,14 +48,20 @@ fn is_read(read: &Result<Vec<u8>, SourceError>, text: &str) -> bool {
     }
 }
 
-/// Asserts the file at a place of the listing of so many routers.
-fn check_file(rt: &impl Abort, alloc: Global, routers: u32, place: usize, text: &str) {
+/// Whether this is the file at a place of the listing of so many routers.
+fn is_file(alloc: Global, routers: u32, place: usize, text: &str) -> bool {
     if routers < 4 || 512 < routers {
-        assert!(rt; false, "{routers} routers");
-        return;
+        return false;
     }
-    let read = front_at(alloc, Sample::new(routers), place, 1000);
-    assert!(rt; is_read(&read, text), "router {place} of {routers}");
+    is_read(&front_at(alloc, Sample::new(routers), place, 1000), text)
+}
+
+/// Asserts of each row the file of a router.
+fn check_files(rt: &impl Abort, alloc: Global, rows: &[(u32, usize, &str)]) {
+    for (routers, place, text) in rows {
+        let is_there = is_file(alloc, *routers, *place, text);
+        assert!(rt; is_there, "router {place} of {routers}");
+    }
 }
 
 /// A size, a router, and its file. A chord leads from each eighth router of the first half to the one that is half the ring further,
@@ -121,9 +127,7 @@ const FILES: [(u32, usize, &str); 12] = [
 
 #[test]
 fn files_by_routers(rt: HostRuntime) {
-    for (routers, place, text) in FILES {
-        check_file(&rt, rt.alloc(), routers, place, text);
-    }
+    check_files(&rt, rt.alloc(), &FILES);
 }
 
 #[test]
@@ -143,6 +147,7 @@ fn has_names(names: &Result<Names, SourceError>, count: usize) -> bool {
 #[test]
 fn names_of_all_routers(rt: HostRuntime) {
     let mut sample = Sample::new(512);
-    assert!(rt; has_names(&sample.names(rt.alloc(), ""), 512));
-    assert!(rt; has_names(&sample.names(rt.alloc(), "sample"), 0));
+    let all = has_names(&sample.names(rt.alloc(), ""), 512);
+    let none = has_names(&sample.names(rt.alloc(), "sample"), 0);
+    assert!(rt; all && none);
 }

@@ -6,7 +6,6 @@ use rc_config::{
     RedistributedSource, RouterText,
 };
 use rc_grammar::{FileCause, read_file};
-use std::process::Abort;
 
 const FILE: &[u8] = b"hostname X
 router ospf 7
@@ -35,36 +34,37 @@ router ospf 7
  network 0.0.0.0 255.255.255.255 area 9
 ";
 
-fn check_process(rt: &impl Abort, process: &OspfProcess) {
-    assert!(rt; process.process == 7);
-    assert!(rt; process.router_id == Some(Addr::new(0x0101_0101)));
-    assert!(rt; process.reference_bandwidth == 1000);
-    assert!(rt; process.networks.len() == 3);
-    for (network, area) in process.networks.as_slice().iter().zip([0, 3, 9]) {
-        assert!(rt; network.area == area);
-    }
+/// Whether the process has its number, its router id, its reference bandwidth and its networks.
+fn is_process(process: &OspfProcess) -> bool {
+    let are_networks = match process.networks.as_slice() {
+        [first, second, third] => first.area == 0 && second.area == 3 && third.area == 9,
+        _ => false,
+    };
+    are_networks
+        && process.process == 7
+        && process.router_id == Some(Addr::new(0x0101_0101))
+        && process.reference_bandwidth == 1000
 }
 
-fn check_sending(rt: &impl Abort, process: &OspfProcess) {
-    match process.stub_areas.get(3) {
-        Some(area) => assert!(rt; !area.no_summary),
-        None => assert!(rt; false, "no stub area"),
-    }
+/// Whether summaries go into the stub area, and which sources are redistributed.
+fn is_sending(process: &OspfProcess) -> bool {
+    let no_summary = match process.stub_areas.get(3) {
+        Some(area) => area.no_summary,
+        None => true,
+    };
     match process.redistributions.as_slice() {
         [connected, statics] => {
-            assert!(rt; connected.source == RedistributedSource::Connected);
-            assert!(rt; statics.source == RedistributedSource::Static && !statics.subnets);
+            connected.source == RedistributedSource::Connected
+                && statics.source == RedistributedSource::Static
+                && !statics.subnets
+                && !no_summary
         }
-        _ => assert!(rt; false, "other sources"),
+        _ => false,
     }
 }
 
-fn check_passive(rt: &impl Abort, process: &OspfProcess, first: &Name, second: &Name) {
-    assert!(rt; !process.is_passive(first));
-    assert!(rt; process.is_passive(second));
-}
-
-fn check_settings(rt: &impl Abort, block: &Interface) {
+/// Whether the last line of each kind is what the interface says.
+fn has_settings(block: Option<&Interface>) -> bool {
     let wanted = OspfSettings {
         cost: Some(20),
         hello: Some(5),
@@ -75,21 +75,23 @@ fn check_settings(rt: &impl Abort, block: &Interface) {
             area: 256,
         }),
     };
-    assert!(rt; block.ospf == wanted);
+    match block {
+        Some(block) => block.ospf == wanted,
+        None => false,
+    }
 }
 
-fn check_file(rt: &impl Abort, file: &RouterText, first: &Name, second: &Name) {
+/// Whether the process of the file and the first interface are as their lines say, and the second interface alone is passive.
+fn has_process(file: &RouterText, first: &Name, second: &Name) -> bool {
     match &file.ospf {
         Some(process) => {
-            check_process(rt, process);
-            check_sending(rt, process);
-            check_passive(rt, process, first, second);
+            is_process(process)
+                && is_sending(process)
+                && !process.is_passive(first)
+                && process.is_passive(second)
+                && has_settings(file.interfaces.get(first))
         }
-        None => assert!(rt; false, "no process"),
-    }
-    match file.interfaces.get(first) {
-        Some(block) => check_settings(rt, block),
-        None => assert!(rt; false, "no interface"),
+        None => false,
     }
 }
 
@@ -97,10 +99,12 @@ fn check_file(rt: &impl Abort, file: &RouterText, first: &Name, second: &Name) {
 fn a_file_with_a_process(rt: HostRuntime) {
     let first = Name::new(b"Serial0/0").expect(&rt, "Serial0/0");
     let second = Name::new(b"Serial0/1").expect(&rt, "Serial0/1");
-    match &read_file(rt.alloc(), FILE) {
-        Ok(file) => check_file(&rt, file, &first, &second),
-        Err(_) => assert!(rt; false, "refused"),
-    }
+    let read = read_file(rt.alloc(), FILE);
+    let holds = match &read {
+        Ok(file) => has_process(file, &first, &second),
+        Err(_) => false,
+    };
+    assert!(rt; holds);
 }
 
 /// Lines of a process.
@@ -159,10 +163,12 @@ fn files_with_a_process_are_refused(rt: HostRuntime) {
 fn a_process_without_lines(rt: HostRuntime) {
     let interface = Name::new(b"Serial0").expect(&rt, "Serial0");
     let process = &OspfProcess::new(rt.alloc(), 7);
-    assert!(rt; process.networks.is_empty());
-    assert!(rt; !process.is_passive(&interface));
-    assert!(rt; process.reference_bandwidth == 100);
-    assert!(rt; process.stub_areas.iter().next().is_none());
+    assert!(rt;
+        process.networks.is_empty()
+            && !process.is_passive(&interface)
+            && process.reference_bandwidth == 100
+            && process.stub_areas.iter().next().is_none()
+    );
 }
 
 #[test]

@@ -7,7 +7,6 @@ use rc_config::{
 use rc_gram_ospf::read_line;
 use rc_lines::Lines;
 use rc_openings::{Form, Grammar, LineError, LineRefusal, word_area, word_interface};
-use std::alloc::Global;
 use std::process::Abort;
 
 const BAD: Option<LineRefusal> = Some(LineRefusal::BadValue);
@@ -27,34 +26,60 @@ fn said_in(file: &RouterText, block: &OpenBlock, text: &[u8]) -> Result<Command,
     }
 }
 
+/// The process that a command opens.
+fn opened_by(said: &Command) -> Option<u32> {
+    match said {
+        Command::OspfOpened { process } => Some(*process),
+        _ => None,
+    }
+}
+
 /// The process that the text opens.
 fn opened_in(file: &RouterText, text: &[u8]) -> Option<u32> {
-    match &said_in(file, &OpenBlock::Global, text) {
-        Ok(Command::OspfOpened { process }) => Some(*process),
+    let said = said_in(file, &OpenBlock::Global, text);
+    let opened = match &said {
+        Ok(said) => opened_by(said),
+        Err(_) => None,
+    };
+    drop(said);
+    opened
+}
+
+/// The line of a process that a command is.
+fn line_said(said: &Command) -> Option<OspfLine> {
+    match said {
+        Command::OspfLine { line } => Some(*line),
         _ => None,
     }
 }
 
 /// What the text says in the block of a process.
 fn line_in(file: &RouterText, text: &[u8]) -> Option<OspfLine> {
-    match &said_in(file, &OpenBlock::Ospf, text) {
-        Ok(Command::OspfLine { line }) => Some(*line),
-        _ => None,
-    }
+    let said = said_in(file, &OpenBlock::Ospf, text);
+    let line = match &said {
+        Ok(said) => line_said(said),
+        Err(_) => None,
+    };
+    drop(said);
+    line
 }
 
 fn refusal_in(file: &RouterText, block: &OpenBlock, text: &[u8]) -> Option<LineRefusal> {
-    match &said_in(file, block, text) {
-        Err(LineError::Refused(refusal)) => Some(*refusal),
+    match said_in(file, block, text).err() {
+        Some(LineError::Refused(refusal)) => Some(refusal),
         _ => None,
     }
 }
 
-/// Asserts of each line how it is refused in the block of a process, or that it isn't.
-fn check_all(rt: &impl Abort, alloc: Global, lines: &[(&[u8], Option<LineRefusal>)]) {
-    let file = RouterText::new(alloc);
+/// Asserts of each line how it is refused in the block, or that it isn't.
+fn check_all(
+    rt: &impl Abort,
+    file: &RouterText,
+    block: &OpenBlock,
+    lines: &[(&[u8], Option<LineRefusal>)],
+) {
     for (text, refusal) in lines {
-        let found = refusal_in(&file, &OpenBlock::Ospf, text);
+        let found = refusal_in(file, block, text);
         assert!(rt; found == *refusal, "{text:?}");
     }
 }
@@ -131,49 +156,48 @@ const REFUSED: [Row; 11] = [
 
 #[test]
 fn lines_of_a_process_are_refused(rt: HostRuntime) {
-    check_all(&rt, rt.alloc(), &OPENINGS);
-    check_all(&rt, rt.alloc(), &NOT_MODELLED);
-    check_all(&rt, rt.alloc(), &WRONG_VALUES);
-    check_all(&rt, rt.alloc(), &REFUSED);
+    let file = RouterText::new(rt.alloc());
+    check_all(&rt, &file, &OpenBlock::Ospf, &OPENINGS);
+    check_all(&rt, &file, &OpenBlock::Ospf, &NOT_MODELLED);
+    check_all(&rt, &file, &OpenBlock::Ospf, &WRONG_VALUES);
+    check_all(&rt, &file, &OpenBlock::Ospf, &REFUSED);
 }
 
-fn check_second(rt: &impl Abort, file: &RouterText) {
-    assert!(rt; opened_in(file, b"router ospf 1") == Some(1));
-    for (text, refusal) in [
-        (b"router ospf 2".as_slice(), UNSUPPORTED),
-        (b"router ospf 70000", BAD),
-    ] {
-        let found = refusal_in(file, &OpenBlock::Global, text);
-        assert!(rt; found == refusal, "{text:?}");
-    }
+/// Whether the process may be opened again, and no other.
+fn has_one(file: &RouterText) -> bool {
+    opened_in(file, b"router ospf 1") == Some(1)
+        && refusal_in(file, &OpenBlock::Global, b"router ospf 2") == UNSUPPORTED
+        && refusal_in(file, &OpenBlock::Global, b"router ospf 70000") == BAD
 }
 
 #[test]
 fn a_router_has_one_process(rt: HostRuntime) {
     let file = RouterText::new(rt.alloc());
-    assert!(rt; opened_in(&file, b"router ospf 1") == Some(1));
-    assert!(rt; opened_in(&file, b"router ospf 65535") == Some(65535));
+    assert!(rt;
+        opened_in(&file, b"router ospf 1") == Some(1)
+            && opened_in(&file, b"router ospf 65535") == Some(65535)
+    );
     match &file.put(Command::OspfOpened { process: 1 }) {
-        Ok(file) => check_second(&rt, file),
+        Ok(file) => assert!(rt; has_one(file)),
         Err(_) => assert!(rt; false, "no memory"),
     }
 }
 
+/// Lines that open no process.
+const WRONG_OPENINGS: [Row; 7] = [
+    (b"router ospf", BAD),
+    (b"router ospf 0", BAD),
+    (b"router ospf 65536", BAD),
+    (b"router ospf x", BAD),
+    (b"router ospf 1 2", BAD),
+    (b"router ospfv3 1", UNSUPPORTED),
+    (b"router rip", UNSUPPORTED),
+];
+
 #[test]
 fn openings_of_a_process_are_refused(rt: HostRuntime) {
     let file = RouterText::new(rt.alloc());
-    for (text, refusal) in [
-        (b"router ospf".as_slice(), BAD),
-        (b"router ospf 0", BAD),
-        (b"router ospf 65536", BAD),
-        (b"router ospf x", BAD),
-        (b"router ospf 1 2", BAD),
-        (b"router ospfv3 1", UNSUPPORTED),
-        (b"router rip", UNSUPPORTED),
-    ] {
-        let found = refusal_in(&file, &OpenBlock::Global, text);
-        assert!(rt; found == refusal, "{text:?}");
-    }
+    check_all(&rt, &file, &OpenBlock::Global, &WRONG_OPENINGS);
 }
 
 /// A `redistribute` line of static routes.
@@ -208,10 +232,9 @@ fn stub(area: u32, no_summary: bool) -> OspfLine {
 }
 
 /// Asserts of each row what the text says in the block of a process.
-fn check_said(rt: &impl Abort, alloc: Global, rows: &[(&[u8], OspfLine)]) {
-    let file = RouterText::new(alloc);
+fn check_said(rt: &impl Abort, file: &RouterText, rows: &[(&[u8], OspfLine)]) {
     for (text, wanted) in rows {
-        assert!(rt; line_in(&file, text) == Some(*wanted), "{text:?}");
+        assert!(rt; line_in(file, text) == Some(*wanted), "{text:?}");
     }
 }
 
@@ -242,7 +265,7 @@ fn lines_of_a_process(rt: HostRuntime) {
         ),
         (b" passive-interface default", OspfLine::PassiveDefault),
     ];
-    check_said(&rt, rt.alloc(), &rows);
+    check_said(&rt, &RouterText::new(rt.alloc()), &rows);
 }
 
 #[test]
@@ -273,7 +296,12 @@ fn redistributions_and_networks(rt: HostRuntime) {
             network(0, u32::MAX, u32::MAX),
         ),
     ];
-    check_said(&rt, rt.alloc(), &rows);
+    check_said(&rt, &RouterText::new(rt.alloc()), &rows);
+}
+
+/// Whether the text makes an interface passive, or not any more.
+fn is_passive_line(file: &RouterText, text: &[u8], interface: Name, passive: bool) -> bool {
+    line_in(file, text) == Some(OspfLine::Passive { interface, passive })
 }
 
 #[test]
@@ -281,49 +309,56 @@ fn interfaces_are_passive(rt: HostRuntime) {
     let file = RouterText::new(rt.alloc());
     let interface = Name::new(b"Gi0/0").expect(&rt, "Gi0/0");
     let default = Name::new(b"default").expect(&rt, "default");
-    for (text, interface, passive) in [
-        (b" passive-interface Gi0/0".as_slice(), interface, true),
-        (b" no passive-interface Gi0/0", interface, false),
-        (b" no passive-interface default", default, false),
-    ] {
-        let wanted = OspfLine::Passive { interface, passive };
-        assert!(rt; line_in(&file, text) == Some(wanted), "{text:?}");
+    assert!(rt;
+        is_passive_line(&file, b" passive-interface Gi0/0", interface, true)
+            && is_passive_line(&file, b" no passive-interface Gi0/0", interface, false)
+            && is_passive_line(&file, b" no passive-interface default", default, false)
+    );
+}
+
+/// Words, and the areas that they are.
+const AREAS: [(&[u8], Option<u32>); 9] = [
+    (b"0", Some(0)),
+    (b"0.0.0.0", Some(0)),
+    (b"0.0.1.0", Some(256)),
+    (b"4294967295", Some(u32::MAX)),
+    (b"255.255.255.255", Some(u32::MAX)),
+    (b"4294967296", None),
+    (b"0.0.0.256", None),
+    (b"x", None),
+    (b"", None),
+];
+
+fn check_areas(rt: &impl Abort, rows: &[(&[u8], Option<u32>)]) {
+    for (word, area) in rows {
+        assert!(rt; word_area(word) == *area, "{word:?}");
     }
 }
 
 #[test]
 fn areas_are_numbers_or_dotted(rt: HostRuntime) {
-    for (word, area) in [
-        (b"0".as_slice(), Some(0)),
-        (b"0.0.0.0", Some(0)),
-        (b"0.0.1.0", Some(256)),
-        (b"4294967295", Some(u32::MAX)),
-        (b"255.255.255.255", Some(u32::MAX)),
-        (b"4294967296", None),
-        (b"0.0.0.256", None),
-        (b"x", None),
-        (b"", None),
-    ] {
-        assert!(rt; word_area(word) == area, "{word:?}");
-    }
+    check_areas(&rt, &AREAS);
 }
+
+/// A word of 64 bytes.
+const TOO_LONG: &[u8] = b"a234567890123456789012345678901234567890123456789012345678901234";
 
 #[test]
 fn interfaces_begin_with_a_letter(rt: HostRuntime) {
-    assert!(rt; word_interface(b"Gi0/0") == Name::new(b"Gi0/0"));
-    for word in [
-        b"0/0".as_slice(),
-        b"",
-        b"a234567890123456789012345678901234567890123456789012345678901234",
-    ] {
-        assert!(rt; word_interface(word).is_none(), "{word:?}");
-    }
+    assert!(rt;
+        word_interface(b"Gi0/0") == Name::new(b"Gi0/0")
+            && word_interface(b"0/0").is_none()
+            && word_interface(b"").is_none()
+            && word_interface(TOO_LONG).is_none()
+    );
 }
 
 #[test]
 fn forms_of_ospf_have_grammars(rt: HostRuntime) {
-    assert!(rt; Form::RouterOspf.grammar() == Grammar::Ospf);
-    assert!(rt; Form::OspfNetwork.grammar() == Grammar::Ospf);
-    assert!(rt; Form::StubArea.grammar() == Grammar::Ospf);
-    assert!(rt; Form::OspfCost.grammar() == Grammar::General);
+    assert!(rt;
+        Form::RouterOspf.grammar() == Grammar::Ospf
+            && Form::OspfNetwork.grammar() == Grammar::Ospf
+            && Form::StubArea.grammar() == Grammar::Ospf
+            && Form::OspfCost.grammar() == Grammar::General
+    );
 }

@@ -1,14 +1,12 @@
 //! One line of a prefix list, a community list or a route map.
 use rc_base::{Addr, Name, Prefix};
 use rc_config::{
-    Action, Command, CommunityLine, Context, MapLine, MatchKind, OpenBlock, PrefixLine, RouterText,
-    SetLine,
+    Action, Command, Context, MapLine, MatchKind, OpenBlock, PrefixLine, RouterText, SetLine,
 };
 use rc_gram_policy::read_line;
 use rc_grammar::read_file;
 use rc_lines::Lines;
 use rc_openings::{LineError, LineRefusal};
-use std::process::Abort;
 
 const BAD: LineError = LineError::Refused(LineRefusal::BadValue);
 
@@ -38,12 +36,23 @@ fn said_in(file: &RouterText, text: &[u8]) -> Result<Command, LineError> {
     }
 }
 
-/// The line of a prefix list that the text is.
-fn prefix_line_in(file: &RouterText, text: &[u8]) -> Option<PrefixLine> {
-    match &said_in(file, text) {
-        Ok(Command::PrefixLine { list: _, line }) => Some(*line),
+/// The line of a prefix list that a command is.
+fn prefix_line_said(said: &Command) -> Option<PrefixLine> {
+    match said {
+        Command::PrefixLine { list: _, line } => Some(*line),
         _ => None,
     }
+}
+
+/// The line of a prefix list that the text is.
+fn prefix_line_in(file: &RouterText, text: &[u8]) -> Option<PrefixLine> {
+    let said = said_in(file, text);
+    let line = match &said {
+        Ok(said) => prefix_line_said(said),
+        Err(_) => None,
+    };
+    drop(said);
+    line
 }
 
 /// The first line of a list, as it stands alone and in a file.
@@ -53,105 +62,136 @@ const IN_A_FILE: &[u8] = b"hostname X
 ip prefix-list P permit 10.9.1.1/16 ge 24 le 24
 ";
 
-fn check_first(rt: &impl Abort, line: &PrefixLine) {
-    assert!(rt; line.sequence == 5);
-    assert!(rt; Some(line.prefix) == Prefix::new(Addr::new(0x0a09_0000), 16));
-    assert!(rt; line.ge == Some(24));
+/// Whether it is the first line of that list.
+fn is_first(line: &Option<PrefixLine>) -> bool {
+    match line {
+        Some(line) => {
+            line.sequence == 5
+                && Some(line.prefix) == Prefix::new(Addr::new(0x0a09_0000), 16)
+                && line.ge == Some(24)
+        }
+        None => false,
+    }
 }
 
-/// Asserts what two further lines are, where the list P has a line 5.
-fn check_next(rt: &impl Abort, file: &RouterText) {
-    match &prefix_line_in(file, b"ip prefix-list P deny 0.0.0.0/0 le 32") {
-        Some(next) => {
-            assert!(rt; next.sequence == 10);
-            assert!(rt; next.action == Action::Deny);
-        }
-        None => assert!(rt; false, "no line"),
+/// Whether it is the second line of a list whose first one is 5.
+fn is_next(line: &Option<PrefixLine>) -> bool {
+    match line {
+        Some(line) => line.sequence == 10 && line.action == Action::Deny,
+        None => false,
     }
+}
+
+/// Whether a line gets the next number where the list P has a line 5, and none gets 5 again.
+fn has_five(file: &RouterText) -> bool {
     let twice = said_in(file, b"ip prefix-list P seq 5 permit 10.0.0.0/8");
-    assert!(rt; twice.err() == Some(BAD));
+    twice.err() == Some(BAD)
+        && is_next(&prefix_line_in(file, b"ip prefix-list P deny 0.0.0.0/0 le 32"))
 }
 
 #[test]
 fn lines_of_prefix_lists(rt: HostRuntime) {
-    match &prefix_line_in(&RouterText::new(rt.alloc()), ALONE) {
-        Some(line) => check_first(&rt, line),
-        None => assert!(rt; false, "no line"),
-    }
-    match &read_file(rt.alloc(), IN_A_FILE) {
-        Ok(file) => check_next(&rt, file),
-        Err(_) => assert!(rt; false, "refused"),
-    }
+    assert!(rt; is_first(&prefix_line_in(&RouterText::new(rt.alloc()), ALONE)));
+    let read = read_file(rt.alloc(), IN_A_FILE);
+    let holds = match &read {
+        Ok(file) => has_five(file),
+        Err(_) => false,
+    };
+    assert!(rt; holds);
 }
 
-fn check_communities(rt: &impl Abort, list: &Name, line: &CommunityLine) {
-    let numbers = [4_259_840_001, 4_259_840_002, 0xffff_ff01];
-    assert!(rt; list.as_bytes() == b"7".as_slice());
-    assert!(rt; line.communities.as_slice() == numbers.as_slice());
+/// What a line is said to be, or how it is refused.
+type Said = Result<Command, LineError>;
+
+/// Whether it is a line of the list 7 with these communities.
+fn is_seventh(said: &Said) -> bool {
+    match said {
+        Ok(Command::CommunityLine { list, line }) => {
+            let numbers = [4_259_840_001, 4_259_840_002, 0xffff_ff01];
+            list.as_bytes() == b"7".as_slice() && line.communities.as_slice() == numbers.as_slice()
+        }
+        _ => false,
+    }
 }
 
 #[test]
 fn lines_of_numbered_community_lists(rt: HostRuntime) {
     let file = RouterText::new(rt.alloc());
     let text = b"ip community-list 007 permit 65000:2 no-export 65000:1 65000:2";
-    match &said_in(&file, text) {
-        Ok(Command::CommunityLine { list, line }) => check_communities(&rt, list, line),
-        _ => assert!(rt; false, "no line"),
-    }
+    let said = said_in(&file, text);
+    assert!(rt; is_seventh(&said));
+    drop(said);
 }
 
-/// The action of the line of a community list that the text is, or how it is refused.
-fn action_in(file: &RouterText, text: &[u8]) -> Result<Option<Action>, LineError> {
-    match &said_in(file, text) {
-        Ok(Command::CommunityLine { list: _, line }) => Ok(Some(line.action)),
-        Ok(_) => Ok(None),
-        Err(error) => Err(*error),
+/// Whether it is a line of a community list that denies.
+fn is_denied(said: &Said) -> bool {
+    match said {
+        Ok(Command::CommunityLine { list: _, line }) => line.action == Action::Deny,
+        _ => false,
     }
 }
 
 #[test]
 fn lines_of_named_community_lists(rt: HostRuntime) {
     let file = RouterText::new(rt.alloc());
-    let denied = action_in(&file, b"ip community-list standard C deny no-advertise");
-    assert!(rt; denied == Ok(Some(Action::Deny)));
-    let refused = action_in(&file, b"ip community-list standard C permit internet");
-    assert!(rt; refused == Err(UNSUPPORTED));
+    let refused = said_in(&file, b"ip community-list standard C permit internet").err();
+    let said = said_in(&file, b"ip community-list standard C deny no-advertise");
+    assert!(rt; refused == Some(UNSUPPORTED) && is_denied(&said));
+    drop(said);
+}
+
+/// Whether it opens the entry 10 of a map.
+fn is_tenth(said: &Said) -> bool {
+    match said {
+        Ok(Command::MapOpened { number, .. }) => *number == 10,
+        _ => false,
+    }
 }
 
 #[test]
 fn openings_of_entries(rt: HostRuntime) {
     let file = RouterText::new(rt.alloc());
-    match &said_in(&file, b"route-map M permit 10") {
-        Ok(Command::MapOpened { number, .. }) => assert!(rt; *number == 10),
-        _ => assert!(rt; false, "no entry"),
+    let said = said_in(&file, b"route-map M permit 10");
+    assert!(rt; is_tenth(&said));
+    drop(said);
+}
+
+/// Whether it is a condition on two prefix lists, from the third line.
+fn is_match(said: &Said) -> bool {
+    match said {
+        Ok(Command::MapLine { line, .. }) => is_condition(line),
+        _ => false,
     }
 }
 
-/// Asserts that the line is a condition on prefix lists of so many names.
-fn check_match(rt: &impl Abort, line: &MapLine, count: usize, number: u64) {
+/// Whether it is a condition on two prefix lists, from the third line.
+fn is_condition(line: &MapLine) -> bool {
     match line {
         MapLine::Match { kind, names, line } => {
-            assert!(rt; *kind == MatchKind::PrefixList);
-            assert!(rt; names.len() == count);
-            assert!(rt; *line == number);
+            *kind == MatchKind::PrefixList && names.len() == 2 && *line == 3
         }
-        MapLine::Set(_) => assert!(rt; false, "a line of another kind"),
+        MapLine::Set(_) => false,
     }
 }
 
-/// Asserts that the line adds this community.
-fn check_added(rt: &impl Abort, line: &MapLine, number: u32) {
+/// Whether it adds 65000:2.
+fn is_change(said: &Said) -> bool {
+    match said {
+        Ok(Command::MapLine { line, .. }) => is_added(line),
+        _ => false,
+    }
+}
+
+/// Whether the line adds 65000:2.
+fn is_added(line: &MapLine) -> bool {
     match line {
         MapLine::Set(
             SetLine::Communities {
                 communities,
                 additive,
             },
-        ) => {
-            assert!(rt; communities.has(number));
-            assert!(rt; *additive);
-        }
-        _ => assert!(rt; false, "a line of another kind"),
+        ) => communities.has(4_259_840_002) && *additive,
+        _ => false,
     }
 }
 
@@ -159,21 +199,17 @@ fn check_added(rt: &impl Abort, line: &MapLine, number: u32) {
 fn conditions_of_route_maps(rt: HostRuntime) {
     let block = OpenBlock::Map(Name::new(b"M").expect(&rt, "M"), 10);
     let file = RouterText::new(rt.alloc());
-    let text = b"!\n!\nmatch ip address prefix-list A 7";
-    match &third_in(&file, &block, text) {
-        Ok(Command::MapLine { line, .. }) => check_match(&rt, line, 2, 3),
-        _ => assert!(rt; false, "no line"),
-    }
+    let said = third_in(&file, &block, b"!\n!\nmatch ip address prefix-list A 7");
+    assert!(rt; is_match(&said));
+    drop(said);
 }
 
 #[test]
 fn changes_of_route_maps(rt: HostRuntime) {
     let block = OpenBlock::Map(Name::new(b"M").expect(&rt, "M"), 10);
     let file = RouterText::new(rt.alloc());
-    match &third_in(&file, &block, b"!\n!\nset community 65000:2 additive") {
-        Ok(Command::MapLine { line, .. }) => check_added(&rt, line, 4_259_840_002),
-        _ => assert!(rt; false, "no line"),
-    }
-    let refused = third_in(&file, &block, b"!\n!\nset community additive");
-    assert!(rt; refused.err() == Some(BAD));
+    let refused = third_in(&file, &block, b"!\n!\nset community additive").err();
+    let said = third_in(&file, &block, b"!\n!\nset community 65000:2 additive");
+    assert!(rt; refused == Some(BAD) && is_change(&said));
+    drop(said);
 }
