@@ -5,3 +5,4 @@ pub mod MergingLaws
 mod OrderLaws
 mod TableLaws
 mod StaticLaws
+mod LearnedLaws

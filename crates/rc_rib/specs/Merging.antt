@@ -1,12 +1,14 @@
 -- Two tables as one, as the code makes it: from their fronts on.
-use Rattle.std.specs.Prelude.{◌≡◌, ◌+◌, ◌<◌, List, [], ◌∷◌, length, Option, Some, None, slice_get, MatchOption}
+use Rattle.std.specs.Prelude.{◌≡◌, ◌+◌, ◌<◌, List, [], ◌∷◌, ◌++◌, length, Option, Some, None, slice_get, MatchOption}
 use Rattle.std.specs.Option.{option_map}
 use Rattle.std.specs.Ordering.{match_ordering}
 use Rattle.std.specs.declared.cmp.Ordering.{Ordering}
 use Rattle.std.specs.declared.cmp.Ordering.TheVariants.{Less, Greater}
 use Rattle.rc_base.specs.Prefix.{Cidr, prefix_cmp}
+use Rattle.rc_route.specs.declared.path.BgpPath.{BgpPath}
 use Rattle.rc_route.specs.declared.route.Route.{Route}
 use Rattle.rc_rib.specs.Best.{better}
+use Rattle.rc_rib.specs.Next.{learned_routes}
 use Rattle.rc_rib.specs.Offers.{prefix_of}
 
 -- a route, and what comes behind it, beside other routes
@@ -41,3 +43,18 @@ IsFront routes front left = MatchOption front ((routes ≡ []) × (left ≡ []))
 -- this is the front of two tables as one, where they have one, and those are left, which are fewer
 abbrev pub IsNext : List Route → List Route → Option Route → List Route → List Route → Type 0
 IsNext xs ys next xs-left ys-left = MatchOption next (merged xs ys ≡ []) (λ x. (merged xs ys ≡ x ∷ merged xs-left ys-left) × (length xs-left + length ys-left < length xs + length ys))
+
+-- ---- a table is merged with routes that come one after another: what is made of both so far, and what is left of the table
+
+-- the first of what is left moved: with this route and any behind it all is as before, and less is left
+pub record HasMoved (left made : List Route) (r : Route) (left-now made-now : List Route) : Type 0 where
+  pub same : (rest : List Route) → made ++ merged left (r ∷ rest) ≡ made-now ++ merged left-now (r ∷ rest)
+  pub fewer : length left-now < length left
+
+-- a route is placed: what comes behind it is merged with what is left then
+pub record IsPlaced (left made : List Route) (r : Route) (left-now made-now : List Route) : Type 0 where
+  pub same : (rest : List Route) → made ++ merged left (r ∷ rest) ≡ made-now ++ merged left-now rest
+
+-- what a path gives is placed
+pub record IsLearned (left made : List Route) (path : BgpPath) (left-now made-now : List Route) : Type 0 where
+  pub same : (rest : List BgpPath) → made ++ merged left (learned_routes (path ∷ rest)) ≡ made-now ++ merged left-now (learned_routes rest)

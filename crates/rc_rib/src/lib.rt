@@ -9,6 +9,7 @@ mod active;
 mod connected_routes;
 mod grouping;
 mod inputs;
+mod learned;
 mod made;
 mod merging;
 mod next;

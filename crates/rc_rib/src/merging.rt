@@ -20,7 +20,7 @@ fn is_preferred(route: &Route, other: &Route) -> bool
 }
 
 /// The preferred of two routes, the first where neither is.
-fn better(first: Route, second: Route) -> Route
+pub(crate) fn better(first: Route, second: Route) -> Route
     ensures { result ≡ spec.better first second }
 {
     if is_preferred(&second, &first) {
@@ -44,7 +44,7 @@ fn of_both(first: Option<Route>, second: Option<Route>) -> Option<Route>
 }
 
 /// The prefix of the first of some routes.
-fn front_prefix(routes: &VecDeque<Route>) -> Option<Prefix>
+pub(crate) fn front_prefix(routes: &VecDeque<Route>) -> Option<Prefix>
     ensures { result ≡ front_prefix routes.now.items }
 {
     match routes.front() {
@@ -54,7 +54,7 @@ fn front_prefix(routes: &VecDeque<Route>) -> Option<Prefix>
 }
 
 /// Which of two fronts comes first.
-fn which(first: Option<Prefix>, second: Option<Prefix>) -> Ordering
+pub(crate) fn which(first: Option<Prefix>, second: Option<Prefix>) -> Ordering
     ensures { result ≡ which first second }
 {
     match first {
@@ -67,7 +67,7 @@ fn which(first: Option<Prefix>, second: Option<Prefix>) -> Ordering
 }
 
 /// Takes the first of some routes.
-fn take_front(routes: &mut VecDeque<Route>) -> Option<Route>
+pub(crate) fn take_front(routes: &mut VecDeque<Route>) -> Option<Route>
     ensures { IsFront routes.old.items result routes.new.items }
 {
     routes.pop_front()

@@ -22,11 +22,12 @@ ghost use Rattle.rc_rib.specs.Static.{active_lines, asks_table, static_routes};
 use crate::active::{active_lines, some_ask_table};
 use crate::connected_routes::connected;
 use crate::grouping::static_routes;
+use crate::learned::with_learned;
 use crate::merging::merged;
 use crate::outside::{outside_routes, routes_of};
 use crate::{Inputs, Made};
 use rc_base::{Items, RouterId};
-use rc_bgp::{Renewed, Sessions, first_paths, learned_route, renewed_paths};
+use rc_bgp::{Renewed, Sessions, first_paths, renewed_paths};
 use rc_config::{Network, RouterText};
 use rc_fib::Fib;
 use rc_ospf::Internal;
@@ -115,36 +116,6 @@ fn own_from(
         Some(known) => own_routes(alloc, router, file, &known.table),
         None => own_routes(alloc, router, file, &Items::new(alloc)),
     }
-}
-
-/// Puts the route of a path, where it gives one, at the end of some.
-fn push_learned(routes: &mut Table, path: &BgpPath) -> Result<(), AllocError>
-    ensures { OnOk result (routes.new ≡ routes.old ++ spec.learned_routes (path.now ∷ [])) }
-{
-    let learned = learned_route(path);
-    match learned {
-        Some(route) => routes.push(route),
-        None => Ok(()),
-    }
-}
-
-/// The routes that best paths give.
-fn learned_routes(alloc: Global, paths: &[BgpPath]) -> Result<Table, AllocError>
-    ensures { IfOk result (λ routes. routes ≡ spec.learned_routes paths.now) }
-{
-    let mut routes = Items::with_room(alloc, paths.len())?;
-    for path in paths {
-        push_learned(&mut routes, path)?;
-    }
-    Ok(routes)
-}
-
-/// A table with what best paths give.
-fn with_learned(alloc: Global, table: Table, paths: &[BgpPath]) -> Result<Table, AllocError>
-    ensures { IfOk result (λ made. made ≡ merging_spec.merged table (spec.learned_routes paths.now)) }
-{
-    let learned = learned_routes(alloc, paths)?;
-    merged(alloc, table, learned)
 }
 
 /// Routes again.
