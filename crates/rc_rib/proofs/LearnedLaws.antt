@@ -1,5 +1,7 @@
 -- A table is merged with routes that come one after another.
-use Rattle.std.proofs.Common.{refl, ◌≡◌, ap, sym, ◌∙◌, ℕ, suc, ◌+◌, ◌<◌, List, [], ◌∷◌, ◌++◌, drop, drop-cons, add-one, length, get_or, arith, append_assoc, Option, Some, None}
+use Rattle.std.proofs.Common.{refl, ◌≡◌, ap, sym, ◌∙◌, ℕ, suc, ◌+◌, ◌<◌, ◌==◌, true, List, [], ◌∷◌, ◌++◌, drop, drop-cons, add-one, length, get_or, arith, append_assoc, Option, Some, None}
+use Rattle.std.proofs.lemmas.Grind.{common_steps}
+use Rattle.std.proofs.lemmas.Bool.Decides.{nat_tests}
 use Rattle.std.specs.List.{cons_option}
 use Rattle.std.specs.declared.cmp.Ordering.{Ordering}
 use Rattle.std.specs.declared.cmp.Ordering.TheVariants.{Less, Equal, Greater}
@@ -52,6 +54,10 @@ none_learned left made path none = record { same = λ rest. ap (λ o. made ++ me
 
 pub one_learned : (left made left-now made-now : List Route) (path : BgpPath) (r : Route) → learned_route path ≡ Some r → IsPlaced left made r left-now made-now → IsLearned left made path left-now made-now
 one_learned left made left-now made-now path r is placed = record { same = λ rest. ap (λ o. made ++ merged left (cons_option o (learned_routes rest))) is ∙ placed.same (learned_routes rest) }
+
+pub no_path : (paths : List BgpPath) → (length paths == 0) ≡ true → paths ≡ []
+no_path [] none = refl
+no_path (path ∷ paths) none = absurd (grind (arith, common_steps, nat_tests))
 
 -- one path more
 pub next_learned : (paths : List BgpPath) (i : ℕ) (path : BgpPath) (left made left-now made-now all : List Route) → i < length paths → path ≡ get_or paths i path → IsLearned left made path left-now made-now

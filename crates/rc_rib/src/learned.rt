@@ -72,10 +72,10 @@ fn place_learned(
 }
 
 /// Puts what is left at the end of what is made.
-fn append(made: &mut Table, left: VecDeque<Route>) -> Result<(), AllocError>
+fn append(made: &mut Table, mut left: VecDeque<Route>) -> Result<(), AllocError>
     ensures { OnOk result (made.new ≡ made.old ++ left.items) }
 {
-    for route in left {
+    while let Some(route) = left.pop_front() {
         made.push(route)?;
     }
     Ok(())
