@@ -6,7 +6,7 @@ ghost use Rattle.rc_trees.specs.Combine.{and_not};
 use rc_nodes::{ALWAYS, NEVER, Ref};
 
 /// The headers of both sets, of either, of the first alone.
-#[derive(Clone, Copy)]
+#[derive(Clone, Copy, PartialEq, Eq)]
 pub enum Operation {
     And,
     Or,
