@@ -7,7 +7,7 @@ use rc_config::Network;
 use rc_words::{Ask, PlaceName};
 
 /// What of a network is asked about.
-#[derive(Clone, Copy, PartialEq, Eq)]
+#[derive(Clone, Copy)]
 pub enum Subject {
     /// The routes of all routers.
     AllRouters,

@@ -3,7 +3,7 @@ ghost use Rattle.std.specs.Prelude.{◌≡◌};
 ghost use Rattle.rc_base.specs.Positions.{is_among};
 
 /// How a walk ends.
-#[derive(Clone, Copy, PartialEq, Eq, PartialOrd, Ord)]
+#[derive(Clone, Copy, PartialEq, Eq)]
 pub enum Kind {
     /// An inbound access list denies the packet.
     DeniedIn,
@@ -24,7 +24,7 @@ pub enum Kind {
 }
 
 /// A set of endings.
-#[derive(Clone, Copy, PartialEq, Eq)]
+#[derive(Clone, Copy)]
 pub struct Ends {
     pub denied_in: bool,
     pub accepted: bool,

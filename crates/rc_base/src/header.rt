@@ -5,7 +5,7 @@ use crate::Addr;
 
 /// What access lists and routes read of a packet: the addresses and the protocol of RFC 791 s.3.1, and the ports of RFC 9293
 /// s.3.1 and RFC 768, which are 0 where the protocol has none.
-#[derive(Clone, Copy, PartialEq, Eq)]
+#[derive(Clone, Copy)]
 pub struct Header {
     pub dst: Addr,
     pub src: Addr,

@@ -8,7 +8,7 @@ use std::marker::Model;
 /// A prefix (RFC 4632 s.3.1): a length from 0 to 32, and an address whose bits after so many are 0.
 ///
 /// Prefixes are ordered by address, then length.
-#[derive(Clone, Copy, PartialEq, Eq, PartialOrd, Ord, Hash)]
+#[derive(Clone, Copy, PartialEq, Eq, PartialOrd, Ord)]
 pub struct Prefix {
     network: Addr,
     len: u8,

@@ -37,8 +37,8 @@ pub fn memo_of(alloc: Global, size: usize) -> Result<Vec<Noted>, AllocError>
     Ok(memo)
 }
 
-/// The result of a note, where it is of this operation on these two. The two are looked at first: they tell most notes apart, and whether
-/// the operation is the same is a toss-up, which a processor guesses wrongly every other time.
+/// The result of a note, where it is of this operation on these two. The two are looked at first: they tell most notes apart, while the
+/// operation is the same in a third of the looks or more, which a processor guesses badly.
 pub fn result_of(noted: Noted, operation: Operation, left: Ref, right: Ref) -> Option<Ref>
     ensures { MatchOption result Unit (λ r. (noted.operation ≡ operation) × (noted.left.index ≡ left.index) × (noted.right.index ≡ right.index) × (noted.result ≡ r)) }
 {

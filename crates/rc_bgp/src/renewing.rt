@@ -187,7 +187,8 @@ fn mended_paths(
     Ok(Renewed { paths, changed })
 }
 
-/// The same, where the state came from an earlier one, and all that changed from there to here is told.
+/// The best paths of a router, where the state came from an earlier one and all that changed from there to here is told, and the prefixes
+/// whose path may be another than before.
 pub fn renewed_paths(
     alloc: Global,
     net: &Network,

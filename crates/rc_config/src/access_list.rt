@@ -8,7 +8,7 @@ use rc_base::Addr;
 use std::alloc::{AllocError, Global};
 
 /// What the lines of a list may test.
-#[derive(Clone, Copy, PartialEq, Eq)]
+#[derive(Clone, Copy)]
 pub enum AccessListKind {
     /// The source address alone.
     Standard,
@@ -17,14 +17,14 @@ pub enum AccessListKind {
 }
 
 /// What becomes of a packet that a line matches.
-#[derive(Clone, Copy, PartialEq, Eq)]
+#[derive(Clone, Copy)]
 pub enum Action {
     Permit,
     Deny,
 }
 
 /// A test of the protocol (RFC 791 s.3.1).
-#[derive(Clone, Copy, PartialEq, Eq)]
+#[derive(Clone, Copy)]
 pub enum ProtocolTest {
     /// `ip`: every protocol.
     Any,
@@ -34,7 +34,7 @@ pub enum ProtocolTest {
 
 /// A test of an address: the bits whose wildcard bit is 0 are compared. The ones of a wildcard may stand anywhere, and
 /// the bits of the address under them don't count.
-#[derive(Clone, Copy, PartialEq, Eq)]
+#[derive(Clone, Copy)]
 pub struct AddressTest {
     pub addr: Addr,
     pub wildcard: Addr,
@@ -63,7 +63,7 @@ impl AddressTest {
 }
 
 /// A test of a port (RFC 9293 s.3.1, RFC 768).
-#[derive(Clone, Copy, PartialEq, Eq)]
+#[derive(Clone, Copy)]
 pub enum PortTest {
     /// Every port.
     Any,
@@ -80,7 +80,7 @@ pub enum PortTest {
 }
 
 /// A line of a list, which matches the headers that pass all of its tests.
-#[derive(Clone, Copy, PartialEq, Eq)]
+#[derive(Clone, Copy)]
 pub struct AccessListLine {
     /// The sequence number, from 1 to 2147483647.
     pub sequence: u32,

@@ -7,7 +7,7 @@ use rc_base::{Communities, Items};
 use std::alloc::{AllocError, Global};
 
 /// A line of a community list. It matches the routes that have all of its communities (RFC 1997).
-#[derive(Drop, PartialEq, Eq)]
+#[derive(Drop)]
 pub struct CommunityLine {
     pub action: Action,
     pub communities: Communities,

@@ -12,7 +12,7 @@ use std::marker::Model;
 /// An address of an interface with the length of its mask, from 1 to 32, seen as the record of the two.
 ///
 /// The address is kept whole, its host bits too.
-#[derive(Clone, Copy, PartialEq, Eq)]
+#[derive(Clone, Copy)]
 pub struct IfAddr {
     addr: Addr,
     len: u8,
@@ -65,7 +65,7 @@ impl IfAddr {
 }
 
 /// The direction in which a list filters at an interface, or at a neighbour.
-#[derive(Clone, Copy, PartialEq, Eq)]
+#[derive(Clone, Copy)]
 pub enum Direction {
     /// What enters there, or comes from the neighbour.
     In,

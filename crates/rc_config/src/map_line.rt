@@ -3,7 +3,7 @@ use crate::MetricType;
 use rc_base::{Communities, Items, Name, Origin};
 
 /// The openings of `match` lines. Each makes a condition of its own.
-#[derive(Clone, Copy, PartialEq, Eq)]
+#[derive(Clone, Copy)]
 pub enum MatchKind {
     /// `match ip address`: standard access lists, which test the network address of the route.
     AccessList,

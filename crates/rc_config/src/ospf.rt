@@ -14,7 +14,7 @@ pub enum NetworkType {
 }
 
 /// A process and an area of it.
-#[derive(Clone, Copy, PartialEq, Eq)]
+#[derive(Clone, Copy)]
 pub struct OspfArea {
     /// The number of the process, from 1 to 65535.
     pub process: u32,
@@ -23,7 +23,7 @@ pub struct OspfArea {
 }
 
 /// What the `ip ospf` lines in the block of an interface set, each by its last line.
-#[derive(Clone, Copy, PartialEq, Eq)]
+#[derive(Clone, Copy)]
 pub struct OspfSettings {
     /// The cost of sending out of the interface (RFC 2328 s.9), from 1 to 65535.
     pub cost: Option<u16>,
@@ -38,7 +38,7 @@ pub struct OspfSettings {
 }
 
 /// What one `ip ospf` line in the block of an interface says.
-#[derive(Clone, Copy, PartialEq, Eq)]
+#[derive(Clone, Copy)]
 pub enum OspfSetting {
     /// `ip ospf cost N`, from 1 to 65535.
     Cost(u16),
@@ -82,7 +82,7 @@ impl OspfSettings {
 
 /// A `network` line: the interfaces whose primary address agrees with this one in the bits whose wildcard bit is 0 are in this
 /// area. The ones of a wildcard may stand anywhere.
-#[derive(Clone, Copy, PartialEq, Eq)]
+#[derive(Clone, Copy)]
 pub struct OspfNetwork {
     pub address: Addr,
     pub wildcard: Addr,
@@ -90,7 +90,7 @@ pub struct OspfNetwork {
 }
 
 /// A stub area (RFC 2328 s.3.6).
-#[derive(Clone, Copy, PartialEq, Eq)]
+#[derive(Clone, Copy)]
 pub struct StubArea {
     /// The area ID, which isn't 0.
     pub area: u32,
@@ -107,7 +107,7 @@ impl Numbered for StubArea {
 }
 
 /// The routes that an AS boundary router redistributes.
-#[derive(Clone, Copy, PartialEq, Eq)]
+#[derive(Clone, Copy)]
 pub enum RedistributedSource {
     Connected,
     Static,
@@ -128,7 +128,7 @@ fn is_same_source(a: RedistributedSource, b: RedistributedSource) -> bool
 }
 
 /// Routes of one source as AS-external routes (RFC 2328 s.12.4.4).
-#[derive(Clone, Copy, PartialEq, Eq)]
+#[derive(Clone, Copy)]
 pub struct Redistribution {
     pub source: RedistributedSource,
     /// From 0 to 16777214, which is below LSInfinity (RFC 2328 appendix B).
@@ -161,7 +161,7 @@ fn with_redistribution(
 }
 
 /// The default route as an AS-external route.
-#[derive(Clone, Copy, PartialEq, Eq)]
+#[derive(Clone, Copy)]
 pub struct DefaultInformation {
     /// Whether it is sent also where the router has none.
     pub always: bool,
@@ -171,7 +171,7 @@ pub struct DefaultInformation {
 }
 
 /// What one line in the block of a process says.
-#[derive(Clone, Copy, PartialEq, Eq)]
+#[derive(Clone, Copy)]
 pub enum OspfLine {
     /// `router-id A`
     RouterId(Addr),

@@ -9,7 +9,7 @@ use std::alloc::{AllocError, Global};
 
 /// A line of a prefix list. It matches the prefixes whose first bits are those of its own prefix and whose length is that of
 /// its own or, where it has a bound, within the bounds.
-#[derive(Clone, Copy, PartialEq, Eq)]
+#[derive(Clone, Copy)]
 pub struct PrefixLine {
     /// The sequence number.
     pub sequence: u32,

@@ -8,7 +8,7 @@ use rc_base::{Items, Name};
 use std::alloc::{AllocError, Global};
 
 /// A list that a `match` line names, and the number of the line.
-#[derive(Clone, Copy, PartialEq, Eq)]
+#[derive(Clone, Copy)]
 pub struct Mention {
     pub name: Name,
     pub line: u64,

@@ -21,7 +21,7 @@ use rc_base::{Items, Name};
 use std::alloc::{AllocError, Global};
 
 /// A host name, and the number of the line that gives it.
-#[derive(Clone, Copy, PartialEq, Eq)]
+#[derive(Clone, Copy)]
 pub struct HostLine {
     pub name: Name,
     pub line: u64,

@@ -25,7 +25,7 @@ pub fn compare_metric_types(a: MetricType, b: MetricType) -> Ordering
 }
 
 /// What becomes of the communities of a route (RFC 1997).
-#[derive(Drop, PartialEq, Eq)]
+#[derive(Drop)]
 pub enum CommunityChange {
     /// They stay.
     Keep,
@@ -36,7 +36,7 @@ pub enum CommunityChange {
 }
 
 /// What an entry of a route map sets: of each opening the last line, where there is one.
-#[derive(Drop, PartialEq, Eq)]
+#[derive(Drop)]
 pub struct Sets {
     /// LOCAL_PREF (RFC 4271 s.5.1.5).
     pub local_preference: Option<u32>,

@@ -2,7 +2,7 @@
 use rc_base::{Addr, Name, Prefix};
 
 /// Where a static route leads. The names are those of interfaces, which need not be declared.
-#[derive(Clone, Copy, PartialEq, Eq)]
+#[derive(Clone, Copy)]
 pub enum Target {
     /// The packet is dropped.
     Null,
@@ -15,7 +15,7 @@ pub enum Target {
 }
 
 /// A static route, as one line `ip route` says it.
-#[derive(Clone, Copy, PartialEq, Eq)]
+#[derive(Clone, Copy)]
 pub struct StaticRoute {
     pub prefix: Prefix,
     pub target: Target,

@@ -6,7 +6,7 @@ use rc_base::{Addr, Header};
 
 /// The headers whose bits under the mask are those of the value. The value is one of them: the example, with 0 in each bit that the mask
 /// leaves free. A field is tested where its mask isn't 0.
-#[derive(Clone, Copy, PartialEq, Eq)]
+#[derive(Clone, Copy)]
 pub struct Cube {
     pub value: Header,
     pub mask: Header,

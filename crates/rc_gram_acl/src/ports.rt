@@ -14,7 +14,7 @@ use rc_config::{AddressTest, PortTest, Ports, ProtocolTest};
 use rc_openings::{Words, word_addr};
 
 /// The word with which a test of ports begins.
-#[derive(Clone, Copy, PartialEq, Eq)]
+#[derive(Clone, Copy)]
 pub(crate) enum Operator {
     /// `eq`
     Equal,
@@ -29,7 +29,7 @@ pub(crate) enum Operator {
 }
 
 /// The end of a packet's way that a test asks.
-#[derive(Clone, Copy, PartialEq, Eq)]
+#[derive(Clone, Copy)]
 pub(crate) enum Side {
     Source,
     Destination,

@@ -9,7 +9,7 @@ use rc_config::{Action, action_of};
 use rc_openings::{LineRefusal, Words, number_in};
 
 /// The entry of a route map that a line opens.
-#[derive(Clone, Copy, PartialEq, Eq)]
+#[derive(Clone, Copy)]
 pub(crate) struct OpenedEntry {
     pub map: Name,
     /// The entry's number, from 0 to 65535.

@@ -4,7 +4,7 @@ ghost use Rattle.std.specs.Prelude.{◌≡◌};
 use rc_openings::LineRefusal;
 
 /// Why a file is refused.
-#[derive(Clone, Copy, PartialEq, Eq)]
+#[derive(Clone, Copy)]
 pub enum FileCause {
     /// A line is refused by its grammar.
     Line(LineRefusal),
@@ -36,14 +36,14 @@ impl FileCause {
 }
 
 /// A refusal, and the number of the line that it names: 0 for the file as a whole.
-#[derive(Clone, Copy, PartialEq, Eq)]
+#[derive(Clone, Copy)]
 pub struct FileRefusal {
     pub line: u64,
     pub cause: FileCause,
 }
 
 /// Why a file has no model.
-#[derive(Clone, Copy, PartialEq, Eq)]
+#[derive(Clone, Copy)]
 pub enum ReadError {
     /// It is refused.
     Refused(FileRefusal),

@@ -11,7 +11,7 @@ use crate::lines::first_line;
 use rc_openings::Words;
 
 /// What a line is to the reader of a file.
-#[derive(Clone, Copy, PartialEq, Eq)]
+#[derive(Clone, Copy)]
 pub enum Part {
     /// A line to be read by its own text.
     Plain,

@@ -5,7 +5,7 @@ use rc_base::FileName;
 use rc_grammar::FileCause;
 
 /// Why a file of a network is refused.
-#[derive(Clone, Copy, PartialEq, Eq)]
+#[derive(Clone, Copy)]
 pub enum NetCause {
     /// The file is refused by itself.
     File(FileCause),

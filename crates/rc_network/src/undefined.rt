@@ -12,7 +12,7 @@ use rc_config::{
 };
 
 /// What a line may name that has to be in its file.
-#[derive(Clone, Copy, PartialEq, Eq)]
+#[derive(Clone, Copy)]
 pub(crate) enum NamedKind {
     /// A standard access list.
     AccessList,

@@ -19,7 +19,7 @@ use crate::route_map::route_map_table;
 use crate::{Opening, Verdict, Words};
 
 /// The kind of block that a line stands in.
-#[derive(Clone, Copy, PartialEq, Eq)]
+#[derive(Clone, Copy)]
 pub enum Block {
     /// No block is open, and the line is indented.
     Closed,

@@ -5,7 +5,7 @@ ghost use Rattle.rc_openings.specs.Forms.{grammar_of};
 /// What a line may say, by the words that it begins with: one for each form opening of each kind of block.
 ///
 /// Where a choice of words follows at once, each of them makes an opening of its own, and so a form.
-#[derive(Clone, Copy, PartialEq, Eq)]
+#[derive(Clone, Copy)]
 pub enum Form {
     /// `hostname` with no indent.
     Hostname,
@@ -144,7 +144,7 @@ pub enum Form {
 }
 
 /// The grammars of lines: each reads the lines of its own forms.
-#[derive(Clone, Copy, PartialEq, Eq)]
+#[derive(Clone, Copy)]
 pub enum Grammar {
     /// Host names, interfaces and static routes.
     General,

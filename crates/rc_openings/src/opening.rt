@@ -7,7 +7,7 @@ use crate::words::is_blank;
 use crate::{Form, Words};
 
 /// What an opening says of a line that it decides.
-#[derive(Clone, Copy, PartialEq, Eq)]
+#[derive(Clone, Copy)]
 pub enum Verdict {
     /// The line is of this form.
     Form(Form),
@@ -29,7 +29,7 @@ pub struct Opening {
 }
 
 /// What the texts of an opening and of a line tell at a glance, byte by byte.
-#[derive(Clone, Copy, PartialEq, Eq)]
+#[derive(Clone, Copy)]
 pub(crate) enum Glance {
     /// The line's text begins with that of the opening, and a blank or the end follows: the line begins with its words.
     Begins,

@@ -6,7 +6,7 @@ ghost use Rattle.rc_openings.specs.Reading.{code_of, share_a_word as have_one_wo
 use crate::{Words, is_form};
 
 /// Why a line is refused.
-#[derive(Clone, Copy, PartialEq, Eq)]
+#[derive(Clone, Copy)]
 pub enum LineRefusal {
     /// No opening of any block begins the line.
     Unknown,
@@ -33,7 +33,7 @@ impl LineRefusal {
 }
 
 /// Why a line gives no command, in every grammar.
-#[derive(Clone, Copy, PartialEq, Eq)]
+#[derive(Clone, Copy)]
 pub enum LineError {
     /// It is refused.
     Refused(LineRefusal),

@@ -4,7 +4,7 @@ use rc_base::{Communities, Origin, Prefix};
 use rc_config::MetricType;
 
 /// The attributes of a route (RFC 4271 s.5, RFC 1997) that a route map may read or set.
-#[derive(Drop, PartialEq, Eq)]
+#[derive(Drop)]
 pub struct Attrs {
     pub prefix: Prefix,
     /// The metric, of a BGP path its MULTI_EXIT_DISC (RFC 4271 s.5.1.4).

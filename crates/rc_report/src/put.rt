@@ -20,7 +20,7 @@ use rc_base::{Addr, Prefix};
 use rc_outside::Sink;
 
 /// The sink failed within a text: a front of the text is written.
-#[derive(Clone, Copy, PartialEq, Eq)]
+#[derive(Clone, Copy)]
 pub struct SinkFault;
 
 /// Ends a line: hands over what is in hand, as the last piece. Where nothing is in hand the sink isn't called.

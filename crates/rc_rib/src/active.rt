@@ -13,7 +13,7 @@ use rc_route::Hop;
 use std::alloc::{AllocError, Global};
 
 /// A line that is active, with its hop.
-#[derive(Clone, Copy, PartialEq, Eq)]
+#[derive(Clone, Copy)]
 pub struct ActiveLine {
     pub prefix: Prefix,
     /// The administrative distance, from 1 to 254.

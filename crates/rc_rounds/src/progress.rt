@@ -57,7 +57,7 @@ impl Drop for Progress {
 }
 
 /// Which earlier state the state of a round is.
-#[derive(Clone, Copy, PartialEq, Eq)]
+#[derive(Clone, Copy)]
 pub(crate) enum Same {
     /// That of the round before.
     Last,
