@@ -20,7 +20,7 @@ use Rattle.rc_config.specs.Bgp.{no_lines as no_bgp_lines, no_settings as no_neig
 use Rattle.rc_config.specs.IfType.{type_of}
 use Rattle.rc_config.specs.Interface.{fresh}
 use Rattle.rc_config.specs.Lists.{no_lists}
-use Rattle.rc_config.specs.Ospf.{no_lines, no_settings}
+use Rattle.rc_config.specs.Ospf.{no_settings}
 use Rattle.rc_config.specs.RouteMap.{fresh_entry}
 use Rattle.rc_config.specs.Update.{after, empty}
 use Rattle.rc_config.specs.declared.access_list.AccessListKind.TheVariants.{Standard, Extended}
