@@ -1,3 +1,4 @@
 pub mod Cubes
 pub mod Count
 pub mod Rows
+pub mod PrefixRows

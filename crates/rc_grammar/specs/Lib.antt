@@ -6,3 +6,5 @@ pub mod PolicyRows
 pub mod ListRows
 pub mod OspfRows
 pub mod BgpRows
+pub mod FileRows
+pub mod LineRows

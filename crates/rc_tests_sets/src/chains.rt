@@ -1,4 +1,4 @@
-//! Chains of prefixes, made by one caller and by two at once.
+//! Chains of prefixes, made in one table by two callers at once.
 ghost use Rattle.std.specs.Prelude.{◌≡◌, ◌<◌, ◌≤◌, [], ◌∷◌, IfOk, IfErr};
 ghost use Rattle.std.specs.Thread.{IsSend, IsSync};
 ghost use Rattle.rc_bdd.specs.Work.{IsCause};
@@ -12,37 +12,11 @@ use rc_bdd::{SetError, Work, eval};
 use rc_nodes::{Chains, May, Nodes, Ref, Seat};
 use rc_sets::prefix_set;
 use std::alloc::{AllocError, Global};
-use std::process::Abort;
-use std::test::Fail;
 use std::thread::{Threads, join};
-
-/// Whether a table of so many slots has room for the chain of a prefix.
-fn fits(alloc: Global, prefix: Prefix, capacity: u32) -> Result<bool, AllocError>
-    requires low { 0 < capacity }
-    requires high { capacity ≤ 16777216 }
-{
-    let prefixes = [prefix];
-    let chains = Chains {
-        prefixes: &prefixes,
-    };
-    let (nodes, seat) = Nodes::new(alloc, capacity, &chains)?;
-    let mut work = Work::new(alloc, seat);
-    Ok(prefix_set(&mut work, &nodes, prefix).is_ok())
-}
 
 /// 10.0.0.0/24 or 11.0.0.0/24, by its first byte.
 fn block(first: u8) -> Option<Prefix> {
     Prefix::new(Addr::new(u32::from(first) << 24), 24)
-}
-
-#[test]
-fn a_chain_of_24_bits_has_24_nodes(rt: HostRuntime) -> Result<(), Fail> {
-    let prefix = block(10).ok_or("a prefix")?;
-    for capacity in 16..24u32 {
-        assert!(rt; !fits(rt.alloc(), prefix, capacity)?, "in {capacity} slots");
-    }
-    assert!(rt; fits(rt.alloc(), prefix, 24)?);
-    Ok(())
 }
 
 /// The chain of a prefix, by a caller with a seat of its own, which comes back in every outcome.
@@ -100,20 +74,23 @@ fn both<R: Threads + Sync, M: May + Send + Sync>(
     (mine, mine_made, theirs_made)
 }
 
-/// What two callers came to.
-#[derive(Clone, Copy)]
-enum Outcome {
-    /// Both chains, whether they are one tree, and which headers they hold.
-    Made {
-        same: bool,
-        left_holds: bool,
-        right_holds: bool,
-    },
-    /// No room for one of them at least: how many callers met none.
-    Crowded(u8),
-    /// Want of memory.
-    Stopped,
-}
+/// Both chains are there. To it 4 is added where they are one tree, 2 where the left one holds a header, and 1 where the right one does.
+const MADE: u8 = 8;
+
+/// One tree, by both references, and it holds the header.
+const ONE_TREE: u8 = 15;
+
+/// Two trees, of which the left one alone holds the header.
+const TWO_TREES: u8 = 10;
+
+/// Neither caller had room for its chain.
+const BOTH_CROWDED: u8 = 2;
+
+/// One caller had room for its chain.
+const ONE_CROWDED: u8 = 1;
+
+/// Want of memory.
+const STOPPED: u8 = 0;
 
 /// How the chains are read back through the seat that both callers joined.
 fn read_back<M: May>(
@@ -122,7 +99,7 @@ fn read_back<M: May>(
     left: Ref,
     right: Ref,
     header: &Header,
-) -> Outcome
+) -> u8
     requires seat { IsSeatOf nodes.now seat.old }
     requires left { IsKnown seat.old left.index }
     requires right { IsKnown seat.old right.index }
@@ -131,11 +108,7 @@ fn read_back<M: May>(
     let left_holds = eval(nodes, seat, left, header);
     let right_holds = eval(nodes, seat, right, header);
     let same = nodes.is_same(seat, left, right);
-    Outcome::Made {
-        same,
-        left_holds,
-        right_holds,
-    }
+    MADE + u8::from(same) * 4 + u8::from(left_holds) * 2 + u8::from(right_holds)
 }
 
 /// What the results of two callers come to.
@@ -145,7 +118,7 @@ fn outcome_of<M: May>(
     left: Result<Ref, SetError>,
     right: Result<Ref, SetError>,
     header: &Header,
-) -> Outcome
+) -> u8
     requires seat { IsSeatOf nodes.now seat.old }
     requires left { IfOk left (λ r. IsKnown seat.old r.index) }
     requires right { IfOk right (λ r. IsKnown seat.old r.index) }
@@ -153,22 +126,21 @@ fn outcome_of<M: May>(
 {
     match (left, right) {
         (Ok(left), Ok(right)) => read_back(nodes, seat, left, right, header),
-        (Err(SetError::Full), Err(SetError::Full)) => Outcome::Crowded(2),
-        (Err(SetError::Full), Ok(_)) => Outcome::Crowded(1),
-        (Ok(_), Err(SetError::Full)) => Outcome::Crowded(1),
-        _ => Outcome::Stopped,
+        (Err(SetError::Full), Err(SetError::Full)) => BOTH_CROWDED,
+        (Err(SetError::Full), Ok(_)) => ONE_CROWDED,
+        (Ok(_), Err(SetError::Full)) => ONE_CROWDED,
+        _ => STOPPED,
     }
 }
 
-/// Two callers make a chain each in a table of so many slots. Beside the outcome: the words of the table afterwards.
+/// Two callers make a chain each in a table of so many slots. Beside what they come to: how many nodes stand in the table afterwards.
 fn two_callers<R: Threads + Sync>(
     rt: &R,
     alloc: Global,
     capacity: u32,
     left: Prefix,
     right: Prefix,
-    header: &Header,
-) -> Result<(Outcome, Vec<u64>), AllocError>
+) -> Result<(u8, usize), AllocError>
     requires low { 0 < capacity }
     requires high { capacity ≤ 16777216 }
 {
@@ -178,9 +150,9 @@ fn two_callers<R: Threads + Sync>(
     };
     let (nodes, seat) = Nodes::new(alloc, capacity, &chains)?;
     let (mut seat, of_left, of_right) = both(rt, alloc, &nodes, seat, left, right);
-    let outcome = outcome_of(&nodes, &mut seat, of_left, of_right, header);
+    let outcome = outcome_of(&nodes, &mut seat, of_left, of_right, &packet());
     let words = nodes.close(alloc, seat)?;
-    Ok((outcome, words))
+    Ok((outcome, different_words(words)?))
 }
 
 /// A packet to 10.0.0.7.
@@ -202,47 +174,53 @@ fn different_words(mut words: Vec<u64>) -> Result<usize, AllocError> {
     Ok(some)
 }
 
-#[test]
-fn two_callers_make_the_same_nodes(rt: HostRuntime) -> Result<(), Fail> {
-    let prefix = block(10).ok_or("a prefix")?;
-    let (outcome, words) = two_callers(&rt, rt.alloc(), 24, prefix, prefix, &packet())?;
-    let read_back = matches!(
-        outcome,
-        Outcome::Made {
-            same: true,
-            left_holds: true,
-            right_holds: true,
+/// Whether two callers come to this in a table of so many slots, where one makes 10.0.0.0/24 and the other the prefix of that first byte.
+fn is_so<R: Threads + Sync>(
+    rt: &R,
+    alloc: Global,
+    capacity: u32,
+    first: u8,
+    outcome: u8,
+    nodes: usize,
+) -> bool {
+    if capacity == 0 || 16_777_216 < capacity {
+        return false;
+    }
+    let Some(left) = block(10) else {
+        return false;
+    };
+    let Some(right) = block(first) else {
+        return false;
+    };
+    match two_callers(rt, alloc, capacity, left, right) {
+        Ok((found, there)) => found == outcome && there == nodes,
+        Err(_) => false,
+    }
+}
+
+/// The slots of a table, the first byte of the second prefix, what two callers come to, and the nodes that stand in the table. A chain of
+/// 24 bits has 24 nodes, the same ones for both callers, and two chains share those of their last 16 bits.
+const ROWS: [(u32, u8, u8, usize); 8] = [
+    (16, 10, BOTH_CROWDED, 16),
+    (20, 10, BOTH_CROWDED, 20),
+    (23, 10, BOTH_CROWDED, 23),
+    (24, 10, ONE_TREE, 24),
+    (64, 10, ONE_TREE, 24),
+    (16, 11, BOTH_CROWDED, 16),
+    (32, 11, TWO_TREES, 32),
+    (64, 11, TWO_TREES, 32),
+];
+
+fn check_rows<R: Threads + Sync>(rt: &R, alloc: Global, rows: &[(u32, u8, u8, usize)]) -> bool {
+    for (capacity, first, outcome, nodes) in rows {
+        if !is_so(rt, alloc, *capacity, *first, *outcome, *nodes) {
+            return false;
         }
-    );
-    assert!(rt; read_back);
-    assert!(rt; different_words(words)? == 24);
-    Ok(())
+    }
+    true
 }
 
 #[test]
-fn two_callers_fill_a_table_with_what_both_make(rt: HostRuntime) -> Result<(), Fail> {
-    let ten = block(10).ok_or("a prefix")?;
-    let eleven = block(11).ok_or("a prefix")?;
-    let (outcome, words) = two_callers(&rt, rt.alloc(), 16, ten, eleven, &packet())?;
-    assert!(rt; matches!(outcome, Outcome::Crowded(2)));
-    assert!(rt; different_words(words)? == 16);
-    Ok(())
-}
-
-#[test]
-fn two_callers_make_two_chains(rt: HostRuntime) -> Result<(), Fail> {
-    let ten = block(10).ok_or("a prefix")?;
-    let eleven = block(11).ok_or("a prefix")?;
-    let (outcome, words) = two_callers(&rt, rt.alloc(), 64, ten, eleven, &packet())?;
-    let read_back = matches!(
-        outcome,
-        Outcome::Made {
-            same: false,
-            left_holds: true,
-            right_holds: false,
-        }
-    );
-    assert!(rt; read_back);
-    assert!(rt; different_words(words)? == 32);
-    Ok(())
+fn two_callers_share_their_nodes(rt: HostRuntime) {
+    assert!(rt; check_rows(&rt, rt.alloc(), &ROWS));
 }

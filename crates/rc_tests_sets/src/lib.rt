@@ -1,15 +1,7 @@
-//! Tests of the node table and of the sets over it.
+//! What two callers of a node table make at once.
+//!
+//! Sets themselves are tried by case files over folders of configurations (rc_tests_cases), and by rows beside the definitions.
 #![tactic(auto)]
 
 #[cfg(test)]
-mod access_lists;
-#[cfg(test)]
 mod chains;
-#[cfg(test)]
-mod cubes;
-#[cfg(test)]
-mod hops;
-#[cfg(test)]
-mod operations;
-#[cfg(test)]
-mod printed_cubes;

@@ -1,8 +1,0 @@
-use Rattle.rc_nodes.specs.Seats.{IsKnown, IsSeatOf}
-use Rattle.rc_tests_sets.proofs.access_lists.agrees.Given as goal
-
-abbrev pub invariant-loop-number : goal.invariant-loop-number
-invariant-loop-number g l = record {
-  seat : IsSeatOf l.nodes l.seat;
-  known : IsKnown l.seat l.set.index;
-}
