@@ -6,3 +6,4 @@ pub mod PolicyRows
 pub mod ListRows
 pub mod OspfRows
 pub mod BgpRows
+pub mod GrammarRows
