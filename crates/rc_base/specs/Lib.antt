@@ -10,3 +10,4 @@ pub mod Index
 pub mod IndexRows
 pub mod Communities
 pub mod CommunityRows
+pub mod Rows

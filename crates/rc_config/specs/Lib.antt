@@ -28,3 +28,4 @@ pub mod RouteMap
 pub mod CommunityList
 pub mod Lists
 pub mod PolicyRows
+pub mod ModelRows

@@ -8,3 +8,4 @@ pub mod OspfRows
 pub mod BgpRows
 pub mod FileRows
 pub mod LineRows
+pub mod GrammarRows

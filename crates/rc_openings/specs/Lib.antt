@@ -14,3 +14,4 @@ pub mod Values
 pub mod Part
 pub mod Reading
 pub mod Examples
+pub mod DecisionRows
