@@ -2,9 +2,7 @@
 ghost use Rattle.std.specs.Prelude.{◌≡◌, [], ◌∷◌, Some, IfOk, codes};
 ghost use Rattle.rc_outside.specs.MemFolder.{file_of};
 
-use rc_outside::{
-    Folder, Gate, MemFile, MemFolder, MemSink, Names, OpenGate, Sink, SinkFailed, SourceError,
-};
+use rc_outside::{Folder, Gate, MemFile, MemFolder, MemSink, Names, OpenGate, Sink, SourceError};
 use std::alloc::{AllocError, Global};
 
 fn file(alloc: Global, folder: &str, bytes: &[u8]) -> Result<MemFile, AllocError>
@@ -53,7 +51,10 @@ fn a_call_fails_by_its_number(rt: HostRuntime) {
     let first = are_read(&folder.read(alloc, "d", "a.cfg", 5), b"first");
     let failed = folder.read(alloc, "d", "a.cfg", 5).err();
     assert!(rt;
-        first && failed == Some(SourceError::Failed) && folder.calls == 2 && folder.faults == 1
+        first
+            && matches!(failed, Some(SourceError::Failed))
+            && folder.calls == 2
+            && folder.faults == 1
     );
 }
 
@@ -76,13 +77,17 @@ fn names_are_those_of_the_folder_alone(rt: HostRuntime) {
     let one = is_told(&folder.names(alloc, "d"), Some("a.cfg"));
     let failed = folder.names(alloc, "d").err();
     let none = is_told(&folder.names(alloc, "f"), None);
-    assert!(rt; one && failed == Some(SourceError::Failed) && none);
+    assert!(rt; one && matches!(failed, Some(SourceError::Failed)) && none);
 }
 
-/// Whether a sink says this of a put, and holds this then.
-fn says(sink: &mut MemSink, bytes: &[u8], said: Result<(), SinkFailed>, held: &[u8]) -> bool {
-    sink.put(bytes) == said && sink.bytes.as_slice() == held
+/// Whether a put is taken, or fails, as it should, and the sink holds this then.
+fn says(sink: &mut MemSink, bytes: &[u8], is_taken: bool, held: &[u8]) -> bool {
+    sink.put(bytes).is_ok() == is_taken && sink.bytes.as_slice() == held
 }
+
+const TAKEN: bool = true;
+
+const FAILS: bool = false;
 
 /// A sink with so much room that takes so many bytes of the call of this number, and fails.
 fn failing_sink(
@@ -99,9 +104,9 @@ fn failing_sink(
 fn a_sink_fails_in_its_second_call(rt: HostRuntime) {
     let mut sink = failing_sink(rt.alloc(), 16, 2, 3).expect(&rt, "memory");
     assert!(rt;
-        says(&mut sink, b"one ", Ok(()), b"one ")
-            && says(&mut sink, b"second ", Err(SinkFailed), b"one sec")
-            && says(&mut sink, b" third", Ok(()), b"one sec third")
+        says(&mut sink, b"one ", TAKEN, b"one ")
+            && says(&mut sink, b"second ", FAILS, b"one sec")
+            && says(&mut sink, b" third", TAKEN, b"one sec third")
             && sink.calls == 3
             && sink.faults == 1
     );
@@ -111,9 +116,9 @@ fn a_sink_fails_in_its_second_call(rt: HostRuntime) {
 fn a_sink_without_room_takes_what_fits(rt: HostRuntime) {
     let mut sink = failing_sink(rt.alloc(), 3, 9, 0).expect(&rt, "memory");
     assert!(rt;
-        says(&mut sink, b"four", Err(SinkFailed), b"fou")
-            && says(&mut sink, b"x", Err(SinkFailed), b"fou")
-            && says(&mut sink, b"", Ok(()), b"fou")
+        says(&mut sink, b"four", FAILS, b"fou")
+            && says(&mut sink, b"x", FAILS, b"fou")
+            && says(&mut sink, b"", TAKEN, b"fou")
             && sink.calls == 3
             && sink.faults == 2
     );
