@@ -86,10 +86,10 @@ pub static_routes :
       host = Some (record { name = codes "X"; line = 2 });
       interfaces = (codes "Serial0", fresh) ∷ [];
       static_routes =
-        record { prefix = record { network = 0x0a010000; len = 16 }; target = target.Dev (codes "Serial9"); distance = 200 }
-        ∷ record { prefix = record { network = 0x0a010000; len = 16 }; target = target.Null; distance = 1 }
-        ∷ record { prefix = record { network = 0x0a010000; len = 16 }; target = target.Dev (codes "Serial9"); distance = 200 }
-        ∷ [];
+          record { prefix = record { network = 0x0a010000; len = 16 }; target = target.Dev (codes "Serial9"); distance = 200 }
+          ∷ record { prefix = record { network = 0x0a010000; len = 16 }; target = target.Null; distance = 1 }
+          ∷ record { prefix = record { network = 0x0a010000; len = 16 }; target = target.Dev (codes "Serial9"); distance = 200 }
+          ∷ [];
     })
 unfolding file_of step decided decisive_row global global_forms global_refused global_ignored interface interface_forms interface_refused interface_ignored access_list access_list_forms access_list_refused access_list_ignored route_map route_map_forms route_map_refused route_map_ignored ospf ospf_forms ospf_refused ospf_ignored bgp bgp_forms bgp_refused bgp_ignored words_of is_banner mask_length type_of protocol_names port_names of_access_lists of_policies of_ospf digits
 static_routes = refl
@@ -106,18 +106,20 @@ pub access_lists :
     Makes (codes "hostname X\nip access-list extended WEB\n permit tcp any host 10.0.0.1 eq www\n 5 deny icmp any any\n 20 remark nothing\n exit\naccess-list 5 remark nothing\naccess-list 5 permit 10.0.0.0 0.0.255.0\naccess-list 005 deny any\naccess-list 9 remark nothing\nip access-list standard EMPTY\nip access-list extended WEB\n deny ip any any\n")
     (record x {
       lists = record no_lists {
-        access_lists =
-          (codes "WEB", record {
+        access_lists = (
+          codes "WEB",
+          record {
             kind = Extended;
             lines =
-              record { sequence = 5; action = Deny; protocol = protocol.Is 1; source = any_address; source_port = port.Any; destination = any_address; destination_port = port.Any }
-              ∷ record { sequence = 10; action = Permit; protocol = protocol.Is 6; source = any_address; source_port = port.Any; destination = host_address 0x0a000001; destination_port = port.Equal (80 ∷ []) }
-              ∷ record { sequence = 20; action = Deny; protocol = protocol.Any; source = any_address; source_port = port.Any; destination = any_address; destination_port = port.Any }
-              ∷ [];
-          })
-          ∷ (codes "5", record { kind = Standard; lines = standard_line 10 Permit (record { addr = 0x0a000000; wildcard = 0x0000ff00 }) ∷ standard_line 20 Deny any_address ∷ [] })
-          ∷ (codes "EMPTY", record { kind = Standard; lines = [] })
-          ∷ [];
+                record { sequence = 5; action = Deny; protocol = protocol.Is 1; source = any_address; source_port = port.Any; destination = any_address; destination_port = port.Any }
+                ∷ record { sequence = 10; action = Permit; protocol = protocol.Is 6; source = any_address; source_port = port.Any; destination = host_address 0x0a000001; destination_port = port.Equal (80 ∷ []) }
+                ∷ record { sequence = 20; action = Deny; protocol = protocol.Any; source = any_address; source_port = port.Any; destination = any_address; destination_port = port.Any }
+                ∷ [];
+          },
+        )
+            ∷ (codes "5", record { kind = Standard; lines = standard_line 10 Permit (record { addr = 0x0a000000; wildcard = 0x0000ff00 }) ∷ standard_line 20 Deny any_address ∷ [] })
+            ∷ (codes "EMPTY", record { kind = Standard; lines = [] })
+            ∷ [];
       };
     })
 unfolding file_of step decided decisive_row global global_forms global_refused global_ignored interface interface_forms interface_refused interface_ignored access_list access_list_forms access_list_refused access_list_ignored route_map route_map_forms route_map_refused route_map_ignored ospf ospf_forms ospf_refused ospf_ignored bgp bgp_forms bgp_refused bgp_ignored words_of is_banner mask_length type_of protocol_names port_names of_access_lists of_policies of_ospf digits
@@ -128,25 +130,29 @@ pub policy_lists :
     Makes (codes "hostname X\nip prefix-list P seq 20 deny 10.1.2.3/16 ge 20 le 24\nip prefix-list P permit 0.0.0.0/0 le 32\nip prefix-list P seq 5 permit 10.0.0.0/08\nip prefix-list P description nothing\n passed over\nip prefix-list sequence-number\n passed over\nip community-list 7 permit 65000:1 no-export\nip community-list standard NAMED permit no-advertise\nip community-list standard 7 deny 65000:2\nip community-list 007 deny 5\n")
     (record x {
       lists = record no_lists {
-        prefix_lists =
-          (codes "P", record {
+        prefix_lists = (
+          codes "P",
+          record {
             lines =
-              record { sequence = 5; action = Permit; prefix = record { network = 0x0a000000; len = 8 }; ge = None; le = None }
-              ∷ record { sequence = 20; action = Deny; prefix = record { network = 0x0a010000; len = 16 }; ge = Some 20; le = Some 24 }
-              ∷ record { sequence = 25; action = Permit; prefix = record { network = 0; len = 0 }; ge = None; le = Some 32 }
-              ∷ [];
-          })
-          ∷ [];
-        community_lists =
-          (codes "7", record {
+                record { sequence = 5; action = Permit; prefix = record { network = 0x0a000000; len = 8 }; ge = None; le = None }
+                ∷ record { sequence = 20; action = Deny; prefix = record { network = 0x0a010000; len = 16 }; ge = Some 20; le = Some 24 }
+                ∷ record { sequence = 25; action = Permit; prefix = record { network = 0; len = 0 }; ge = None; le = Some 32 }
+                ∷ [];
+          },
+        )
+            ∷ [];
+        community_lists = (
+          codes "7",
+          record {
             lines =
-              record { action = Permit; communities = 4259840001 ∷ 0xffffff01 ∷ [] }
-              ∷ record { action = Deny; communities = 4259840002 ∷ [] }
-              ∷ record { action = Deny; communities = 5 ∷ [] }
-              ∷ [];
-          })
-          ∷ (codes "NAMED", record { lines = record { action = Permit; communities = 0xffffff02 ∷ [] } ∷ [] })
-          ∷ [];
+                record { action = Permit; communities = 4259840001 ∷ 0xffffff01 ∷ [] }
+                ∷ record { action = Deny; communities = 4259840002 ∷ [] }
+                ∷ record { action = Deny; communities = 5 ∷ [] }
+                ∷ [];
+          },
+        )
+            ∷ (codes "NAMED", record { lines = record { action = Permit; communities = 0xffffff02 ∷ [] } ∷ [] })
+            ∷ [];
       };
     })
 unfolding file_of step decided decisive_row global global_forms global_refused global_ignored interface interface_forms interface_refused interface_ignored access_list access_list_forms access_list_refused access_list_ignored route_map route_map_forms route_map_refused route_map_ignored ospf ospf_forms ospf_refused ospf_ignored bgp bgp_forms bgp_refused bgp_ignored words_of is_banner mask_length type_of protocol_names port_names of_access_lists of_policies of_ospf digits
@@ -156,22 +162,24 @@ policy_lists = refl
 pub route_maps :
     Makes (codes "hostname X\nroute-map M permit 20\n match ip address 5 A\n description nothing\n set tag 5\n exit\nroute-map M deny 10\n match ip address prefix-list P\n match community 7 C\n set local-preference 200\n set metric 5\n set metric 6\n set metric-type type-1\n set weight 7\n set origin incomplete\n set community 65000:1 no-export additive\n set as-path prepend 65000 65001\nroute-map EMPTY permit 0\nroute-map M permit 10\n match ip address 5\n set metric-type type-2\n set origin igp\n")
     (record x {
-      route_maps =
-        (codes "M", record {
+      route_maps = (
+        codes "M",
+        record {
           entries =
-            record {
-              number = 10;
-              action = Permit;
-              access_lists = named (codes "5") 20 ∷ [];
-              prefix_lists = named (codes "P") 8 ∷ [];
-              community_lists = named (codes "7") 9 ∷ named (codes "C") 9 ∷ [];
-              sets = record { local_preference = Some 200; metric = Some 6; metric_type = Some Type2; weight = Some 7; origin = Some Igp; communities = Add (4259840001 ∷ 0xffffff01 ∷ []); prepended = 65000 ∷ 65001 ∷ [] };
-            }
-            ∷ record (fresh_entry 20 Permit) { access_lists = named (codes "5") 3 ∷ named (codes "A") 3 ∷ [] }
-            ∷ [];
-        })
-        ∷ (codes "EMPTY", record { entries = fresh_entry 0 Permit ∷ [] })
-        ∷ [];
+              record {
+                number = 10;
+                action = Permit;
+                access_lists = named (codes "5") 20 ∷ [];
+                prefix_lists = named (codes "P") 8 ∷ [];
+                community_lists = named (codes "7") 9 ∷ named (codes "C") 9 ∷ [];
+                sets = record { local_preference = Some 200; metric = Some 6; metric_type = Some Type2; weight = Some 7; origin = Some Igp; communities = Add (4259840001 ∷ 0xffffff01 ∷ []); prepended = 65000 ∷ 65001 ∷ [] };
+              }
+              ∷ record (fresh_entry 20 Permit) { access_lists = named (codes "5") 3 ∷ named (codes "A") 3 ∷ [] }
+              ∷ [];
+        },
+      )
+          ∷ (codes "EMPTY", record { entries = fresh_entry 0 Permit ∷ [] })
+          ∷ [];
     })
 unfolding file_of step decided decisive_row global global_forms global_refused global_ignored interface interface_forms interface_refused interface_ignored access_list access_list_forms access_list_refused access_list_ignored route_map route_map_forms route_map_refused route_map_ignored ospf ospf_forms ospf_refused ospf_ignored bgp bgp_forms bgp_refused bgp_ignored words_of is_banner mask_length type_of protocol_names port_names of_access_lists of_policies of_ospf digits
 route_maps = refl
@@ -185,18 +193,18 @@ pub ospf_process :
         process = 7;
         router_id = Some 0x01010101;
         networks =
-          record { address = 0x0a000000; wildcard = 255; area = 0 }
-          ∷ record { address = 0x0a000100; wildcard = 255; area = 3 }
-          ∷ record { address = 0; wildcard = 0xffffffff; area = 9 }
-          ∷ [];
+            record { address = 0x0a000000; wildcard = 255; area = 0 }
+            ∷ record { address = 0x0a000100; wildcard = 255; area = 3 }
+            ∷ record { address = 0; wildcard = 0xffffffff; area = 9 }
+            ∷ [];
         passive_default = true;
         passive = (codes "Serial0/0", false) ∷ [];
         reference_bandwidth = 1000;
         stub_areas = record { area = 3; no_summary = false } ∷ [];
         redistributions =
-          record { source = source.Connected; metric = None; metric_type = None; subnets = false; route_map = None }
-          ∷ record { source = source.Static; metric = None; metric_type = None; subnets = false; route_map = Some (named (codes "M") 13) }
-          ∷ [];
+            record { source = source.Connected; metric = None; metric_type = None; subnets = false; route_map = None }
+            ∷ record { source = source.Static; metric = None; metric_type = None; subnets = false; route_map = Some (named (codes "M") 13) }
+            ∷ [];
         default_information = Some (record { always = true; metric = None; metric_type = None });
       });
     })
@@ -212,10 +220,10 @@ pub bgp_process :
         router_id = Some 0x01010101;
         networks = record { network = 0x0a090100; len = 24 } ∷ record { network = 0xac100000; len = 16 } ∷ [];
         neighbors =
-          record (no_neighbor_settings 0x0a000001) { remote_as = Some 65002 }
-          ∷ record (no_neighbor_settings 0x0a000002) { remote_as = Some 65000 }
-          ∷ record (no_neighbor_settings 0x0a000003) { is_shutdown = true }
-          ∷ [];
+            record (no_neighbor_settings 0x0a000001) { remote_as = Some 65002 }
+            ∷ record (no_neighbor_settings 0x0a000002) { remote_as = Some 65000 }
+            ∷ record (no_neighbor_settings 0x0a000003) { is_shutdown = true }
+            ∷ [];
       });
     })
 unfolding file_of step decided decisive_row global global_forms global_refused global_ignored interface interface_forms interface_refused interface_ignored access_list access_list_forms access_list_refused access_list_ignored route_map route_map_forms route_map_refused route_map_ignored ospf ospf_forms ospf_refused ospf_ignored bgp bgp_forms bgp_refused bgp_ignored words_of is_banner mask_length type_of protocol_names port_names of_access_lists of_policies of_ospf digits
@@ -227,9 +235,9 @@ pub bgp_neighbor :
     (record x {
       bgp = Some (record (no_bgp_lines 65001) {
         neighbors =
-          record (no_neighbor_settings 0x0a000001) { is_multihop = true; send_community = true; weight = 7; map_in = Some (named (codes "M") 7); list_out = Some (named (codes "P") 8) }
-          ∷ record (no_neighbor_settings 0x0a000002) { update_source = Some (codes "Loopback0") }
-          ∷ [];
+            record (no_neighbor_settings 0x0a000001) { is_multihop = true; send_community = true; weight = 7; map_in = Some (named (codes "M") 7); list_out = Some (named (codes "P") 8) }
+            ∷ record (no_neighbor_settings 0x0a000002) { update_source = Some (codes "Loopback0") }
+            ∷ [];
       });
     })
 unfolding file_of step decided decisive_row global global_forms global_refused global_ignored interface interface_forms interface_refused interface_ignored access_list access_list_forms access_list_refused access_list_ignored route_map route_map_forms route_map_refused route_map_ignored ospf ospf_forms ospf_refused ospf_ignored bgp bgp_forms bgp_refused bgp_ignored words_of is_banner mask_length type_of protocol_names port_names of_access_lists of_policies of_ospf digits

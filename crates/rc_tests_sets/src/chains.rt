@@ -133,14 +133,14 @@ fn outcome_of<M: May>(
     }
 }
 
-/// Two callers make a chain each in a table of so many slots. Beside what they come to: how many nodes stand in the table afterwards.
+/// Two callers make a chain each in a table of so many slots. Beside what they come to: the words of the table afterwards.
 fn two_callers<R: Threads + Sync>(
     rt: &R,
     alloc: Global,
     capacity: u32,
     left: Prefix,
     right: Prefix,
-) -> Result<(u8, usize), AllocError>
+) -> Result<(u8, Vec<u64>), AllocError>
     requires low { 0 < capacity }
     requires high { capacity ≤ 16777216 }
 {
@@ -152,7 +152,7 @@ fn two_callers<R: Threads + Sync>(
     let (mut seat, of_left, of_right) = both(rt, alloc, &nodes, seat, left, right);
     let outcome = outcome_of(&nodes, &mut seat, of_left, of_right, &packet());
     let words = nodes.close(alloc, seat)?;
-    Ok((outcome, different_words(words)?))
+    Ok((outcome, words))
 }
 
 /// A packet to 10.0.0.7.
@@ -166,12 +166,13 @@ fn packet() -> Header {
     }
 }
 
-/// How many words stand in the table, each of another node.
-fn different_words(mut words: Vec<u64>) -> Result<usize, AllocError> {
-    words.sort()?;
+/// Whether so many words stand in the table, each of another node.
+fn are_different(mut words: Vec<u64>, wanted: usize) -> bool {
+    if words.sort().is_err() {
+        return false;
+    }
     words.dedup();
-    let some = words.iter().filter(|word| **word != 0).count();
-    Ok(some)
+    words.iter().filter(|word| **word != 0).count() == wanted
 }
 
 /// Whether two callers come to this in a table of so many slots, where one makes 10.0.0.0/24 and the other the prefix of that first byte.
@@ -193,7 +194,7 @@ fn is_so<R: Threads + Sync>(
         return false;
     };
     match two_callers(rt, alloc, capacity, left, right) {
-        Ok((found, there)) => found == outcome && there == nodes,
+        Ok((found, words)) => found == outcome && are_different(words, nodes),
         Err(_) => false,
     }
 }
