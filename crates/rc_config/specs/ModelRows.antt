@@ -229,8 +229,10 @@ abbrev with_two : RouteMap → ℕ → ℕ → RouteMap
 with_two m line metric = maps.with_line (maps.with_line m 20 (Match PrefixList (codes "P" ∷ []) line)) 20 (Set (Metric metric))
 
 pub entries_opened_again : with_two (maps.opened (with_two (maps.opened (maps.opened maps.no_entries 20 Permit) 10 Permit) 3 5) 20 Deny) 7 6
-    ≡ record { entries = maps.fresh_entry 10 Permit
-      ∷ record (maps.fresh_entry 20 Deny) { prefix_lists = record { name = codes "P"; line = 3 } ∷ record { name = codes "P"; line = 7 } ∷ []; sets = record no_sets { metric = Some 6 } } ∷ [] }
+    ≡ record {
+      entries = maps.fresh_entry 10 Permit
+          ∷ record (maps.fresh_entry 20 Deny) { prefix_lists = record { name = codes "P"; line = 3 } ∷ record { name = codes "P"; line = 7 } ∷ []; sets = record no_sets { metric = Some 6 } } ∷ [];
+    }
 entries_opened_again = refl
 
 -- any external metric of type 1 comes before one of type 2

@@ -48,5 +48,5 @@ pub prefix_lists :
     (says_in General form.PrefixList prefixes ≡ Err BadValue)
     × (says_in AccessLists form.PrefixList prefixes ≡ Err BadValue)
     × (says_in Policies form.PrefixList prefixes
-        ≡ Ok (command.PrefixLine (codes "P") (record { sequence = 5; action = Permit; prefix = prefix_at 0x0a000000 8; ge = None; le = None })))
+    ≡ Ok (command.PrefixLine (codes "P") (record { sequence = 5; action = Permit; prefix = prefix_at 0x0a000000 8; ge = None; le = None })))
 prefix_lists = (refl, refl, refl)
