@@ -1,5 +1,5 @@
 -- Worked cases of origination, candidates and best paths, each by computation.
-use Rattle.std.specs.Prelude.{◌≡◌, true, List, [], ◌∷◌, refl}
+use Rattle.std.specs.Prelude.{◌≡◌, true, List, [], ◌∷◌, Some, None, refl}
 use Rattle.rc_base.specs.Prefix.{prefix_at}
 use Rattle.rc_config.specs.declared.bgp.Neighbor.{Neighbor}
 use Rattle.rc_config.specs.declared.network.Network.{Network}
@@ -7,11 +7,12 @@ use Rattle.rc_config.specs.declared.router_text.RouterText.{RouterText}
 use Rattle.rc_fib.specs.Forwarding.{hops_within}
 use Rattle.rc_route.specs.declared.path.BgpPath.{BgpPath}
 use Rattle.rc_route.specs.declared.path.PathSource.TheVariants.{Network as ByNetwork, External, Internal}
-use Rattle.rc_route.specs.declared.route.Hop.TheVariants.{Null}
+use Rattle.rc_route.specs.declared.route.Hop.TheVariants.{Null, Via}
 use Rattle.rc_route.specs.declared.route.Route.{Route}
 use Rattle.rc_route.specs.declared.route.Source.TheVariants.{Ebgp, Ospf}
 use Rattle.rc_route.specs.declared.state.RouterState.{RouterState}
 use Rattle.rc_bgp.specs.Candidates.{best_paths, candidates}
+use Rattle.rc_bgp.specs.Learning.{learned_route}
 use Rattle.rc_bgp.specs.Nets.{ip, subnet, gigabit, gigabit_1, on, peer, process, router, two, three, external, internal, connected, static, knows, ninth}
 use Rattle.rc_bgp.specs.Originating.{by_networks}
 use Rattle.rc_bgp.specs.declared.session.Session.{Session}
@@ -148,3 +149,22 @@ pub all_for_one_prefix : candidates crowded_net ([] ∷ (external 0 (ip 12 1) 1 
     ≡ ninth 1 ByNetwork ∷ heard_by_r2 ∷ record (ninth 2 External) { next_hop = ip 23 3; weight = 0; as_path = 65003 ∷ []; sender_id = ip 23 3; neighbor = ip 23 3 } ∷ []
 unfolding candidates hops_within
 all_for_one_prefix = refl
+
+-- ---- before R1 has chosen R2 hears nothing, and R1 has its own path; what R2 hears then makes its route
+abbrev chosen : List BgpPath → List RouterState
+chosen paths = knows (connected 0 (subnet 9) 1 ∷ []) paths ∷ knows (connected 1 (subnet 12) 0 ∷ []) [] ∷ []
+
+pub r1_begins : candidates plain one_session (chosen []) 0 ≡ ninth 0 ByNetwork ∷ []
+unfolding candidates hops_within
+r1_begins = refl
+
+pub r2_begins : candidates plain one_session (chosen []) 1 ≡ []
+unfolding candidates hops_within
+r2_begins = refl
+
+pub r2_goes_on : candidates plain one_session (chosen (ninth 0 ByNetwork ∷ [])) 1 ≡ heard_by_r2 ∷ []
+unfolding candidates hops_within
+r2_goes_on = refl
+
+pub route_of_r2 : learned_route heard_by_r2 ≡ Some (record { prefix = subnet 9; source = Ebgp; distance = 20; metric = 0; hops = Via (ip 12 1) None ∷ [] })
+route_of_r2 = refl

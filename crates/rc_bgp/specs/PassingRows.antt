@@ -1,5 +1,5 @@
 -- Worked cases of export, import and the routes of best paths, each by computation.
-use Rattle.std.specs.Prelude.{◌≡◌, ℕ, true, List, [], ◌∷◌, Option, Some, None, codes, refl}
+use Rattle.std.specs.Prelude.{◌≡◌, ℕ, true, List, [], ◌∷◌, Option, Some, None, option_and_then, codes, refl}
 use Rattle.rc_base.specs.declared.origin.Origin.TheVariants.{Egp, Incomplete}
 use Rattle.rc_config.specs.PrefixList.{no_lines as no_prefix_lines, with_line}
 use Rattle.rc_config.specs.RouteMap.{fresh_entry}
@@ -159,6 +159,10 @@ list_in_denies = refl
 
 pub map_in_rejects : taken (record plain { map_in = named (codes "NONE") }) out learned ≡ None
 map_in_rejects = refl
+
+-- what router 0 originates, sent and taken
+pub sent_and_taken : option_and_then (taken plain out) (sent plain out (ninth 0 Network)) ≡ Some (record (ninth 0 External) { next_hop = ip 12 1; weight = 0; as_path = 65001 ∷ []; sender_id = ip 12 1; neighbor = ip 12 1 })
+sent_and_taken = refl
 
 -- ---- the default path
 

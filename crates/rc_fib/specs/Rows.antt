@@ -1,5 +1,5 @@
 -- Worked cases of the definitions, each by computation.
-use Rattle.std.specs.Prelude.{◌≡◌, ℕ, zero, suc, ◌+◌, ◌*◌, true, false, List, [], ◌∷◌, ◌++◌, Some, None, refl}
+use Rattle.std.specs.Prelude.{◌≡◌, ℕ, zero, suc, ◌+◌, ◌*◌, true, false, List, [], ◌∷◌, ◌++◌, Some, None, slice_get, refl}
 use Rattle.rc_base.specs.declared.position.IfId.{IfId}
 use Rattle.rc_route.specs.declared.route.Hop.{Hop}
 use Rattle.rc_route.specs.declared.route.Hop.TheVariants.{Null, Dev, Via}
@@ -127,3 +127,47 @@ resolves_over_an_interface = refl
 pub null_does_not_resolve : resolves (resolved table) (address 0 5) ≡ false
 unfolding hops_within
 null_does_not_resolve = refl
+
+-- ---- the parts of a prepared table: a default route by way of 10.0.0.1, 10.0.0.0/8 to nowhere, 10.0.0.0/24 connected, and 10.0.1.0/24 by way of 10.0.0.9
+
+abbrev ninth : Hop
+ninth = Via (address 0 9) (Some (port 2))
+
+abbrev nested : List Route
+nested = route 0 0 (via 0 ∷ []) ∷ route (address 0 0) 8 (Null ∷ []) ∷ connected ∷ subnet 1 (Via (address 0 9) None ∷ []) ∷ []
+
+-- an entry for each route, in order, each with one hop
+pub an_entry_for_each : resolved nested
+    ≡ record { prefix = record { network = 0; len = 0 }; hops = over 0 2 ∷ [] }
+    ∷ record { prefix = record { network = address 0 0; len = 8 }; hops = Null ∷ [] }
+    ∷ record { prefix = record { network = address 0 0; len = 24 }; hops = Dev (port 2) ∷ [] }
+    ∷ record { prefix = record { network = address 1 0; len = 24 }; hops = ninth ∷ [] } ∷ []
+unfolding hops_within
+an_entry_for_each = refl
+
+pub the_last_one : slice_get (resolved nested) 3 ≡ Some (record { prefix = record { network = address 1 0; len = 24 }; hops = ninth ∷ [] })
+unfolding hops_within
+the_last_one = refl
+
+pub none_behind_it : slice_get (resolved nested) 4 ≡ None
+none_behind_it = refl
+
+pub through_the_connected_one : resolved_hops (resolved nested) (address 1 5) ≡ ninth ∷ []
+unfolding hops_within
+through_the_connected_one = refl
+
+pub to_nowhere : resolved_hops (resolved nested) (address 2 5) ≡ Null ∷ []
+unfolding hops_within
+to_nowhere = refl
+
+pub by_eight_bits : resolved_prefix (resolved nested) (address 2 5) ≡ Some (record { network = address 0 0; len = 8 })
+by_eight_bits = refl
+
+-- 192.168.0.1 by the default route, and 10.255.0.1 to nowhere
+pub resolves_by_default : resolves (resolved nested) 3232235521 ≡ true
+unfolding hops_within
+resolves_by_default = refl
+
+pub nowhere_does_not_resolve : resolves (resolved nested) 184483841 ≡ false
+unfolding hops_within
+nowhere_does_not_resolve = refl

@@ -1,5 +1,5 @@
 -- Worked cases of access lists, each by computation.
-use Rattle.std.specs.Prelude.{◌≡◌, ℕ, ◌+◌, ◌*◌, true, false, List, [], ◌∷◌, Some, None, codes, refl}
+use Rattle.std.specs.Prelude.{◌≡◌, ℕ, ◌+◌, ◌*◌, true, false, List, [], ◌∷◌, map, Some, None, codes, refl}
 use Rattle.rc_base.specs.declared.header.Header.{Header}
 use Rattle.rc_config.specs.declared.access_list.Action.{Action}
 use Rattle.rc_config.specs.declared.access_list.Action.TheVariants.{Permit, Deny}
@@ -7,9 +7,10 @@ use Rattle.rc_config.specs.declared.access_list.AddressTest.{AddressTest}
 use Rattle.rc_config.specs.declared.access_list.AccessList.{AccessList}
 use Rattle.rc_config.specs.declared.access_list.AccessListKind.TheVariants.{Extended}
 use Rattle.rc_config.specs.declared.access_list.AccessListLine.{AccessListLine}
+use Rattle.rc_config.specs.declared.access_list.PortTest.{PortTest}
 use Rattle.rc_config.specs.declared.access_list.PortTest.TheVariants.{Any, Equal, NotEqual, Below, Above, Within}
 use Rattle.rc_config.specs.declared.access_list.ProtocolTest.TheVariants as protocol
-use Rattle.rc_config.specs.AccessList.{any_address, host_address, standard_line}
+use Rattle.rc_config.specs.AccessList.{any_address, host_address, no_lines, standard_line, with_line}
 use Rattle.rc_filter.specs.Verdict.{same_bits, matches, matches_address, matches_protocol, matches_port, verdict, passes}
 
 -- a.b.c.d
@@ -237,3 +238,23 @@ missing_list_passes = refl
 
 pub no_group_passes : passes lists None (packet 6 40000 23) ≡ true
 no_group_passes = refl
+
+-- ---- a list as a file puts it together: tcp to port 22 is denied by line 10, written behind line 20 for all tcp
+abbrev tcp : ℕ → Action → PortTest → AccessListLine
+tcp n action test = record { sequence = n; action = action; protocol = protocol.Is 6; source = any_address; source_port = Any; destination = any_address; destination_port = test }
+
+abbrev no_ssh : AccessList
+no_ssh = with_line (with_line (no_lines Extended) (tcp 20 Permit Any)) (tcp 10 Deny (Equal (22 ∷ [])))
+
+pub lower_number_first : verdict no_ssh (packet 6 40000 22) ≡ false
+unfolding matches same_bits
+lower_number_first = refl
+
+pub other_ports_behind : verdict no_ssh (packet 6 40000 23) ≡ true
+unfolding matches same_bits
+other_ports_behind = refl
+
+-- port 22 at the edges of the tests of a line
+pub edges_at_22 : map (λ test. matches (tcp 10 Permit test) (packet 6 40000 22)) (Below 23 ∷ Below 22 ∷ Above 21 ∷ Above 22 ∷ Within 22 22 ∷ Within 20 21 ∷ []) ≡ true ∷ false ∷ true ∷ false ∷ true ∷ false ∷ []
+unfolding matches same_bits
+edges_at_22 = refl

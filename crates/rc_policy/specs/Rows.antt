@@ -1,10 +1,11 @@
 -- Worked cases of prefix lists, community lists and route maps, each by computation.
-use Rattle.std.specs.Prelude.{◌≡◌, ℕ, ◌+◌, ◌*◌, true, false, List, [], ◌∷◌, Option, Some, None, codes, refl}
+use Rattle.std.specs.Prelude.{◌≡◌, ℕ, ◌+◌, ◌*◌, true, false, List, [], ◌∷◌, fold, Option, Some, None, codes, refl}
+use Rattle.rc_base.specs.Communities.{community_set}
 use Rattle.rc_base.specs.Prefix.{Cidr, prefix_at}
 use Rattle.rc_base.specs.declared.origin.Origin.TheVariants.{Igp, Incomplete}
 use Rattle.rc_config.specs.AccessList.{host_address, standard_line}
 use Rattle.rc_config.specs.PrefixList.{no_lines, with_line}
-use Rattle.rc_config.specs.RouteMap.{fresh_entry, opened, no_entries}
+use Rattle.rc_config.specs.RouteMap.{fresh_entry, opened, no_entries, with_line as with_map_line}
 use Rattle.rc_config.specs.Sets.{no_sets}
 use Rattle.rc_config.specs.declared.community_list.CommunityLine.{CommunityLine}
 use Rattle.rc_config.specs.declared.community_list.CommunityList.{CommunityList}
@@ -13,6 +14,9 @@ use Rattle.rc_config.specs.declared.access_list.Action.TheVariants.{Permit, Deny
 use Rattle.rc_config.specs.declared.access_list.AccessList.{AccessList}
 use Rattle.rc_config.specs.declared.access_list.AccessListKind.TheVariants.{Standard}
 use Rattle.rc_config.specs.declared.lists.Lists.{Lists}
+use Rattle.rc_config.specs.declared.map_line.MapLine.TheVariants.{Match, Set}
+use Rattle.rc_config.specs.declared.map_line.MatchKind.TheVariants as kind
+use Rattle.rc_config.specs.declared.map_line.SetLine.TheVariants as set
 use Rattle.rc_config.specs.declared.prefix_list.PrefixLine.{PrefixLine}
 use Rattle.rc_config.specs.declared.prefix_list.PrefixList.{PrefixList}
 use Rattle.rc_config.specs.declared.route_map.MapEntry.{MapEntry}
@@ -382,3 +386,34 @@ denied_by_a_list = refl
 -- and an entry that denies what a list permits rejects it
 pub deny_what_is_permitted : route_map lists (map_of (record (fresh_entry 10 Deny) { prefix_lists = named (codes "NINTH") ∷ [] } ∷ fresh_entry 20 Permit ∷ [])) route ≡ None
 deny_what_is_permitted = refl
+
+-- ---- as a file puts them together
+
+-- the communities of a line, and of a route, are sets: their order counts for nothing
+pub in_any_order : community_list_permits (communities (permit (community_set (c2 ∷ c1 ∷ [])) ∷ [])) (community_set (c1 ∷ c2 ∷ 5 ∷ [])) ≡ true
+in_any_order = refl
+
+pub one_of_two : community_list_permits (communities (permit (community_set (c2 ∷ c1 ∷ [])) ∷ [])) (community_set (c1 ∷ 5 ∷ [])) ≡ false
+one_of_two = refl
+
+-- access-list 5 permit 10.9.0.0 0.0.255.255, alone
+abbrev by_source : AccessList
+by_source = record { kind = Standard; lines = standard_line 10 Permit (record { addr = 10 * 16777216 + 9 * 65536; wildcard = 65535 }) ∷ [] }
+
+pub source_permits : access_list_permits by_source (10 * 16777216 + 9 * 65536 + 256) ≡ true
+unfolding same_bits
+source_permits = refl
+
+pub other_source : access_list_permits by_source (10 * 16777216 + 10 * 65536 + 256) ≡ false
+unfolding same_bits
+other_source = refl
+
+-- route-map M permit 10, and its three lines
+abbrev joining : RouteMap
+joining = fold (λ m l. with_map_line m 10 l) (opened no_entries 10 Permit) (Match kind.CommunityList (codes "7" ∷ []) 2 ∷ Set (set.Communities (c2 ∷ []) true) ∷ Set (set.Prepend (65001 ∷ 65001 ∷ [])) ∷ [])
+
+pub lines_join_and_prepend : route_map lists joining route ≡ Some (record route { as_path = 65001 ∷ 65001 ∷ 65003 ∷ []; communities = c1 ∷ c2 ∷ [] })
+lines_join_and_prepend = refl
+
+pub lines_reject : route_map lists joining plain ≡ None
+lines_reject = refl

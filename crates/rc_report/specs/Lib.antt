@@ -3,3 +3,4 @@ pub mod RouteText
 pub mod WalkText
 pub mod CubeText
 pub mod CubeRows
+pub mod RouteRows

@@ -1,18 +1,28 @@
-//! States that differ in one field, copies, and the orders of hops and sources.
-ghost use Rattle.std.specs.Prelude.{◌≡◌, ◌≤◌, ◌∷◌, ◌++◌, [], IfOk};
+//! States that differ in one field or in what they lack, and copies.
+ghost use Rattle.std.specs.Prelude.{◌≤◌};
 
 use rc_as_path::AsPath;
 use rc_base::{Addr, Communities, IfId, Items, Origin, Prefix, RouterId};
 use rc_route::{
-    BgpPath, Hop, Hops, PathSource, Route, RouterState, Source, State, Table, compare_hops,
-    compare_path_sources, compare_sources, copy, equal, same_hop, same_table,
+    BgpPath, Hop, Hops, PathSource, Route, RouterState, Source, State, Table, copy, equal,
+    same_table,
 };
 use std::alloc::{AllocError, Global};
-use std::process::Abort;
 use std::test::Fail;
 
 /// How many fields a route and a path have together.
 const FIELDS: usize = 18;
+
+/// Where no field is changed.
+const SAME: usize = 18;
+
+const NO_ROUTE: usize = 19;
+
+const NO_PATH: usize = 20;
+
+const NO_ROUTER: usize = 21;
+
+const TWO_ROUTERS: usize = 22;
 
 /// 2 at the field that is changed, else 1.
 fn value_at(field: usize, changed: usize) -> u8
@@ -32,27 +42,6 @@ fn addr_at(field: usize, changed: usize) -> Addr {
 
 fn numbers_at(alloc: Global, field: usize, changed: usize) -> Result<Vec<u32>, AllocError> {
     Vec::from_slice(alloc, &[65_000, u32::from(value_at(field, changed))])
-}
-
-fn table_with(mut table: Table, route: Route) -> Result<Table, AllocError>
-    ensures { IfOk result (λ made. made ≡ table ++ route ∷ []) }
-{
-    table.push(route)?;
-    Ok(table)
-}
-
-fn paths_with(mut paths: Items<BgpPath>, path: BgpPath) -> Result<Items<BgpPath>, AllocError>
-    ensures { IfOk result (λ made. made ≡ paths ++ path ∷ []) }
-{
-    paths.push(path)?;
-    Ok(paths)
-}
-
-fn state_with(mut state: State, router: RouterState) -> Result<State, AllocError>
-    ensures { IfOk result (λ made. made ≡ state ++ router ∷ []) }
-{
-    state.push(router)?;
-    Ok(state)
 }
 
 /// A route whose fields are all 1 but the one that is changed, from 0 to 4.
@@ -120,15 +109,49 @@ fn path_at(alloc: Global, changed: usize) -> Result<BgpPath, Fail> {
     })
 }
 
-/// What a router knows: one route and one path, all 1 but the field that is changed.
-fn router_at(alloc: Global, changed: usize) -> Result<RouterState, Fail> {
-    let table = table_with(Items::new(alloc), route_at(alloc, changed)?)?;
-    let paths = paths_with(Items::new(alloc), path_at(alloc, changed)?)?;
-    Ok(RouterState { table, paths })
+/// Puts that route, where it isn't what is lacking.
+fn put_route(table: &mut Table, alloc: Global, changed: usize) -> Result<(), Fail> {
+    if changed != NO_ROUTE {
+        table.push(route_at(alloc, changed)?)?;
+    }
+    Ok(())
 }
 
+/// Puts that path, where it isn't what is lacking.
+fn put_path(paths: &mut Items<BgpPath>, alloc: Global, changed: usize) -> Result<(), Fail> {
+    if changed != NO_PATH {
+        paths.push(path_at(alloc, changed)?)?;
+    }
+    Ok(())
+}
+
+/// What a router knows: one route and one path, all 1 but the field that is changed.
+fn router_at(alloc: Global, changed: usize) -> Result<RouterState, Fail> {
+    let mut router = RouterState {
+        table: Items::new(alloc),
+        paths: Items::new(alloc),
+    };
+    put_route(&mut router.table, alloc, changed)?;
+    put_path(&mut router.paths, alloc, changed)?;
+    Ok(router)
+}
+
+/// Puts that router, where it isn't what is lacking.
+fn put_router(state: &mut State, alloc: Global, changed: usize) -> Result<(), Fail> {
+    if changed != NO_ROUTER {
+        state.push(router_at(alloc, changed)?)?;
+    }
+    Ok(())
+}
+
+/// The state of that router, or of two of them.
 fn state_of(alloc: Global, changed: usize) -> Result<State, Fail> {
-    Ok(state_with(Items::new(alloc), router_at(alloc, changed)?)?)
+    let mut state = Items::new(alloc);
+    put_router(&mut state, alloc, changed)?;
+    if changed == TWO_ROUTERS {
+        put_router(&mut state, alloc, SAME)?;
+    }
+    Ok(state)
 }
 
 /// Whether two states are equal, both ways.
@@ -141,175 +164,39 @@ fn differ(one: &State, other: &State) -> bool {
     !equal(one, other) && !equal(other, one)
 }
 
-/// Whether a state with a field changed is another, and equal to one that is made again.
+/// Whether a state with a change is another, where there is one, and equal to one that is made again.
 fn is_told_by(alloc: Global, state: &State, changed: usize) -> Result<bool, Fail> {
     let other = state_of(alloc, changed)?;
     let again = state_of(alloc, changed)?;
-    Ok(differ(state, &other) && are_equal(&other, &again))
+    Ok(differ(state, &other) == (changed != SAME) && are_equal(&other, &again))
 }
 
-/// Asserts that a state is told by each of its fields.
-fn check_fields(rt: &impl Abort, alloc: Global, state: &State) -> Result<(), Fail> {
-    for changed in 0..FIELDS {
-        let is_told = is_told_by(alloc, state, changed)?;
-        assert!(rt; is_told, "field {changed}");
+/// A state is told by each of its fields, and by what it lacks.
+#[test]
+fn states_differ_in_all_that_they_hold(rt: HostRuntime) -> Result<(), Fail> {
+    let state = state_of(rt.alloc(), SAME)?;
+    for changed in 0..=TWO_ROUTERS {
+        let is_told = is_told_by(rt.alloc(), &state, changed)?;
+        assert!(rt; is_told, "change {changed}");
     }
     Ok(())
 }
 
-#[test]
-fn states_differ_in_each_field(rt: HostRuntime) -> Result<(), Fail> {
-    let state = state_of(rt.alloc(), FIELDS)?;
-    let again = state_of(rt.alloc(), FIELDS)?;
-    assert!(rt; are_equal(&state, &again));
-    check_fields(&rt, rt.alloc(), &state)
-}
-
-/// A state of one router without its route.
-fn without_route(alloc: Global) -> Result<State, Fail> {
-    let mut router = router_at(alloc, FIELDS)?;
-    router.table = Items::new(alloc);
-    Ok(state_with(Items::new(alloc), router)?)
-}
-
-/// A state of one router without its path.
-fn without_path(alloc: Global) -> Result<State, Fail> {
-    let mut router = router_at(alloc, FIELDS)?;
-    router.paths = Items::new(alloc);
-    Ok(state_with(Items::new(alloc), router)?)
-}
-
-/// A state of two routers.
-fn longer(alloc: Global) -> Result<State, Fail> {
-    let second = router_at(alloc, FIELDS)?;
-    Ok(state_with(state_of(alloc, FIELDS)?, second)?)
-}
-
-#[test]
-fn states_differ_in_what_they_lack(rt: HostRuntime) -> Result<(), Fail> {
-    let state = state_of(rt.alloc(), FIELDS)?;
-    assert!(rt;
-        differ(&state, &without_route(rt.alloc())?)
-            && differ(&state, &without_path(rt.alloc())?)
-            && differ(&state, &Items::new(rt.alloc()))
-            && differ(&state, &longer(rt.alloc())?)
-    );
-    Ok(())
-}
-
-#[test]
-fn tables_are_the_same(rt: HostRuntime) -> Result<(), Fail> {
-    let router = router_at(rt.alloc(), FIELDS)?;
-    let other = router_at(rt.alloc(), 4)?;
-    assert!(rt;
-        same_table(&router.table, &router.table) && !same_table(&router.table, &other.table)
-    );
-    Ok(())
-}
-
-/// Whether a copy of what a router knows where a field is changed is equal to it.
-fn is_copied(alloc: Global, changed: usize) -> Result<bool, Fail> {
+/// Whether a copy of what a router knows where a field is changed is equal to it, and has the table of another one where that field is none
+/// of a route.
+fn is_copied(alloc: Global, like: &RouterState, changed: usize) -> Result<bool, Fail> {
     let router = router_at(alloc, changed)?;
     let copied = copy(alloc, &router)?;
-    Ok(copied == router && copied.table.len() == 1 && copied.paths.len() == 1)
+    Ok(copied == router && same_table(&copied.table, &like.table) == (changed > 4))
 }
 
+/// The fields 0 to 4 are those of the route.
 #[test]
 fn copies_are_equal(rt: HostRuntime) -> Result<(), Fail> {
-    let alloc = rt.alloc();
-    assert!(rt;
-        is_copied(alloc, FIELDS)?
-            && is_copied(alloc, 4)?
-            && is_copied(alloc, 11)?
-            && is_copied(alloc, 12)?
-    );
+    let like = router_at(rt.alloc(), SAME)?;
+    for changed in 0..=FIELDS {
+        let is_copied = is_copied(rt.alloc(), &like, changed)?;
+        assert!(rt; is_copied, "field {changed}");
+    }
     Ok(())
-}
-
-fn device(index: usize) -> IfId {
-    IfId {
-        router: RouterId::at(0),
-        index,
-    }
-}
-
-/// Whether these stand in their order.
-fn are_hops_in_order(hops: &[Hop]) -> bool {
-    for (index, hop) in hops.iter().enumerate() {
-        for (other_index, other) in hops.iter().enumerate() {
-            if compare_hops(hop, other) != index.cmp(&other_index) {
-                return false;
-            }
-        }
-    }
-    true
-}
-
-#[test]
-fn hops_in_order(rt: HostRuntime) {
-    let hops = [
-        Hop::Null,
-        Hop::Dev(device(0)),
-        Hop::Dev(device(2)),
-        Hop::Via(Addr::new(0x0a00_0001), None),
-        Hop::Via(Addr::new(0x0a00_0001), Some(device(0))),
-        Hop::Via(Addr::new(0x0a00_0001), Some(device(2))),
-        Hop::Via(Addr::new(0xc0a8_0001), None),
-        Hop::Via(Addr::new(0xc0a8_0001), Some(device(1))),
-    ];
-    assert!(rt; are_hops_in_order(&hops));
-}
-
-const SOURCES: [Source; 8] = [
-    Source::Connected,
-    Source::Static,
-    Source::Ebgp,
-    Source::Ospf,
-    Source::OspfIa,
-    Source::OspfE1,
-    Source::OspfE2,
-    Source::Ibgp,
-];
-
-/// Whether these stand in their order.
-fn are_sources_in_order(sources: &[Source]) -> bool {
-    for (index, source) in sources.iter().enumerate() {
-        for (other_index, other) in sources.iter().enumerate() {
-            if compare_sources(*source, *other) != index.cmp(&other_index) {
-                return false;
-            }
-        }
-    }
-    true
-}
-
-#[test]
-fn sources_in_order(rt: HostRuntime) {
-    assert!(rt; are_sources_in_order(&SOURCES));
-}
-
-const PATH_SOURCES: [PathSource; 6] = [
-    PathSource::Network,
-    PathSource::Connected,
-    PathSource::Static,
-    PathSource::Ospf,
-    PathSource::External,
-    PathSource::Internal,
-];
-
-/// Whether these stand in their order.
-fn are_path_sources_in_order(sources: &[PathSource]) -> bool {
-    for (index, source) in sources.iter().enumerate() {
-        for (other_index, other) in sources.iter().enumerate() {
-            if compare_path_sources(*source, *other) != index.cmp(&other_index) {
-                return false;
-            }
-        }
-    }
-    true
-}
-
-#[test]
-fn path_sources_in_order(rt: HostRuntime) {
-    assert!(rt; are_path_sources_in_order(&PATH_SOURCES));
 }

@@ -1,6 +1,6 @@
 -- Worked cases of links, takers and own addresses, each by computation.
-use Rattle.std.specs.Prelude.{◌≡◌, ℕ, ◌+◌, ◌*◌, true, false, List, [], ◌∷◌, Some, None, codes, refl}
-use Rattle.std.specs.List.{fold}
+use Rattle.std.specs.Prelude.{◌≡◌, ℕ, ◌+◌, ◌*◌, ◌/◌, ◌%◌, ◌==◌, true, false, not, List, [], ◌∷◌, filter, map, Some, None, codes, refl}
+use Rattle.std.specs.List.{fold, range_with_len}
 use Rattle.rc_base.specs.declared.position.IfId.{IfId}
 use Rattle.rc_config.specs.declared.command.Command.{Command}
 use Rattle.rc_config.specs.declared.command.Command.TheVariants.{Interface, Address, Shutdown}
@@ -8,8 +8,8 @@ use Rattle.rc_config.specs.declared.if_type.IfType.TheVariants as types
 use Rattle.rc_config.specs.declared.router_text.RouterText.{RouterText}
 use Rattle.rc_config.specs.IfType.{type_of}
 use Rattle.rc_config.specs.Update.{after, empty}
-use Rattle.rc_topology.specs.Links.{holds, is_own, kind_of, linked, takers}
-use Rattle.rc_topology.specs.Ports.{links_of}
+use Rattle.rc_topology.specs.Links.{are_linked, holds, is_own, kind_of, linked, port_is, takers}
+use Rattle.rc_topology.specs.Ports.{is_loopback, is_serial, links_of}
 use Rattle.rc_topology.specs.Topology.{Topology}
 
 abbrev eth : List ℕ
@@ -203,3 +203,81 @@ of_tunnel = refl
 pub of_none : kind_of lan (at 3 0) ≡ None
 unfolding links_of type_of
 of_none = refl
+
+-- ---- three routers: on the first one Ethernet0 is on three subnets, a serial line leads to the second one, and Ethernet1 is shut
+
+abbrev serial : List ℕ
+serial = codes "Serial0"
+
+abbrev sites : Topology
+sites =
+    three (primary eth 1 24 ∷ secondary eth 513 24 ∷ secondary eth 257 24 ∷ primary loopback 2305 32 ∷ primary serial 2561 30 ∷ primary other 772 24 ∷ Shutdown other true ∷ [])
+    (primary eth 2 24 ∷ primary other 514 24 ∷ primary serial 2562 30 ∷ [])
+    (primary eth 259 24 ∷ secondary eth 3 24 ∷ primary loopback 9 24 ∷ primary other 2 24 ∷ primary (codes "Ethernet2") 773 24 ∷ primary (codes "Tunnel0") 2563 29 ∷ [])
+
+-- by three subnets, in position order; over the line; a loopback has no link, nor has what faces an interface that is shut, nor what isn't there
+pub links_of_sites : map (linked sites) (at 0 0 ∷ at 0 2 ∷ at 2 1 ∷ at 2 3 ∷ at 3 0 ∷ []) ≡ (at 1 0 ∷ at 1 1 ∷ at 2 0 ∷ at 2 2 ∷ []) ∷ (at 1 2 ∷ []) ∷ [] ∷ [] ∷ [] ∷ []
+unfolding links_of type_of
+links_of_sites = refl
+
+-- from either side, and never within a router
+pub linked_back : are_linked sites (at 2 0) (at 0 0) ≡ true
+unfolding links_of type_of
+linked_back = refl
+
+pub linked_within : are_linked sites (at 2 0) (at 2 2) ≡ false
+unfolding links_of type_of
+linked_within = refl
+
+-- two have 10.0.0.2; nobody on the line has it, nor a loopback's address on a subnet
+pub takers_at_sites : takers sites (at 0 0) (ten 2) ≡ at 1 0 ∷ at 2 2 ∷ []
+unfolding links_of type_of
+takers_at_sites = refl
+
+pub takers_on_the_line : takers sites (at 0 2) (ten 2) ≡ []
+unfolding links_of type_of
+takers_on_the_line = refl
+
+pub takers_of_a_loopback : takers sites (at 0 0) (ten 9) ≡ []
+unfolding links_of type_of
+takers_of_a_loopback = refl
+
+-- own: a loopback's address, one that two routers have, a secondary one; not a neighbour's, nor one of an interface that is shut, nor anything where there is no router
+pub owners_of_sites : map (λ (a : ℕ × ℕ). is_own sites a.0 (ten a.1)) ((2, 9) ∷ (1, 2) ∷ (2, 2) ∷ (0, 257) ∷ (0, 2) ∷ (0, 772) ∷ (3, 2) ∷ []) ≡ true ∷ true ∷ true ∷ true ∷ false ∷ false ∷ false ∷ []
+unfolding links_of type_of
+owners_of_sites = refl
+
+-- in a secondary subnet, up to its end; in a loopback's; not where there is no interface
+pub held_at_sites : map (λ (a : ℕ × ℕ). holds sites (at 0 a.0) (ten a.1)) ((0, 767) ∷ (0, 1023) ∷ (1, 2305) ∷ (9, 1) ∷ []) ≡ true ∷ false ∷ true ∷ false ∷ []
+unfolding links_of type_of
+held_at_sites = refl
+
+-- a tunnel has no kind, nor what is no interface
+pub kinds_at_sites : map (kind_of sites) (at 0 2 ∷ at 2 4 ∷ at 2 5 ∷ []) ≡ Some types.Serial ∷ None ∷ None ∷ []
+unfolding links_of type_of
+kinds_at_sites = refl
+
+pub serial_at_sites : map (port_is sites is_serial) (at 0 2 ∷ at 0 1 ∷ []) ≡ true ∷ false ∷ []
+unfolding links_of type_of
+serial_at_sites = refl
+
+pub loopbacks_at_sites : map (port_is sites is_loopback) (at 0 1 ∷ at 0 0 ∷ []) ≡ true ∷ false ∷ []
+unfolding links_of type_of
+loopbacks_at_sites = refl
+
+-- ---- 64 routers on one subnet, r00 to r63: each is linked with all others, and an address has its one taker
+
+abbrev crowd : Topology
+crowd = links_of (record { routers = map (λ n. (114 ∷ (48 + n / 10) ∷ (48 + n % 10) ∷ [], file (primary (codes "Vlan1") (256 + n) 16 ∷ []))) (range_with_len 0 64) })
+
+pub all_others : linked crowd (at 5 0) ≡ map (λ n. at n 0) (filter (λ n. not (n == 5)) (range_with_len 0 64))
+unfolding links_of type_of
+all_others = refl
+
+pub one_of_the_crowd : takers crowd (at 5 0) (ten 319) ≡ at 63 0 ∷ []
+unfolding links_of type_of
+one_of_the_crowd = refl
+
+pub not_itself : takers crowd (at 5 0) (ten 261) ≡ []
+unfolding links_of type_of
+not_itself = refl

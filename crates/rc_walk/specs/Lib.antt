@@ -9,3 +9,4 @@ pub mod ShortestWalks
 pub mod Search
 pub mod Searching
 pub mod ShortestRows
+pub mod PairRows

@@ -5,3 +5,4 @@ pub mod Plain
 pub mod Laws
 pub mod Rows
 pub mod Endings
+pub mod LineRows
