@@ -2,7 +2,7 @@
 use rc_base::{Addr, IfId, Items, Pos, Prefix, RouterId};
 use rc_config::{Named, Network};
 use rc_outside::MemSink;
-use rc_report::{Buffer, Part, SinkFault, put_line, put_routes, put_walk};
+use rc_report::{Buffer, Part, put_line, put_routes, put_walk};
 use rc_route::{Hop, Hops, Route, Source, Table};
 use rc_walk::{Stop, Walk};
 use std::alloc::{AllocError, Global};
@@ -34,7 +34,7 @@ fn is_put(
     written: usize,
 ) -> bool {
     let said = put_line(sink, line, &[Part::Text(text)]);
-    (said == Err(SinkFault)) == fails
+    said.is_err() == fails
         && sink.calls == calls
         && sink.bytes.len() == written
         && text.starts_with(sink.bytes.as_slice())
@@ -42,7 +42,7 @@ fn is_put(
 
 /// Whether the next line goes out whole, behind so many bytes.
 fn goes_on(line: &mut Buffer, sink: &mut MemSink, written: usize) -> bool {
-    put_line(sink, line, &[Part::Text(b"next\n")]) == Ok(())
+    put_line(sink, line, &[Part::Text(b"next\n")]).is_ok()
         && sink.bytes.len() == written.saturating_add(5)
         && sink.bytes.as_slice().ends_with(b"next\n")
 }
@@ -148,8 +148,8 @@ fn calls_for(
     let net = nowhere(alloc);
     let mut line = Buffer::new(alloc)?;
     let mut sink = MemSink::new(alloc, 2048, Vec::new(alloc))?;
-    let are_put = put_routes(&mut sink, &mut line, &net, RouterId::at(0), table) == Ok(())
-        && put_walk(&mut sink, &mut line, &net, walk) == Ok(())
+    let are_put = put_routes(&mut sink, &mut line, &net, RouterId::at(0), table).is_ok()
+        && put_walk(&mut sink, &mut line, &net, walk).is_ok()
         && sink.bytes.as_slice() == text;
     Ok(if are_put { Some(sink.calls) } else { None })
 }
