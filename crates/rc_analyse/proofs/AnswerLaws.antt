@@ -1,7 +1,7 @@
 -- Without a fault the answer is complete, and plain words are taken.
 use Rattle.std.proofs.Common.{ap, sym, ◌∙◌, ◌≡◌, inl, inr, ℕ, List, Option, Some, None, IfSome}
 use Rattle.rc_outside.specs.Folder.{File}
-use Rattle.rc_rounds.specs.declared.outcome.Outcome.TheVariants as outcome
+use Rattle.rc_route.specs.declared.outcome.Outcome.TheVariants as outcome
 use Rattle.rc_words.specs.Laws.{TakesPlainWords}
 use Rattle.rc_words.specs.Request.{request_of}
 use Rattle.rc_words.specs.declared.request.Request.{Request}

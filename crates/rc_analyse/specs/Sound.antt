@@ -2,7 +2,7 @@
 use Rattle.std.specs.Prelude.{◌≡◌}
 use Rattle.rc_config.specs.declared.network.Network.{Network}
 use Rattle.rc_rounds.specs.Rounds.{IsOutcome}
-use Rattle.rc_rounds.specs.declared.outcome.Outcome.{Outcome}
+use Rattle.rc_route.specs.declared.outcome.Outcome.{Outcome}
 use Rattle.rc_words.specs.declared.request.Limits.{Limits}
 use Rattle.rc_answers.specs.declared.findings.Findings.{Findings}
 use Rattle.rc_answers.specs.declared.findings.Findings.TheVariants.{Ended}

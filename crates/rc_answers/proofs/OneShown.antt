@@ -7,8 +7,8 @@ use Rattle.rc_base.specs.declared.position.Pos.{Pos}
 use Rattle.rc_cubes.specs.Cubes.{cubes}
 use Rattle.rc_cubes.specs.declared.cube.Cube.{Cube}
 use Rattle.rc_route.specs.declared.state.RouterState.{RouterState}
-use Rattle.rc_rounds.specs.declared.outcome.Outcome.{Outcome}
-use Rattle.rc_rounds.specs.declared.outcome.Outcome.TheVariants as outcome
+use Rattle.rc_route.specs.declared.outcome.Outcome.{Outcome}
+use Rattle.rc_route.specs.declared.outcome.Outcome.TheVariants as outcome
 use Rattle.rc_walk.proofs.ShortestLaws.{one_shortest_walk}
 use Rattle.rc_walk.proofs.WalkLaws.{one_first_walk}
 use Rattle.rc_walk.specs.Moves.{DataPlane, plane_of}

@@ -8,8 +8,8 @@ use Rattle.rc_edges.specs.Query.{reaching}
 use Rattle.rc_network.specs.declared.refusal.NetRefusal.{NetRefusal}
 use Rattle.rc_trees.specs.Recipes.{tree}
 use Rattle.rc_route.specs.declared.state.RouterState.{RouterState}
-use Rattle.rc_rounds.specs.declared.outcome.Outcome.{Outcome}
-use Rattle.rc_rounds.specs.declared.outcome.Outcome.TheVariants.{Fixed, Repeats, Limit}
+use Rattle.rc_route.specs.declared.outcome.Outcome.{Outcome}
+use Rattle.rc_route.specs.declared.outcome.Outcome.TheVariants.{Fixed, Repeats, Limit}
 use Rattle.rc_walk.specs.Moves.{DataPlane, plane_of}
 use Rattle.rc_walk.specs.Walks.{IsFirstWalk}
 use Rattle.rc_walk.specs.declared.walk.Walk.{Walk}

@@ -1,7 +1,7 @@
 -- What is put line by line, without sets of headers.
 use Rattle.std.specs.Prelude.{ℕ, List}
 use Rattle.rc_config.specs.declared.network.Network.{Network}
-use Rattle.rc_rounds.specs.declared.outcome.Outcome.{Outcome}
+use Rattle.rc_route.specs.declared.outcome.Outcome.{Outcome}
 use Rattle.rc_answers.specs.Given.{Shown, nothing, routes_of_all, routes_of, walk_of}
 use Rattle.rc_answers.specs.Texts.{shown_text}
 use Rattle.rc_answers.specs.declared.writing.Lines.{Lines}

@@ -2,8 +2,8 @@
 use Rattle.std.specs.Prelude.{length}
 use Rattle.rc_config.specs.Lawful.{IsLawful, IsPosition}
 use Rattle.rc_config.specs.declared.network.Network.{Network}
-use Rattle.rc_rounds.specs.Rounds.{IsInOrder}
-use Rattle.rc_rounds.specs.declared.outcome.Outcome.{Outcome}
+use Rattle.rc_route.specs.Outcomes.{IsInOrder}
+use Rattle.rc_route.specs.declared.outcome.Outcome.{Outcome}
 use Rattle.rc_answers.specs.declared.findings.Findings.{Findings}
 use Rattle.rc_answers.specs.declared.findings.Findings.TheVariants.{Ended}
 use Rattle.rc_answers.specs.declared.subject.Subject.{Subject}

@@ -11,8 +11,8 @@ use Rattle.rc_cubes.specs.Cubes.{cubes}
 use Rattle.rc_report.specs.CubeText.{cubes_text, shown as only}
 use Rattle.rc_report.specs.RouteText.{routes_text}
 use Rattle.rc_report.specs.WalkText.{walk_text}
-use Rattle.rc_rounds.specs.declared.outcome.Outcome.{Outcome}
-use Rattle.rc_rounds.specs.declared.outcome.Outcome.TheVariants.{Fixed, Repeats, Limit}
+use Rattle.rc_route.specs.declared.outcome.Outcome.{Outcome}
+use Rattle.rc_route.specs.declared.outcome.Outcome.TheVariants.{Fixed, Repeats, Limit}
 use Rattle.rc_route.specs.declared.state.RouterState.{RouterState}
 use Rattle.rc_words.specs.declared.request.Ask.{Ask}
 use Rattle.rc_words.specs.declared.request.Ask.TheVariants.{Routes, Trace, Reach, Sample}

@@ -13,8 +13,8 @@ use Rattle.rc_cubes.specs.declared.cube.Cube.{Cube}
 use Rattle.rc_edges.specs.Query.{query_nodes, reaching}
 use Rattle.rc_outside.specs.Sink.{appended, AppendsFront}
 use Rattle.rc_route.specs.declared.state.RouterState.{RouterState}
-use Rattle.rc_rounds.specs.declared.outcome.Outcome.{Outcome}
-use Rattle.rc_rounds.specs.declared.outcome.Outcome.TheVariants as outcome
+use Rattle.rc_route.specs.declared.outcome.Outcome.{Outcome}
+use Rattle.rc_route.specs.declared.outcome.Outcome.TheVariants as outcome
 use Rattle.rc_trees.specs.Recipes.{tree}
 use Rattle.rc_trees.specs.Trees.{Tree, same_tree}
 use Rattle.rc_walk.specs.Moves.{DataPlane, plane_of}

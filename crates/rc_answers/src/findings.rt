@@ -3,7 +3,7 @@
 use crate::Subject;
 use rc_config::Network;
 use rc_network::NetRefusal;
-use rc_rounds::Outcome;
+use rc_route::Outcome;
 
 /// What the files of a folder are found to be.
 #[derive(Drop)]

@@ -12,8 +12,7 @@ use rc_config::Network;
 use rc_network::{NetCause, NetRefusal};
 use rc_outside::Sink;
 use rc_report::{Buffer, Part, SinkFault, put_line, put_routes, put_walk};
-use rc_rounds::Outcome;
-use rc_route::State;
+use rc_route::{Outcome, State};
 use rc_walk::Walk;
 use rc_words::{Ask, PlaceName, WordText};
 

@@ -2,3 +2,4 @@ pub mod Hops
 pub mod Kept
 pub mod Paths
 pub mod Tables
+pub mod Outcomes

@@ -1,4 +1,4 @@
-use Rattle.rc_rounds.specs.declared.outcome.Outcome.TheVariants.{Fixed}
+use Rattle.rc_route.specs.declared.outcome.Outcome.TheVariants.{Fixed}
 use Rattle.rc_answers.proofs.PutLaws.{router_put}
 use Rattle.rc_answers.proofs.answering.answer_fixed.Goals as goal
 

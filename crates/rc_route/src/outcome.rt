@@ -1,8 +1,8 @@
-//! How the rounds end.
+//! How rounds of states end.
 
-use rc_route::State;
+use crate::State;
 
-/// How the rounds end.
+/// How the rounds of states of a network end. Which end they have is said where they are made.
 #[derive(Drop)]
 pub enum Outcome {
     /// The state after this round is that after the round before: a fixed point.
