@@ -7,7 +7,7 @@
 
 ghost use Rattle.std.specs.Prelude.{◌≡◌};
 ghost use Rattle.std.specs.Process.{exit_status};
-ghost use Rattle.rc_analyse.specs.Codes.{status_code};
+ghost use Rattle.rc_answers.specs.Codes.{status_code};
 
 use rc_analyse::{Status, run};
 use rc_outside::OpenGate;

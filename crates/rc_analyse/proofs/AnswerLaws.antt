@@ -1,15 +1,16 @@
 -- Without a fault the answer is complete, and plain words are taken.
 use Rattle.std.proofs.Common.{ap, sym, ◌∙◌, ◌≡◌, inl, inr, ℕ, List, Option, Some, None, IfSome}
 use Rattle.rc_outside.specs.Folder.{File}
-use Rattle.rc_rounds.specs.declared.outcome.Outcome.TheVariants as outcome
+use Rattle.rc_route.specs.declared.outcome.Outcome.TheVariants as outcome
 use Rattle.rc_words.specs.Laws.{TakesPlainWords}
 use Rattle.rc_words.specs.Request.{request_of}
 use Rattle.rc_words.specs.declared.request.Request.{Request}
-use Rattle.rc_analyse.specs.Answer.{AreFound, IsLacking, IsLackingFor, IsPutOf, IsAnswer, IsComplete, IsCompleteWithout, IsTakenWhenPlain, status_of}
-use Rattle.rc_analyse.specs.Given.{Given, refused, no_place, ended}
-use Rattle.rc_analyse.specs.declared.findings.Findings.{Findings}
-use Rattle.rc_analyse.specs.declared.status.Status.{Status}
-use Rattle.rc_analyse.specs.declared.status.Status.TheVariants.{Done, Refused, Usage, Repeats, Limit, Nodes, Source, Sink, Memory, NoPlace}
+use Rattle.rc_answers.specs.Written.{IsLackingFor, IsPutOf, status_of}
+use Rattle.rc_analyse.specs.Answer.{AreFound, IsLacking, IsAnswer, IsComplete, IsCompleteWithout, IsTakenWhenPlain}
+use Rattle.rc_answers.specs.Given.{Given, refused, no_place, ended}
+use Rattle.rc_answers.specs.declared.findings.Findings.{Findings}
+use Rattle.rc_answers.specs.declared.status.Status.{Status}
+use Rattle.rc_answers.specs.declared.status.Status.TheVariants.{Done, Refused, Usage, Repeats, Limit, Nodes, Source, Sink, Memory, NoPlace}
 
 -- what was found lacks what the run lacks
 lacks : (files : List File) (r : Request) (f : Findings) (answer : Status) → AreFound files r f → IsLackingFor r.limits.nodes f answer → IsLacking files r answer

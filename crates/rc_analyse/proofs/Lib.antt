@@ -1,9 +1,5 @@
 mod Listed
 mod FileFronts
 mod ReadLaws
-mod RouteLaws
 mod AnswerLaws
 mod OneAnswer
-mod SubjectLaws
-mod PutLaws
-mod ExampleLaws

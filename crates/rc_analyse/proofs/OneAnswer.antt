@@ -1,5 +1,5 @@
 -- The files of a folder have one network, and give one answer.
-use Rattle.std.proofs.Common.{refl, ◌≡◌, ◌∙◌, inl, inr, sym, ap, subst, ℕ, Bool, true, false, List, [], ◌∷◌, length, take, nat_lt, filter, Some, None, Result, Ok, Err}
+use Rattle.std.proofs.Common.{refl, ◌≡◌, ◌∙◌, sym, ap, subst, ℕ, Bool, true, false, List, length, nat_lt, filter, Some, None, Result, Ok, Err}
 use Rattle.std.specs.Option.{unwrap_or}
 use Rattle.std.proofs.lemmas.Option.{none-some}
 use Rattle.rc_base.proofs.SortedLaws.{one_sorted_list}
@@ -8,30 +8,17 @@ use Rattle.rc_config.specs.declared.network.Network.{Network}
 use Rattle.rc_network.proofs.OneNetwork.{one_network}
 use Rattle.rc_network.specs.Build.{Model}
 use Rattle.rc_network.specs.declared.refusal.NetRefusal.{NetRefusal}
-use Rattle.rc_base.specs.declared.ending.Ends.{Ends}
-use Rattle.rc_base.specs.declared.header.Header.{Header}
-use Rattle.rc_base.specs.declared.position.Pos.{Pos}
-use Rattle.rc_cubes.specs.Cubes.{cubes}
-use Rattle.rc_cubes.specs.declared.cube.Cube.{Cube}
 use Rattle.rc_outside.specs.Folder.{File}
-use Rattle.rc_route.specs.declared.state.RouterState.{RouterState}
 use Rattle.rc_rounds.proofs.OutcomeLaws.{one_outcome}
 use Rattle.rc_rounds.specs.Rounds.{IsOutcome}
-use Rattle.rc_rounds.specs.declared.outcome.Outcome.{Outcome}
-use Rattle.rc_rounds.specs.declared.outcome.Outcome.TheVariants as outcome
-use Rattle.rc_walk.proofs.ShortestLaws.{one_shortest_walk}
-use Rattle.rc_walk.proofs.WalkLaws.{one_first_walk}
-use Rattle.rc_walk.specs.Moves.{DataPlane, plane_of}
-use Rattle.rc_walk.specs.declared.walk.Walk.{Walk}
 use Rattle.rc_words.specs.declared.request.Request.{Request}
 use Rattle.rc_analyse.specs.Net.{most_files, models_of, bytes_in, IsNet, IsNetOfModels, IsNetOf, IsNetOfFew, IsNetOfConfigs, HasOneNet}
-use Rattle.rc_analyse.specs.Answer.{AreExamples, AreFound, AreWalksOf, IsGivenBy, IsShown, IsShownAtFixed, HasOneAnswer, dir_of, reaching_set}
-use Rattle.rc_analyse.specs.Given.{Given, ended, Shown, walk_of, cubes_of}
-use Rattle.rc_analyse.specs.Subject.{subject_of}
-use Rattle.rc_analyse.specs.declared.findings.Findings.{Findings}
-use Rattle.rc_analyse.specs.declared.findings.Findings.TheVariants as found
-use Rattle.rc_analyse.specs.declared.subject.Subject.{Subject}
-use Rattle.rc_analyse.specs.declared.subject.Subject.TheVariants.{AllRouters, OneRouter, Packet, Packets, Made}
+use Rattle.rc_answers.proofs.OneShown.{given_by}
+use Rattle.rc_answers.specs.Written.{IsGivenBy}
+use Rattle.rc_analyse.specs.Answer.{AreFound, HasOneAnswer, dir_of}
+use Rattle.rc_answers.specs.Subject.{subject_of}
+use Rattle.rc_answers.specs.declared.findings.Findings.{Findings}
+use Rattle.rc_answers.specs.declared.findings.Findings.TheVariants as found
 
 abbrev result_or : Result Network NetRefusal → Network → Network
 result_or (Ok net) other = net
@@ -61,42 +48,7 @@ one_net dir files this that h g =
     let here : IsNetOfConfigs (bytes_in dir files) (filter is_config g.names) this = subst (λ ns. IsNetOfConfigs (bytes_in dir files) (filter is_config ns) this) names h.is in
     net_of_few (nat_lt most_files (length (filter is_config g.names))) (models_of (bytes_in dir files) (filter is_config g.names)) this that here g.is
 
--- ---- what is shown
-
-one_example : (plane : DataPlane) (q : Pos) (ends : Ends) (h : Header) (these those : List Walk) → AreWalksOf plane q ends h these → AreWalksOf plane q ends h those → these ≡ those
-one_example plane q ends h these those (inl (w, short, is)) (inl (v, short_too, is_too)) = is ∙ ap (λ x. x ∷ []) (one_shortest_walk plane h ends q w v short short_too) ∙ sym is_too
-one_example plane q ends h these those (inl (w, short, is)) (inr (none, is_too)) = absurd (none w short.choices short.walk)
-one_example plane q ends h these those (inr (none, is)) (inl (v, short, is_too)) = absurd (none v short.choices short.walk)
-one_example plane q ends h these those (inr (none, is)) (inr (none_too, is_too)) = is ∙ sym is_too
-
-all_examples : (plane : DataPlane) (q : Pos) (ends : Ends) (cs : List Cube) (these those : List (List Walk)) → AreExamples plane q ends cs these → AreExamples plane q ends cs those → these ≡ those
-all_examples plane q ends [] these those h g = h ∙ sym g
-all_examples plane q ends (c ∷ cs) these those (walks, rest, is, own, others) (walks_too, rest_too, is_too, own_too, others_too) =
-    let same : walks ≡ walks_too = one_example plane q ends c.value walks walks_too own own_too in
-    let same_rest : rest ≡ rest_too = all_examples plane q ends cs rest rest_too others others_too in
-    is ∙ (λ i. same i ∷ same_rest i) ∙ sym is_too
-
-module _ (net : Network) where
-  shown_at_fixed : (state : List RouterState) (subject : Subject) (this that : Shown) → IsShownAtFixed net state subject this → IsShownAtFixed net state subject that → this ≡ that
-  shown_at_fixed state AllRouters this that h g = h ∙ sym g
-  shown_at_fixed state (OneRouter r) this that h g = h ∙ sym g
-  shown_at_fixed state (Packet position header) this that (walk, first, is) (other, first_too, is_too) = is ∙ ap walk_of (one_first_walk (plane_of net state) header position walk other first first_too) ∙ sym is_too
-  shown_at_fixed state (Packets position ends examples) this that (walks, are, is) (others, are_too, is_too) =
-      is ∙ ap (cubes_of (reaching_set net state position ends)) (all_examples (plane_of net state) position ends (take examples (cubes (reaching_set net state position ends))) walks others are are_too) ∙ sym is_too
-  shown_at_fixed state (Made position) this that h g = h ∙ sym g
-
-  shown_after : (o : Outcome) (subject : Subject) (this that : Shown) → IsShown net o subject this → IsShown net o subject that → this ≡ that
-  shown_after (outcome.Fixed k state) subject this that h g = shown_at_fixed state subject this that h g
-  shown_after (outcome.Repeats i k) subject this that h g = h ∙ sym g
-  shown_after (outcome.Limit n) subject this that h g = h ∙ sym g
-
 -- ---- what is found, and what it gives
-
-given_by : (f : Findings) (this that : Given) → IsGivenBy f this → IsGivenBy f that → this ≡ that
-given_by (found.Refused refusal) this that h g = h ∙ sym g
-given_by found.NoPlace this that h g = h ∙ sym g
-given_by (found.Ended net o subject) this that (shown, is_shown, is) (other, is_shown_too, is_too) =
-    is ∙ ap (ended net o) (shown_after net o subject shown other is_shown is_shown_too) ∙ sym is_too
 
 module _ (files : List File) (r : Request) where
   abbrev dir : List ℕ

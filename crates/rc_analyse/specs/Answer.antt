@@ -1,45 +1,24 @@
 -- What is answered to words and files: a status and a text.
-use Rattle.std.specs.Prelude.{◌≡◌, ◌⊎◌, ℕ, ◌<◌, Bool, List, [], ◌∷◌, take, Option, Some, None, Ok, Err, IsTrue}
-use Rattle.std.specs.Set.{distinct_count}
-use Rattle.rc_base.specs.declared.ending.Ends.{Ends}
-use Rattle.rc_base.specs.declared.header.Header.{Header}
-use Rattle.rc_base.specs.declared.position.Pos.{Pos}
-use Rattle.rc_bdd.specs.declared.work.SetError.{SetError}
-use Rattle.rc_bdd.specs.declared.work.SetError.TheVariants as set_error
-use Rattle.rc_bdd.specs.declared.work.SetError.TheVariants.{Full}
+use Rattle.std.specs.Prelude.{◌≡◌, ◌⊎◌, ℕ, Bool, List, [], Option, Some, None, Ok, Err, IsTrue}
 use Rattle.rc_config.specs.declared.network.Network.{Network}
-use Rattle.rc_cubes.specs.Cubes.{cubes}
-use Rattle.rc_cubes.specs.declared.cube.Cube.{Cube}
-use Rattle.rc_edges.specs.Query.{query_nodes, reaching}
 use Rattle.rc_generate.specs.Files.{files}
 use Rattle.rc_outside.specs.Folder.{File}
-use Rattle.rc_outside.specs.Sink.{appended, AppendsFront}
-use Rattle.rc_route.specs.declared.state.RouterState.{RouterState}
+use Rattle.rc_outside.specs.Sink.{appended}
 use Rattle.rc_rounds.specs.Rounds.{IsOutcome}
-use Rattle.rc_rounds.specs.declared.outcome.Outcome.{Outcome}
-use Rattle.rc_rounds.specs.declared.outcome.Outcome.TheVariants as outcome
-use Rattle.rc_trees.specs.Recipes.{tree}
-use Rattle.rc_trees.specs.Trees.{Tree, same_tree}
-use Rattle.rc_walk.specs.Moves.{DataPlane, plane_of}
-use Rattle.rc_walk.specs.ShortestWalks.{IsShortestWalk, NoWalkEnds}
-use Rattle.rc_walk.specs.Walks.{IsFirstWalk}
-use Rattle.rc_walk.specs.declared.walk.Walk.{Walk}
-use Rattle.rc_words.specs.Endings.{arrivals}
 use Rattle.rc_words.specs.Plain.{CommandName, Use, ArePlain, plain_words, plain_request}
 use Rattle.rc_words.specs.Request.{request_of}
 use Rattle.rc_words.specs.declared.request.Ask.{Ask}
 use Rattle.rc_words.specs.declared.request.Ask.TheVariants.{Routes, Trace, Reach, Sample}
 use Rattle.rc_words.specs.declared.request.Request.{Request}
 use Rattle.rc_analyse.specs.Net.{IsNet}
-use Rattle.rc_analyse.specs.Given.{Given, refused, no_place, ended, Shown, nothing, routes_of_all, routes_of, walk_of, cubes_of, first_cube_of}
-use Rattle.rc_analyse.specs.Subject.{subject_of}
-use Rattle.rc_analyse.specs.Texts.{outcome_text, route_count, text_of}
-use Rattle.rc_analyse.specs.declared.findings.Findings.{Findings}
-use Rattle.rc_analyse.specs.declared.findings.Findings.TheVariants as found
-use Rattle.rc_analyse.specs.declared.subject.Subject.{Subject}
-use Rattle.rc_analyse.specs.declared.subject.Subject.TheVariants.{AllRouters, OneRouter, Packet, Packets, Made}
-use Rattle.rc_analyse.specs.declared.status.Status.{Status}
-use Rattle.rc_analyse.specs.declared.status.Status.TheVariants.{Done, Refused, Repeats, Limit, Nodes, Source, Sink, Memory, NoPlace}
+use Rattle.rc_answers.specs.Given.{Given}
+use Rattle.rc_answers.specs.Subject.{subject_of}
+use Rattle.rc_answers.specs.Texts.{text_of}
+use Rattle.rc_answers.specs.Written.{IsGivenBy, IsWritten, NeedsMoreNodes, status_of}
+use Rattle.rc_answers.specs.declared.findings.Findings.{Findings}
+use Rattle.rc_answers.specs.declared.findings.Findings.TheVariants as found
+use Rattle.rc_answers.specs.declared.status.Status.{Status}
+use Rattle.rc_answers.specs.declared.status.Status.TheVariants.{Nodes, Source, Memory}
 
 -- Where the words are plain (a command, its DIR, and options with their values), they ask for what they say, and for the defaults; and
 -- for nothing where a place, an address or an ending isn't read.
@@ -71,51 +50,12 @@ files_asked (Sample n) told = Some (files n)
 
 -- ---- what files give to what is asked
 
--- The walks of an example: the shortest one to an ending asked for, and none where no walk comes to one.
-abbrev pub AreWalksOf : DataPlane → Pos → Ends → Header → List Walk → Type 0
-AreWalksOf plane q ends h walks = ((walk : Walk) × IsShortestWalk plane h ends q walk × (walks ≡ walk ∷ [])) ⊎ (NoWalkEnds plane h ends q × (walks ≡ []))
-
--- the walks of the examples of some cubes: an example has 0 in the bits that its cube leaves free
-abbrev pub AreExamples : DataPlane → Pos → Ends → List Cube → List (List Walk) → Type 0
-AreExamples plane q ends [] examples = examples ≡ []
-AreExamples plane q ends (c ∷ cs) examples = (walks : List Walk) × (rest : List (List Walk)) × (examples ≡ walks ∷ rest) × AreWalksOf plane q ends c.value walks × AreExamples plane q ends cs rest
-
--- those of the first cubes of a set, so many
-abbrev pub AreExamplesOf : DataPlane → Pos → Ends → ℕ → Tree → List (List Walk) → Type 0
-AreExamplesOf plane q ends most set examples = AreExamples plane q ends (take most (cubes set)) examples
-
--- the set of the headers that some walk brings from a position to one of the endings
-abbrev pub reaching_set : Network → List RouterState → Pos → Ends → Tree
-reaching_set net state q ends = tree (reaching (plane_of net state) q ends)
-
--- What is shown of a fixed point, where this is asked: routes, a packet's first walk, the cubes of the headers that reach, or of a made
--- network its number of routes and the first of the cubes.
-abbrev pub IsShownAtFixed : Network → List RouterState → Subject → Shown → Type 0
-IsShownAtFixed net state AllRouters shown = shown ≡ routes_of_all
-IsShownAtFixed net state (OneRouter r) shown = shown ≡ routes_of r
-IsShownAtFixed net state (Packet position header) shown = (walk : Walk) × IsFirstWalk (plane_of net state) header position walk × (shown ≡ walk_of walk)
-IsShownAtFixed net state (Packets position ends examples) shown = (walks : List (List Walk))
-    × AreExamplesOf (plane_of net state) position ends examples (reaching_set net state position ends) walks × (shown ≡ cubes_of (reaching_set net state position ends) walks)
-IsShownAtFixed net state (Made position) shown = shown ≡ first_cube_of (route_count state) (reaching_set net state position arrivals)
-
--- What is shown after the outcome of the rounds, where this is asked. Only a fixed point has routes, walks and sets to show.
-abbrev pub IsShown : Network → Outcome → Subject → Shown → Type 0
-IsShown net (outcome.Fixed k state) subject shown = IsShownAtFixed net state subject shown
-IsShown net (outcome.Repeats i k) subject shown = shown ≡ nothing
-IsShown net (outcome.Limit n) subject shown = shown ≡ nothing
-
 -- what files are found to be: a refusal, or a network without such a place, or a network with the outcome of its rounds, and what of it is
 -- asked about. The number of workers is no part of it.
 abbrev pub AreFound : List File → Request → Findings → Type 0
 AreFound files r (found.Refused refusal) = IsNet (dir_of r.ask) files (Err refusal)
 AreFound files r found.NoPlace = (net : Network) × IsNet (dir_of r.ask) files (Ok net) × (subject_of net r.ask ≡ None)
 AreFound files r (found.Ended net outcome subject) = IsNet (dir_of r.ask) files (Ok net) × (subject_of net r.ask ≡ Some subject) × IsOutcome net r.limits.rounds outcome
-
--- and what they give then
-abbrev pub IsGivenBy : Findings → Given → Type 0
-IsGivenBy (found.Refused refusal) g = g ≡ refused refusal
-IsGivenBy found.NoPlace g = g ≡ no_place
-IsGivenBy (found.Ended net outcome subject) g = (shown : Shown) × IsShown net outcome subject shown × (g ≡ ended net outcome shown)
 
 pub record IsGiven (files : List File) (r : Request) (g : Given) : Type 0 where
   pub found : Findings
@@ -128,60 +68,11 @@ HasOneAnswer = (files : List File) (r : Request) (this that : Given) → IsGiven
 
 -- ---- the status and the text
 
-abbrev pub status_after : Outcome → Status
-status_after (outcome.Fixed k state) = Done
-status_after (outcome.Repeats i k) = Repeats
-status_after (outcome.Limit n) = Limit
-
-abbrev pub status_of : Given → Status
-status_of (refused refusal) = Refused
-status_of no_place = NoPlace
-status_of (ended net outcome shown) = status_after outcome
-
--- The text is written and its status answered; or a front of it, where the sink failed.
-abbrev pub IsWritten : Status → List ℕ → Status → Option (List ℕ) → Option (List ℕ) → Type 0
-IsWritten status text answer old new = ((answer ≡ status) × (new ≡ appended old text)) ⊎ ((answer ≡ Sink) × AppendsFront old new text)
-
--- the same, or nothing is written, where memory ran out before
-abbrev pub IsWrittenOrMemory : Status → List ℕ → Status → Option (List ℕ) → Option (List ℕ) → Type 0
-IsWrittenOrMemory status text answer old new = IsWritten status text answer old new ⊎ ((answer ≡ Memory) × (new ≡ old))
-
--- a table of so many nodes is too small for what is asked of a fixed point: the operations of the query have more different trees
-abbrev pub NeedsMore : ℕ → Network → List RouterState → Subject → Type 0
-NeedsMore most net state (Packets position ends examples) = most < distinct_count same_tree (query_nodes (plane_of net state) position ends)
-NeedsMore most net state (Made position) = most < distinct_count same_tree (query_nodes (plane_of net state) position arrivals)
-NeedsMore most net state _ = ⊥
-
-abbrev pub NeedsMoreNodes : ℕ → Findings → Type 0
-NeedsMoreNodes most (found.Ended net (outcome.Fixed k state) subject) = NeedsMore most net state subject
-NeedsMoreNodes most _ = ⊥
-
--- What may be lacking for what was found, so that nothing is written though no call failed: memory, or nodes.
-abbrev pub IsLackingFor : ℕ → Findings → Status → Type 0
-IsLackingFor most f Memory = Unit {0}
-IsLackingFor most f Nodes = NeedsMoreNodes most f
-IsLackingFor most f _ = ⊥
-
 -- What the run may lack. What the files give doesn't decide whether memory runs out.
 abbrev pub IsLacking : List File → Request → Status → Type 0
 IsLacking files r Memory = Unit {0}
 IsLacking files r Nodes = (f : Findings) × AreFound files r f × NeedsMoreNodes r.limits.nodes f
 IsLacking files r _ = ⊥
-
--- what is lacking where a set can't be made
-abbrev pub lacking_of : SetError → Status
-lacking_of Full = Nodes
-lacking_of set_error.Memory = Memory
-
--- What is asked of a fixed point is written; or nothing is, where something is lacking.
-abbrev pub IsPutAtFixed : Request → Network → Outcome → List RouterState → Subject → Status → Option (List ℕ) → Option (List ℕ) → Type 0
-IsPutAtFixed r net outcome state subject answer old new =
-    ((shown : Shown) × IsShownAtFixed net state subject shown × IsWritten (status_after outcome) (outcome_text r.ask net outcome shown) answer old new)
-    ⊎ ((answer ≡ Memory) × (new ≡ old)) ⊎ ((answer ≡ Nodes) × NeedsMore r.limits.nodes net state subject × (new ≡ old))
-
--- What was found is written as it gives; or nothing is, where something is lacking.
-abbrev pub IsPutOf : Request → Findings → Status → Option (List ℕ) → Option (List ℕ) → Type 0
-IsPutOf r f answer old new = ((g : Given) × IsGivenBy f g × IsWritten (status_of g) (text_of r.ask g) answer old new) ⊎ (IsLackingFor r.limits.nodes f answer × (new ≡ old))
 
 -- What the files give is written; or nothing is, where reading failed or something is lacking.
 abbrev pub IsAnswer : List File → Request → Status → Option (List ℕ) → Option (List ℕ) → Type 0

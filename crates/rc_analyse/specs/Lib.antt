@@ -1,10 +1,3 @@
-pub mod Codes
 pub mod Net
-pub mod Subject
-pub mod Given
-pub mod Texts
 pub mod Answer
 pub mod Sound
-pub mod Lines
-pub mod Rows
-pub mod FirstTry

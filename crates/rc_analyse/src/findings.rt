@@ -6,29 +6,19 @@ ghost use Rattle.rc_outside.specs.Causes.{HasCause};
 ghost use Rattle.rc_words.specs.Request.{AreInRange, IsAskInRange};
 ghost use Rattle.rc_analyse.specs.Answer.{AreFound, HasOneAnswer, MayAsk, dir_of, files_asked};
 ghost use Rattle.rc_analyse.specs.Net.{IsNet};
-ghost use Rattle.rc_analyse.specs.Sound.{IsEndedAs, IsSound, StartsIn};
+ghost use Rattle.rc_answers.specs.Sound.{IsSound, StartsIn};
+ghost use Rattle.rc_analyse.specs.Sound.{IsEndedAs};
 
 use crate::loading::read_network;
-use crate::subject::{Subject, subject_of};
+use rc_answers::{Findings, Subject, subject_of};
 use rc_config::Network;
 use rc_generate::Sample;
 use rc_network::NetRefusal;
 use rc_outside::{Folder, Gate, SourceError};
-use rc_rounds::{Outcome, run_rounds};
+use rc_rounds::run_rounds;
 use rc_words::{Ask, Limits, Request};
 use std::alloc::{AllocError, AllocGlobal, Global};
 use std::thread::Threads;
-
-/// What the files of a folder are found to be.
-#[derive(Drop)]
-pub enum Findings {
-    /// The first refusal.
-    Refused(NetRefusal),
-    /// The network has no router or interface of the name that is asked for.
-    NoPlace,
-    /// The network, how its rounds end, and what of it is asked about.
-    Ended(Network, Outcome, Subject),
-}
 
 /// The network of the files of a made network. No folder can fail here.
 fn made_network(alloc: Global, routers: u32) -> Result<Result<Network, NetRefusal>, SourceError>

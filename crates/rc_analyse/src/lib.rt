@@ -1,27 +1,20 @@
 //! The analyser: the words of a command line and a folder in, a text to a sink and a status out.
 //!
 //! It stands on the words, on the outside (folders, sinks, gates), on files as models and their network, on the rounds of
-//! tables, on links and walks, and on texts to a sink. The layer above knows `run`, whose clauses are the product's headline, and each status.
+//! tables, and on rc_answers, which makes of what was found a text and a status. The layer above knows `run`, whose clauses are the product's headline, and each status.
 #![tactic(auto)]
 
 mod answering;
 mod findings;
-mod first_try;
 mod listing;
 mod loading;
-mod reached_set;
-mod reaching;
 mod runs;
-mod status;
-mod subject;
-mod writing;
 
-pub use findings::{Findings, one_answer};
+pub use findings::one_answer;
 pub use listing::one_listing;
+pub use rc_answers::{Findings, Status, Subject};
 pub use rc_words::{
     Ask, Limits, PlaceName, Request, WordText, WordsFault, first_word_is_a_command,
     numbers_are_in_range, plain_words_are_taken, refused_as_by_clap, request_of_words,
 };
 pub use runs::run;
-pub use status::Status;
-pub use subject::Subject;

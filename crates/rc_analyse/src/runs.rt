@@ -2,11 +2,12 @@
 ghost use Rattle.std.specs.Prelude.{◌≡◌, ◌<◌, map, IsNone, IfSome, IfNone};
 ghost use Rattle.rc_outside.specs.Causes.{Rose};
 ghost use Rattle.rc_words.specs.Request.{request_of};
-ghost use Rattle.rc_analyse.specs.Texts.{usage_text};
-ghost use Rattle.rc_analyse.specs.Answer.{MayAsk, files_asked, IsWrittenOrMemory, IsAnswer, IsSilent, IsCompleteWithout, IsTakenWhenPlain};
+ghost use Rattle.rc_answers.specs.Texts.{usage_text};
+ghost use Rattle.rc_answers.specs.Written.{IsWrittenOrMemory};
+ghost use Rattle.rc_analyse.specs.Answer.{MayAsk, files_asked, IsAnswer, IsSilent, IsCompleteWithout, IsTakenWhenPlain};
 
-use crate::Status;
-use crate::answering::{answer_folder, answer_usage};
+use crate::answering::answer_folder;
+use rc_answers::{Status, answer_usage};
 use rc_outside::{Folder, Gate, Sink};
 use rc_words::{WordsFault, plain_words_are_taken, request_of_words};
 use std::alloc::AllocGlobal;

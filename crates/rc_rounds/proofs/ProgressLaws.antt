@@ -13,7 +13,7 @@ use Rattle.rc_rib.specs.Next.{next_state}
 use Rattle.rc_rounds.specs.declared.progress.Progress.{Progress}
 use Rattle.rc_rounds.specs.Progress.{IsProgress, IsPowerBelow, checkpoint_state}
 use Rattle.rc_rounds.specs.Rounds.{state_after, GoesOn, EndsAs}
-use Rattle.rc_rounds.specs.declared.outcome.Outcome.TheVariants.{Repeats}
+use Rattle.rc_route.specs.declared.outcome.Outcome.TheVariants.{Repeats}
 use Rattle.rc_rounds.proofs.CheckpointLaws.{power-is}
 use Rattle.rc_rounds.proofs.RoundLaws.{next_is, further, changed, went_on}
 

@@ -23,8 +23,8 @@ use Rattle.rc_topology.specs.Ports.{links_of}
 use Rattle.rc_topology.specs.Topology.{Topology}
 use Rattle.rc_rounds.specs.Rounds.{state_after, checkpoint, EndsAs, GoesOn, GoesOnBelow, IsOutcome}
 use Rattle.rc_rounds.specs.Silent.{AreAsked, AreSilent, IsSilent}
-use Rattle.rc_rounds.specs.declared.outcome.Outcome.{Outcome}
-use Rattle.rc_rounds.specs.declared.outcome.Outcome.TheVariants.{Fixed, Repeats, Limit}
+use Rattle.rc_route.specs.declared.outcome.Outcome.{Outcome}
+use Rattle.rc_route.specs.declared.outcome.Outcome.TheVariants.{Fixed, Repeats, Limit}
 
 flat_none : {A B : Type 0} (f : A → List B) (xs : List A) → ((x : A) → f x ≡ []) → flat_map f xs ≡ []
 flat_none f [] none = refl

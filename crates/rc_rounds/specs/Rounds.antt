@@ -3,13 +3,12 @@ use Rattle.std.specs.Prelude.{◌≡◌, ◌≢◌, ℕ, zero, suc, ◌+◌, ◌
 use Rattle.rc_config.specs.declared.network.Network.{Network}
 use Rattle.rc_config.specs.Members.{router_ids}
 use Rattle.rc_ospf.specs.declared.model.Internal.{Internal}
-use Rattle.rc_route.specs.Tables.{IsStateOf}
 use Rattle.rc_route.specs.declared.state.RouterState.{RouterState}
 use Rattle.rc_ospf.specs.Internal.{IsInternal}
 use Rattle.rc_rib.specs.Next.{next_state}
 use Rattle.rc_topology.specs.Ports.{links_of}
-use Rattle.rc_rounds.specs.declared.outcome.Outcome.{Outcome}
-use Rattle.rc_rounds.specs.declared.outcome.Outcome.TheVariants.{Fixed, Repeats, Limit}
+use Rattle.rc_route.specs.declared.outcome.Outcome.{Outcome}
+use Rattle.rc_route.specs.declared.outcome.Outcome.TheVariants.{Fixed, Repeats, Limit}
 
 -- the state in which no router knows anything
 abbrev pub empty_state : Network → List RouterState
@@ -51,12 +50,6 @@ pub record IsOutcome (net : Network) (limit : ℕ) (outcome : Outcome) : Type 0 
   pub links : internal.links ≡ links_of net
   pub is_internal : IsInternal net internal
   pub ends : EndsAs net internal limit outcome
-
--- the state of a fixed point has so many routers, and each one's routes stand in order
-abbrev pub IsInOrder : ℕ → Outcome → Type 0
-IsInOrder routers (Fixed k state) = IsStateOf routers state
-IsInOrder routers (Repeats i k) = Unit {0}
-IsInOrder routers (Limit n) = Unit {0}
 
 -- a network has one outcome within a limit
 abbrev pub HasOneOutcome : Type 0

@@ -7,7 +7,6 @@
 #![tactic(auto)]
 
 mod leaving;
-mod outcome;
 mod parts;
 mod progress;
 mod round;
@@ -15,5 +14,5 @@ mod rounds;
 mod shares;
 mod silent;
 
-pub use outcome::Outcome;
+pub use rc_route::Outcome;
 pub use rounds::{one_outcome, run_rounds};

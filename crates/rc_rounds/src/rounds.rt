@@ -3,7 +3,8 @@ ghost use Rattle.std.specs.Prelude.{◌≡◌, ◌≤◌, All, IfOk, length};
 ghost use Rattle.rc_config.specs.Lawful.{IsLawful};
 ghost use Rattle.rc_ospf.specs.Internal.{IsInternal};
 ghost use Rattle.rc_route.specs.Tables.{IsTable};
-ghost use Rattle.rc_rounds.specs.Rounds.{EndsAs, IsInOrder, IsOutcome, HasOneOutcome};
+ghost use Rattle.rc_route.specs.Outcomes.{IsInOrder};
+ghost use Rattle.rc_rounds.specs.Rounds.{EndsAs, IsOutcome, HasOneOutcome};
 ghost use Rattle.rc_rounds.specs.Setting.{IsSetting};
 ghost use Rattle.rc_rounds.specs.Silent.{AreAsked};
 

@@ -1,4 +1,4 @@
-//! Routes, BGP paths, and what all routers know after a round.
+//! Routes, BGP paths, what all routers know after a round, and how rounds may end.
 //!
 //! It stands on the addresses, prefixes, lists and communities of rc_base, and on the AS paths of rc_as_path. The layer above
 //! knows a table as its list of routes, a route's hops as a list, a state as the list of what each router knows, whether two
@@ -6,11 +6,13 @@
 #![tactic(auto)]
 
 mod hops;
+mod outcome;
 mod path;
 mod route;
 mod state;
 
 pub use hops::Hops;
+pub use outcome::Outcome;
 pub use path::{BgpPath, PathSource, compare_path_sources};
 pub use route::{Hop, Route, Source, Table, compare_hops, compare_sources, same_hop, same_table};
 pub use state::{RouterState, State, copy, equal};

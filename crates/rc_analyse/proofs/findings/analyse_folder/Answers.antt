@@ -1,5 +1,5 @@
 use Rattle.std.proofs.Common.{sym, ◌∙◌}
-use Rattle.rc_analyse.proofs.SubjectLaws.{asked_is_there}
+use Rattle.rc_answers.proofs.SubjectLaws.{asked_is_there}
 use Rattle.rc_analyse.proofs.findings.analyse_folder.Goals as goal
 
 pub ended-requires-clause-starts : goal.ended-requires-clause-starts

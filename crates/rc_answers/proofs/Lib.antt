@@ -1,0 +1,5 @@
+mod RouteLaws
+mod PutLaws
+mod ExampleLaws
+pub mod SubjectLaws
+pub mod OneShown

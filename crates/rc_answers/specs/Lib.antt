@@ -1,0 +1,9 @@
+pub mod Codes
+pub mod Subject
+pub mod Given
+pub mod Texts
+pub mod Written
+pub mod Sound
+pub mod Lines
+pub mod Rows
+pub mod FirstTry

@@ -1,0 +1,52 @@
+-- What of a network is asked about.
+use Rattle.std.specs.Prelude.{ℕ, List, [], ◌++◌, codes, Option, Some, None}
+use Rattle.std.specs.Option.{option_and_then, option_map, option_map_or}
+use Rattle.rc_base.specs.Name.{name_of}
+use Rattle.rc_base.specs.declared.position.Pos.{Pos}
+use Rattle.rc_base.specs.declared.position.Pos.TheVariants.{Own, Entering}
+use Rattle.rc_config.specs.Members.{router_named, interface_named}
+use Rattle.rc_config.specs.declared.network.Network.{Network}
+use Rattle.rc_words.specs.declared.request.Ask.{Ask}
+use Rattle.rc_words.specs.declared.request.Ask.TheVariants.{Routes, Trace, Reach, Sample}
+use Rattle.rc_words.specs.declared.request.PlaceName.{PlaceName}
+use Rattle.rc_answers.specs.declared.subject.Subject.{Subject}
+use Rattle.rc_answers.specs.declared.subject.Subject.TheVariants.{AllRouters, OneRouter, Packet, Packets, Made}
+
+-- the router that a text names; a text that is no name names none
+abbrev pub router_of_text : Network → List ℕ → Option ℕ
+router_of_text net text = option_and_then (router_named net) (name_of text)
+
+-- at a router, or entering it by the interface of a name
+abbrev pub position_at : Network → ℕ → Option (List ℕ) → Option Pos
+position_at net r None = Some (Own r)
+position_at net r (Some name) = option_map Entering (interface_named net r name)
+
+-- the position of a place, where the network has the router and, if one is named, the interface; whether it is up is not asked
+abbrev pub position_named : Network → PlaceName → Option Pos
+position_named net place = option_and_then (λ r. position_at net r place.interface) (router_named net place.router)
+
+-- where the packets start that are asked about in a made network: at the LAN of its first router
+abbrev pub sample_place : PlaceName
+sample_place = record { router = codes "r000"; interface = Some (codes "GigabitEthernet0/3") }
+
+-- what of the network is asked about, and none where it has no such router or interface
+abbrev pub subject_of : Network → Ask → Option Subject
+subject_of net (Routes dir None) = Some AllRouters
+subject_of net (Routes dir (Some text)) = option_map OneRouter (router_of_text net text)
+subject_of net (Trace dir place header) = option_map (λ q. Packet q header) (position_named net place)
+subject_of net (Reach dir place ends examples) = option_map (λ q. Packets q ends examples) (position_named net place)
+subject_of net (Sample n) = option_map Made (position_named net sample_place)
+
+-- the name of an interface behind a colon
+abbrev pub behind_colon : Option (List ℕ) → List ℕ
+behind_colon interface = option_map_or (λ name. codes ":" ++ name) interface []
+
+abbrev pub name_of_place : PlaceName → List ℕ
+name_of_place place = place.router ++ behind_colon place.interface
+
+-- the text that names the router or the place
+abbrev pub place_text : Ask → List ℕ
+place_text (Routes dir router) = option_map_or (λ text. text) router []
+place_text (Trace dir place header) = name_of_place place
+place_text (Reach dir place ends examples) = name_of_place place
+place_text (Sample n) = name_of_place sample_place

@@ -1,0 +1,104 @@
+//! What of a network is asked about.
+ghost use Rattle.std.specs.Prelude.{◌≡◌, IfSome, Some};
+ghost use Rattle.rc_answers.specs.Subject.{position_at, position_named, router_of_text, sample_place, subject_of};
+
+use rc_base::{Ends, Header, Name, Pos, RouterId};
+use rc_config::Network;
+use rc_words::{Ask, PlaceName};
+
+/// What of a network is asked about.
+#[derive(Clone, Copy)]
+pub enum Subject {
+    /// The routes of all routers.
+    AllRouters,
+    /// The routes of this router.
+    OneRouter(RouterId),
+    /// The walk of a packet with this header from this position.
+    Packet(Pos, Header),
+    /// The packets that get from this position to one of these endings, and examples of the first of their cubes, so many.
+    Packets(Pos, Ends, u32),
+    /// A made network: its routes, and the first packets that arrive from this position.
+    Made(Pos),
+}
+
+/// The router that a text names. A text that is no name names none.
+fn router_of_text(net: &Network, text: &str) -> Option<RouterId>
+    ensures { result ≡ router_of_text net.now text.now }
+{
+    let name = Name::new(text.as_bytes())?;
+    net.router(&name)
+}
+
+/// At a router, or entering it by the interface of a name.
+fn position_at(net: &Network, router: RouterId, interface: &Option<Name>) -> Option<Pos>
+    ensures { result ≡ position_at net.now router interface.now }
+{
+    match interface {
+        None => Some(Pos::Own(router)),
+        Some(name) => {
+            let found = net.interface(router, name)?;
+            Some(Pos::Entering(found))
+        }
+    }
+}
+
+/// The position of a place, or `None` exactly where the network has no such router or interface.
+fn position_named(net: &Network, place: &PlaceName) -> Option<Pos>
+    ensures { result ≡ position_named net.now place.now }
+{
+    let router = net.router(&place.router)?;
+    position_at(net, router, &place.interface)
+}
+
+/// The text of a place, as names; both fit a name.
+fn sample_place() -> Option<PlaceName>
+    ensures { result ≡ Some sample_place }
+{
+    let router = Name::new(b"r000")?;
+    let interface = Name::new(b"GigabitEthernet0/3")?;
+    Some(PlaceName {
+        router,
+        interface: Some(interface),
+    })
+}
+
+/// What of the network is asked about, or `None` exactly where it has no such router or interface.
+pub fn subject_of(net: &Network, ask: &Ask) -> Option<Subject>
+    ensures { result ≡ subject_of net.now ask.now }
+{
+    match ask {
+        Ask::Routes {
+            dir: _,
+            router: None,
+        } => Some(Subject::AllRouters),
+        Ask::Routes {
+            dir: _,
+            router: Some(text),
+        } => {
+            let router = router_of_text(net, text.as_str())?;
+            Some(Subject::OneRouter(router))
+        }
+        Ask::Trace {
+            dir: _,
+            place,
+            header,
+        } => {
+            let position = position_named(net, place)?;
+            Some(Subject::Packet(position, *header))
+        }
+        Ask::Reach {
+            dir: _,
+            place,
+            ends,
+            examples,
+        } => {
+            let position = position_named(net, place)?;
+            Some(Subject::Packets(position, *ends, *examples))
+        }
+        Ask::Sample { routers: _ } => {
+            let place = sample_place()?;
+            let position = position_named(net, &place)?;
+            Some(Subject::Made(position))
+        }
+    }
+}

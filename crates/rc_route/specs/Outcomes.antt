@@ -1,0 +1,11 @@
+-- How rounds end, beside the states of which they are.
+use Rattle.std.specs.Prelude.{ℕ}
+use Rattle.rc_route.specs.Tables.{IsStateOf}
+use Rattle.rc_route.specs.declared.outcome.Outcome.{Outcome}
+use Rattle.rc_route.specs.declared.outcome.Outcome.TheVariants.{Fixed, Repeats, Limit}
+
+-- the state of a fixed point has so many routers, and each one's routes stand in order
+abbrev pub IsInOrder : ℕ → Outcome → Type 0
+IsInOrder routers (Fixed k state) = IsStateOf routers state
+IsInOrder routers (Repeats i k) = Unit {0}
+IsInOrder routers (Limit n) = Unit {0}
