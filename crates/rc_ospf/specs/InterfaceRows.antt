@@ -323,8 +323,8 @@ shut_side = refl
 abbrev both : List OspfInterface
 both =
     ospf_interfaces (two
-        (primary serial 257 30 ∷ InterfaceOspf serial (setting.Cost 7) ∷ primary eth 513 24 ∷ primary loopback 2305 24 ∷ OspfOpened 1 ∷ network 0 16777215 3 ∷ [])
-        (primary eth 514 24 ∷ InterfaceOspf eth (setting.HelloInterval 5) ∷ primary serial 258 30 ∷ OspfOpened 1 ∷ network 0 16777215 3 ∷ []))
+    (primary serial 257 30 ∷ InterfaceOspf serial (setting.Cost 7) ∷ primary eth 513 24 ∷ primary loopback 2305 24 ∷ OspfOpened 1 ∷ network 0 16777215 3 ∷ [])
+    (primary eth 514 24 ∷ InterfaceOspf eth (setting.HelloInterval 5) ∷ primary serial 258 30 ∷ OspfOpened 1 ∷ network 0 16777215 3 ∷ []))
 
 -- router, index, area, cost and dead interval
 pub values_of_both : map (λ (i : OspfInterface). i.id.router ∷ i.id.index ∷ i.area ∷ i.cost ∷ i.dead ∷ []) both ≡ (0 ∷ 0 ∷ 3 ∷ 7 ∷ 40 ∷ []) ∷ (0 ∷ 1 ∷ 3 ∷ 10 ∷ 40 ∷ []) ∷ (0 ∷ 2 ∷ 3 ∷ 1 ∷ 40 ∷ []) ∷ (1 ∷ 0 ∷ 3 ∷ 10 ∷ 20 ∷ []) ∷ (1 ∷ 1 ∷ 3 ∷ 64 ∷ 40 ∷ []) ∷ []
