@@ -7,7 +7,7 @@ use rc_base::{FileName, Items};
 use std::alloc::Global;
 
 /// Why a folder gives no answer.
-#[derive(Clone, Copy)]
+#[derive(Clone, Copy, PartialEq, Eq)]
 pub enum SourceError {
     /// It failed, and counted a fault.
     Failed,
