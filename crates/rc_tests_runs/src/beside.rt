@@ -1,5 +1,5 @@
 //! `reach` beside `trace`: where each route has one hop, a header is in the set of the ending of its walk, and in no other.
-use crate::answers::{Host, NamedText, folder_of, joined, ran, sink_of};
+use crate::answers::{Host, NamedText, folder_of, ran, sink_of};
 use rc_openings::{word_addr, word_u32};
 use rc_outside::OpenGate;
 use std::alloc::Global;
@@ -208,8 +208,7 @@ fn some_end(ending: &str, walks: &[String]) -> bool {
 
 /// Asserts that the set of an ending holds just the headers whose walks end so, and that there are some.
 fn check_ending(rt: &impl Host, ending: &str, walks: &[String]) -> Result<(), Fail> {
-    let line = ["reach d --from ", PLACE, " --workers 1 --end ", ending];
-    let line = joined(rt.alloc(), &line)?;
+    let line = format!(in rt.alloc(); "reach d --from {PLACE} --workers 1 --end {ending}")?;
     let cubes = said(rt, line.as_str())?;
     let wrong = first_wrong(ending, cubes.as_str(), walks);
     assert!(rt;

@@ -2,101 +2,62 @@
 use crate::answers::{BASE, CONNECTED, Host, folder_of, ran, sink_of};
 use rc_analyse::Status;
 use rc_outside::{MemSink, OpenGate};
-use std::alloc::{AllocError, Global};
 use std::test::Fail;
 
-/// Asserts how a run ends over a folder whose call of this number fails, what is written, and in how many calls.
-fn check_call(
-    rt: &impl Host,
-    call: u64,
-    status: Status,
-    text: &str,
-    calls: u64,
-) -> Result<(), Fail> {
+/// The call in which the folder fails, the room of the sink, the call in which it fails and how many bytes of that it takes, how the run
+/// ends, what is written, and in how many calls. No call has the number 0.
+type Row = (u64, usize, u64, usize, Status, &'static str, u64);
+
+/// A folder that fails where its files are listed, where the one is read, or never; a sink that fails at once, in the middle of a piece,
+/// or for want of room.
+const FAULTS: [Row; 6] = [
+    (1, 4096, 0, 0, Status::Source, "", 0),
+    (2, 4096, 0, 0, Status::Source, "", 0),
+    (3, 4096, 0, 0, Status::Done, CONNECTED, 3),
+    (0, 4096, 1, 0, Status::Sink, "", 1),
+    (0, 4096, 2, 3, Status::Sink, "outcome fixed 2\nrou", 2),
+    (0, 26, 9, 0, Status::Sink, "outcome fixed 2\nrouter R1\n", 3),
+];
+
+/// Asserts how a run over one router ends.
+fn check_fault(rt: &impl Host, row: &Row) -> Result<(), Fail> {
+    let (call, room, piece, taken, status, text, calls) = *row;
     let mut folder = folder_of(rt.alloc(), &[("a.cfg", BASE)], &[call])?;
-    let mut out = sink_of(rt.alloc(), 4096)?;
+    let failures = Vec::from_slice(rt.alloc(), &[(piece, taken)])?;
+    let mut out = MemSink::new(rt.alloc(), room, failures)?;
     let found = ran(rt, &["routes", "d"], &mut folder, &mut out, &OpenGate);
     assert!(rt;
         found == status && out.bytes.as_slice() == text.as_bytes() && out.calls == calls,
-        "call {call}"
-    );
-    Ok(())
-}
-
-#[test]
-fn a_folder_that_fails(rt: HostRuntime) -> Result<(), Fail> {
-    check_call(&rt, 1, Status::Source, "", 0)?;
-    check_call(&rt, 2, Status::Source, "", 0)?;
-    check_call(&rt, 3, Status::Done, CONNECTED, 3)
-}
-
-/// A sink with so much room that takes so many bytes of the call of this number, and fails.
-fn failing_sink(
-    alloc: Global,
-    room: usize,
-    call: u64,
-    taken: usize,
-) -> Result<MemSink, AllocError> {
-    let failures = Vec::from_slice(alloc, &[(call, taken)])?;
-    MemSink::new(alloc, room, failures)
-}
-
-/// Asserts what a sink that fails holds, after how many calls.
-fn check_sink(rt: &impl Host, mut out: MemSink, text: &str, calls: u64) -> Result<(), Fail> {
-    let mut folder = folder_of(rt.alloc(), &[("a.cfg", BASE)], &[])?;
-    let status = ran(rt, &["routes", "d"], &mut folder, &mut out, &OpenGate);
-    assert!(rt;
-        status == Status::Sink && out.bytes.as_slice() == text.as_bytes() && out.calls == calls,
         "{text}"
     );
     Ok(())
 }
 
-/// How much room a sink has, the call in which it fails and how many bytes of it are taken, what it holds then, and after how many calls.
-type Row = (usize, u64, usize, &'static str, u64);
-
-const SINKS: [Row; 3] = [
-    (4096, 1, 0, "", 1),
-    (4096, 2, 3, "outcome fixed 2\nrou", 2),
-    (26, 9, 0, "outcome fixed 2\nrouter R1\n", 3),
-];
-
-/// Asserts of each sink what it holds.
-fn check_sinks(rt: &impl Host, rows: &[Row]) -> Result<(), Fail> {
-    for (room, call, taken, text, calls) in rows {
-        let out = failing_sink(rt.alloc(), *room, *call, *taken)?;
-        check_sink(rt, out, text, *calls)?;
+/// Asserts it of each row.
+fn check_faults(rt: &impl Host, rows: &[Row]) -> Result<(), Fail> {
+    for row in rows {
+        check_fault(rt, row)?;
     }
     Ok(())
 }
 
 #[test]
-fn a_sink_that_fails(rt: HostRuntime) -> Result<(), Fail> {
-    check_sinks(&rt, &SINKS)
+fn folders_and_sinks_that_fail(rt: HostRuntime) -> Result<(), Fail> {
+    check_faults(&rt, &FAULTS)
 }
 
-/// The name of a configuration, of 512 bytes.
-fn long_name(alloc: Global) -> Result<String, AllocError> {
-    let mut name = String::new(alloc);
-    for _ in 0..508 {
-        name.push_str("x")?;
-    }
-    name.push_str(".cfg")?;
-    Ok(name)
-}
-
-/// How a run over a folder with one empty file of this name ends, and in how many calls its answer goes out.
-fn ended(rt: &impl Host, name: &str) -> Result<(Status, u64), Fail> {
+/// Asserts that a refusal of a file of this name goes out in two calls.
+fn check_two_pieces(rt: &impl Host, name: &str) -> Result<(), Fail> {
     let mut folder = folder_of(rt.alloc(), &[(name, "")], &[])?;
     let mut out = sink_of(rt.alloc(), 4096)?;
     let status = ran(rt, &["routes", "d"], &mut folder, &mut out, &OpenGate);
-    Ok((status, out.calls))
+    assert!(rt; status == Status::Refused && out.calls == 2);
+    Ok(())
 }
 
+/// A name of 512 bytes.
 #[test]
 fn a_line_goes_out_in_pieces(rt: HostRuntime) -> Result<(), Fail> {
-    let name = long_name(rt.alloc())?;
-    let (status, calls) = ended(&rt, name.as_str())?;
-    assert!(rt; status == Status::Refused && calls == 2);
-    Ok(())
+    let name = format!(in rt.alloc(); "{:x>508}.cfg", "")?;
+    check_two_pieces(&rt, name.as_str())
 }

@@ -1,7 +1,7 @@
 //! Who passes the gate of a run: in each round each worker once, and as many workers as the words say.
-use crate::answers::{BASE, CIRCLE, Host, folder_of, ran, sink_of};
-use rc_outside::Gate;
-use std::alloc::Global;
+use crate::answers::{BASE, CIRCLE, Host, NamedText, ended_at};
+use rc_analyse::Status;
+use rc_outside::{Gate, MeetGate};
 use std::sync::atomic::{AtomicU32, AtomicU64, Ordering};
 use std::test::Fail;
 
@@ -41,71 +41,75 @@ impl Gate for Counts {
     }
 }
 
-/// Asserts how many rounds of so many workers a run makes.
-fn check_rounds(
-    rt: &impl Host,
-    text: &str,
-    words: &[&str],
-    workers: u32,
-    rounds: u32,
-) -> Result<(), Fail> {
+/// The text of a file, words, how many workers they ask for, and how many rounds these make.
+type Row = (&'static str, &'static str, u32, u32);
+
+/// Each worker passes once in each round, also where its share is empty; nobody does where no round is made.
+const ROUNDS: [Row; 13] = [
+    (CIRCLE, "routes d", 4, 7),
+    (CIRCLE, "routes d --workers 1", 1, 7),
+    (CIRCLE, "routes d --workers 5", 5, 7),
+    (CIRCLE, "routes d --workers 64", 64, 7),
+    (CIRCLE, "routes d --workers 3 --rounds 6", 3, 6),
+    (CIRCLE, "trace d --from R1 --dst 10.0.0.1 --workers 2", 2, 7),
+    (BASE, "routes d --workers 7", 7, 2),
+    (BASE, "routes d --router R1 --workers 8", 8, 2),
+    (BASE, "trace d --from R1 --dst 10.0.0.1 --workers 9", 9, 2),
+    (BASE, "routes nowhere --workers 6", 6, 1),
+    (BASE, "routes", 4, 0),
+    (BASE, "routes d --router R9", 4, 0),
+    ("frobnicate\n", "routes d", 4, 0),
+];
+
+/// Asserts how many rounds of how many workers a run makes.
+fn check_rounds(rt: &impl Host, row: &Row) -> Result<(), Fail> {
+    let (text, line, workers, rounds) = *row;
     let gate = counting(workers);
-    let mut folder = folder_of(rt.alloc(), &[("a.cfg", text)], &[])?;
-    let mut out = sink_of(rt.alloc(), 4096)?;
-    let _ = ran(rt, words, &mut folder, &mut out, &gate);
+    let _ = ended_at(rt, &[("a.cfg", text)], line, &gate)?;
     let passes = gate.passes.load(Ordering::SeqCst);
     let wrong = gate.wrong.load(Ordering::SeqCst);
     assert!(rt;
         passes == rounds.saturating_mul(workers) && wrong == 0,
-        "{rounds} rounds of {workers}"
+        "{line}"
     );
     Ok(())
 }
 
-/// Asserts of each row how many rounds its words make of so many workers.
-fn check_all_rounds(rt: &impl Host, text: &str, rows: &[(&str, u32, u32)]) -> Result<(), Fail> {
-    for (line, workers, rounds) in rows {
-        let words: Vec<&str> = line.split(' ').collect(rt.alloc())?;
-        check_rounds(rt, text, words.as_slice(), *workers, *rounds)?;
+/// Asserts it of each row.
+fn check_all_rounds(rt: &impl Host, rows: &[Row]) -> Result<(), Fail> {
+    for row in rows {
+        check_rounds(rt, row)?;
     }
     Ok(())
 }
 
-/// Words, how many workers they ask for, and how many rounds these make.
-type Row = (&'static str, u32, u32);
-
-const IN_A_CIRCLE: [Row; 6] = [
-    ("routes d", 4, 7),
-    ("routes d --workers 1", 1, 7),
-    ("routes d --workers 5", 5, 7),
-    ("routes d --workers 64", 64, 7),
-    ("routes d --workers 3 --rounds 6", 3, 6),
-    ("trace d --from R1 --dst 10.0.0.1 --workers 2", 2, 7),
-];
-
 #[test]
 fn each_worker_passes_once_in_each_round(rt: HostRuntime) -> Result<(), Fail> {
-    check_all_rounds(&rt, CIRCLE, &IN_A_CIRCLE)
+    check_all_rounds(&rt, &ROUNDS)
 }
 
-const OF_ONE_ROUTER: [Row; 4] = [
-    ("routes d --workers 7", 7, 2),
-    ("routes d --router R1 --workers 8", 8, 2),
-    ("trace d --from R1 --dst 10.0.0.1 --workers 9", 9, 2),
-    ("routes nowhere --workers 6", 6, 1),
+/// Two routers with default routes to each other.
+const IN_CIRCLES: [NamedText<'_>; 2] = [
+    (
+        "a.cfg",
+        "hostname R1\ninterface GigabitEthernet0/0\n ip address 10.0.0.1 255.255.255.0\nip route 0.0.0.0 0.0.0.0 10.0.0.2\n",
+    ),
+    (
+        "b.cfg",
+        "hostname R2\ninterface GigabitEthernet0/0\n ip address 10.0.0.2 255.255.255.0\nip route 0.0.0.0 0.0.0.0 10.0.0.1\n",
+    ),
 ];
 
-#[test]
-fn workers_pass_where_their_share_is_empty(rt: HostRuntime) -> Result<(), Fail> {
-    check_all_rounds(&rt, BASE, &OF_ONE_ROUTER)
+/// Asserts that two workers of a run are at the gate at once in a phase.
+fn check_meets(rt: &impl Host, line: &str, phase: u32) -> Result<(), Fail> {
+    let gate = MeetGate::new(phase);
+    let status = ended_at(rt, &IN_CIRCLES, line, &gate)?;
+    assert!(rt; status == Status::Done && gate.met(), "{line}");
+    Ok(())
 }
 
-const WITHOUT_ROUNDS: [Row; 2] = [("routes", 4, 0), ("routes d --router R9", 4, 0)];
-
-const WHERE_REFUSED: [Row; 1] = [("routes d", 4, 0)];
-
 #[test]
-fn nobody_passes_where_no_round_is_made(rt: HostRuntime) -> Result<(), Fail> {
-    check_all_rounds(&rt, BASE, &WITHOUT_ROUNDS)?;
-    check_all_rounds(&rt, "frobnicate\n", &WHERE_REFUSED)
+fn workers_meet_at_the_gate(rt: HostRuntime) -> Result<(), Fail> {
+    check_meets(&rt, "routes d --workers 2", 1)?;
+    check_meets(&rt, "reach d --from R1 --workers 2", 100_001)
 }

@@ -2,7 +2,7 @@
 //!
 //! Two lists on its way deny what has some bit 1 in both addresses, the first one the eight lowest bits and the second one nine
 //! others. Each has some hundreds of nodes, and both together more than 131,072.
-use crate::answers::{Host, NamedText, check_line, folder_of, ran, sink_of};
+use crate::answers::{Host, NamedText, ended_at};
 use rc_analyse::Status;
 use rc_outside::Gate;
 use std::sync::atomic::{AtomicU32, AtomicU64, Ordering};
@@ -59,32 +59,6 @@ interface GigabitEthernet0/0
     ),
 ];
 
-/// What some router of these accepts: a source may have no bit that the destination has, among those that the lists on its way test.
-const ACCEPTED: &str = "outcome fixed 3
-cube dst=10.1.0.1&255.255.255.255 src=0.0.0.0&0.0.0.1
-cube dst=10.2.0.1&255.255.255.255 src=0.0.0.0&0.0.0.1
-cube dst=10.2.0.2&255.255.255.255 src=0.0.0.0&0.2.0.2
-cube dst=10.3.0.2&255.255.255.255 src=0.0.0.0&0.3.0.2
-cube dst=10.3.0.3&255.255.255.255 src=0.0.0.0&0.3.0.3
-";
-
-const QUESTION: &str = "reach d --from R1:GigabitEthernet0/0 --end accepted";
-
-#[test]
-fn a_set_beyond_the_small_table_is_found(rt: HostRuntime) -> Result<(), Fail> {
-    check_line(&rt, &ON_A_WAY, QUESTION, Status::Done, ACCEPTED)
-}
-
-#[test]
-fn a_set_beyond_the_table_of_the_words_is_not(rt: HostRuntime) -> Result<(), Fail> {
-    for nodes in [" --nodes 65536", " --nodes 65537"] {
-        let mut line = String::from_str(rt.alloc(), QUESTION)?;
-        line.push_str(nodes)?;
-        check_line(&rt, &ON_A_WAY, line.as_str(), Status::Nodes, "")?;
-    }
-    Ok(())
-}
-
 /// Notes which workers pass in which rounds of propagation, and how often one passes twice in one round.
 #[derive(Drop)]
 struct Passes {
@@ -108,33 +82,49 @@ impl Gate for Passes {
     }
 }
 
-/// Asserts that so many workers pass once each in three rounds of propagation, and in no others.
-fn check_passes(rt: &impl Host, words: &[&str], workers: u32, all: u64) -> Result<(), Fail> {
+/// Words, how many workers they ask for, and a bit for each of these in three rounds of propagation.
+type Row = (&'static str, u32, u64);
+
+const ROWS: [Row; 2] = [
+    (
+        "reach d --from R1:GigabitEthernet0/0 --end accepted --workers 1",
+        1,
+        0b111,
+    ),
+    (
+        "reach d --from R1:GigabitEthernet0/0 --end accepted --workers 2",
+        2,
+        0b11_1111,
+    ),
+];
+
+/// Asserts that each worker passes once in each of three rounds of propagation, and in no others.
+fn check_passes(rt: &impl Host, row: &Row) -> Result<(), Fail> {
+    let (line, workers, all) = *row;
     let gate = Passes {
         workers,
         passed: AtomicU64::new(0),
         twice: AtomicU32::new(0),
     };
-    let mut folder = folder_of(rt.alloc(), &ON_A_WAY, &[])?;
-    let mut out = sink_of(rt.alloc(), 4096)?;
-    let status = ran(rt, words, &mut folder, &mut out, &gate);
-    assert!(rt; status == Status::Done);
+    let status = ended_at(rt, &ON_A_WAY, line, &gate)?;
+    let passed = gate.passed.load(Ordering::SeqCst);
+    let twice = gate.twice.load(Ordering::SeqCst);
     assert!(rt;
-        gate.passed.load(Ordering::SeqCst) == all,
-        "{workers} workers"
+        status == Status::Done && passed == all && twice == 0,
+        "{line}"
     );
-    assert!(rt; gate.twice.load(Ordering::SeqCst) == 0, "{workers} workers");
+    Ok(())
+}
+
+/// Asserts it of each row.
+fn check_all_passes(rt: &impl Host, rows: &[Row]) -> Result<(), Fail> {
+    for row in rows {
+        check_passes(rt, row)?;
+    }
     Ok(())
 }
 
 #[test]
 fn each_worker_passes_once_though_the_set_is_made_twice(rt: HostRuntime) -> Result<(), Fail> {
-    let rows = [(" --workers 1", 1, 0b111), (" --workers 2", 2, 0b11_1111)];
-    for (option, workers, all) in rows {
-        let mut line = String::from_str(rt.alloc(), QUESTION)?;
-        line.push_str(option)?;
-        let words: Vec<&str> = line.as_str().split(' ').collect(rt.alloc())?;
-        check_passes(&rt, words.as_slice(), workers, all)?;
-    }
-    Ok(())
+    check_all_passes(&rt, &ROWS)
 }
