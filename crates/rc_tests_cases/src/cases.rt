@@ -189,7 +189,7 @@ impl<'a> Cases<'a> {
             (Line::Text(text), Part::File(_) | Part::Run(_)) => self.put(text),
             (Line::Status(status), Part::Run(_)) => {
                 self.status = status;
-                Ok(())
+                self.begin(rt, Part::None)
             }
             _ => self.refuse(rt, text),
         }
