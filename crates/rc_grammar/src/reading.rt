@@ -237,14 +237,13 @@ impl Reading {
         ensures lawful { IfOk result IsLawfulFile }
     {
         let Reading { file, block: _ } = self;
-        if file.host.is_some() {
-            Ok(file)
-        } else {
-            Err(ReadError::Refused(FileRefusal {
+        if file.host.is_none() {
+            return Err(ReadError::Refused(FileRefusal {
                 line: 0,
                 cause: FileCause::NoHostName,
-            }))
+            }));
         }
+        Ok(file)
     }
 }
 

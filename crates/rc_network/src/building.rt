@@ -60,10 +60,10 @@ fn put_router(
     ensures put { OnOk result (routers.new ≡ with_value routers.old name model) }
     ensures memory { IfErr result (λ e. e ≡ BuildError.Memory) }
 {
-    match routers.insert(name, model) {
-        Ok(_) => Ok(()),
-        Err(_) => Err(BuildError::Memory),
-    }
+    let Ok(_) = routers.insert(name, model) else {
+        return Err(BuildError::Memory);
+    };
+    Ok(())
 }
 
 impl Gathered {
@@ -115,10 +115,7 @@ impl Gathered {
     {
         let mut left = VecDeque::from(models);
         while let Some((file, model)) = left.pop_front() {
-            match self.put_model(file, model) {
-                Ok(()) => {}
-                Err(error) => return Err(error),
-            }
+            self.put_model(file, model)?;
         }
         Ok(())
     }

@@ -41,9 +41,8 @@ impl<'a> Iterator for Steps<'a> {
 
     fn next(&mut self) -> Option<Move> {
         loop {
-            let found = self.begun.next_move();
-            if found.is_some() {
-                return found;
+            if let Some(found) = self.begun.next_move() {
+                return Some(found);
             }
             let [hop, rest @ ..] = self.hops else {
                 return None;
