@@ -20,10 +20,10 @@ use Rattle.rc_bgp.specs.Changes.{AreChanges, AreMended, CoversChange, IsHeardAli
 use Rattle.rc_bgp.specs.Known.{path_at, paths_of, table_of}
 use Rattle.rc_bgp.specs.Mending.{mended}
 use Rattle.rc_bgp.specs.Own.{own_paths}
-use Rattle.rc_bgp.specs.Passing.{as_received, as_sent, default_path, default_prefix, export, exported, import, imported, is_withheld, mapped, next_hop_over, originated_default, passes_list, with_med}
+use Rattle.rc_bgp_session.specs.Passing.{as_received, as_sent, default_path, default_prefix, export, exported, import, imported, is_withheld, mapped, next_hop_over, originated_default, passes_list, with_med}
 use Rattle.rc_bgp.specs.Reaching.{metric_to}
 use Rattle.rc_bgp.specs.Sessions.{is_up, sessions_of, up_sessions}
-use Rattle.rc_bgp.specs.declared.session.Session.{Session}
+use Rattle.rc_bgp_session.specs.declared.session.Session.{Session}
 use Rattle.rc_bgp.proofs.BestLaws.{among_has, best_in_order}
 use Rattle.rc_bgp.proofs.ChangeLaws.{covered, none_named}
 use Rattle.rc_bgp.proofs.ListLaws.{first_left}

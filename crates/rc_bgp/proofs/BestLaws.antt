@@ -26,10 +26,10 @@ use Rattle.rc_topology.proofs.ListLaws.{all_append, found_passes}
 use Rattle.rc_bgp.specs.Known.{path_at, paths_of, route_at}
 use Rattle.rc_bgp.specs.Originating.{by_network, by_networks, from_route, is_bgp, originated}
 use Rattle.rc_bgp.specs.Redistributing.{med_of, redistributed, redistributed_paths, takes}
-use Rattle.rc_bgp.specs.Passing.{as_sent, as_received, default_path, default_prefix, exported, export, imported, import, is_withheld, mapped, originated_default, passes_list, with_med}
+use Rattle.rc_bgp_session.specs.Passing.{as_sent, as_received, default_path, default_prefix, exported, export, imported, import, is_withheld, mapped, originated_default, passes_list, with_med}
 use Rattle.rc_bgp.specs.Reaching.{metric_to}
 use Rattle.rc_bgp.specs.Candidates.{advertised, advertised_best, advertised_default, best_among, candidates_at, heard, own_at, prefixes_of, prefixes_seen, reachable, sender_prefixes}
-use Rattle.rc_bgp.specs.declared.session.Session.{Session}
+use Rattle.rc_bgp_session.specs.declared.session.Session.{Session}
 use Rattle.rc_bgp.proofs.PartLaws.{Has, ask_has, either_has, map_has, mapped_has, none_has, or_has, some_has, then_has}
 use Rattle.rc_bgp.proofs.PrefixLaws.{made_from, made_in_order, same_is}
 

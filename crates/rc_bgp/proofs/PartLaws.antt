@@ -14,7 +14,7 @@ use Rattle.rc_config.specs.declared.router_text.RouterText.{RouterText}
 use Rattle.rc_policy.specs.Policy.{route_map}
 use Rattle.rc_policy.specs.declared.attrs.Attrs.{Attrs}
 use Rattle.rc_route.specs.declared.path.BgpPath.{BgpPath}
-use Rattle.rc_bgp.specs.Passing.{ask, attrs_of, mapped, mapped_by, with_attrs}
+use Rattle.rc_bgp_session.specs.Passing.{ask, attrs_of, mapped, mapped_by, with_attrs}
 
 module _ {X : Type 0} (part : BgpPath → X) where
   -- each path that may come has this part

@@ -13,9 +13,9 @@ use Rattle.rc_route.specs.declared.route.Source.TheVariants.{Ebgp, Ospf}
 use Rattle.rc_route.specs.declared.state.RouterState.{RouterState}
 use Rattle.rc_bgp.specs.Candidates.{best_paths, candidates}
 use Rattle.rc_bgp.specs.Learning.{learned_route}
-use Rattle.rc_bgp.specs.Nets.{ip, subnet, gigabit, gigabit_1, on, peer, process, router, two, three, external, internal, connected, static, knows, ninth}
+use Rattle.rc_bgp_session.specs.Nets.{ip, subnet, gigabit, gigabit_1, on, peer, process, router, two, three, external, internal, connected, static, knows, ninth}
 use Rattle.rc_bgp.specs.Originating.{by_networks}
-use Rattle.rc_bgp.specs.declared.session.Session.{Session}
+use Rattle.rc_bgp_session.specs.declared.session.Session.{Session}
 
 -- ---- `network 10.0.9.0 mask 255.255.255.0`
 

@@ -11,10 +11,10 @@ use Rattle.rc_route.specs.declared.route.Route.{Route}
 use Rattle.rc_route.specs.declared.state.RouterState.{RouterState}
 use Rattle.rc_bgp.specs.Known.{path_at, paths_of, table_of}
 use Rattle.rc_bgp.specs.Own.{own_paths}
-use Rattle.rc_bgp.specs.Passing.{default_prefix, export, import, originated_default}
+use Rattle.rc_bgp_session.specs.Passing.{default_prefix, export, import, originated_default}
 use Rattle.rc_bgp.specs.Reaching.{metric_to}
 use Rattle.rc_bgp.specs.Sessions.{up_sessions}
-use Rattle.rc_bgp.specs.declared.session.Session.{Session}
+use Rattle.rc_bgp_session.specs.declared.session.Session.{Session}
 
 -- the prefixes of paths, and those of a session's sender's best paths
 abbrev pub prefixes_of : List BgpPath → List Cidr

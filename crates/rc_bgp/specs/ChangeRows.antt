@@ -9,9 +9,9 @@ use Rattle.rc_route.specs.declared.route.Route.{Route}
 use Rattle.rc_route.specs.declared.state.RouterState.{RouterState}
 use Rattle.rc_bgp.specs.Candidates.{best_paths}
 use Rattle.rc_bgp.specs.Changes.{changes_of, mended_paths, suspects}
-use Rattle.rc_bgp.specs.Nets.{ip, subnet, gigabit, gigabit_1, on, peer, process, router, two, external, connected, knows, ninth}
+use Rattle.rc_bgp_session.specs.Nets.{ip, subnet, gigabit, gigabit_1, on, peer, process, router, two, external, connected, knows, ninth}
 use Rattle.rc_bgp.specs.Sessions.{is_up}
-use Rattle.rc_bgp.specs.declared.session.Session.{Session}
+use Rattle.rc_bgp_session.specs.declared.session.Session.{Session}
 
 pub changes_past_the_end : changes_of ((subnet 9 ∷ []) ∷ []) 1 ≡ []
 changes_past_the_end = refl

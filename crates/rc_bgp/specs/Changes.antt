@@ -12,7 +12,7 @@ use Rattle.rc_bgp.specs.Mending.{mended}
 use Rattle.rc_bgp.specs.Own.{own_paths}
 use Rattle.rc_bgp.specs.Reaching.{metric_to}
 use Rattle.rc_bgp.specs.Sessions.{is_up, sessions_of, up_sessions}
-use Rattle.rc_bgp.specs.declared.session.Session.{Session}
+use Rattle.rc_bgp_session.specs.declared.session.Session.{Session}
 
 -- the prefixes that are told of a router; none past the end
 abbrev pub changes_of : List (List Cidr) → ℕ → List Cidr

@@ -5,16 +5,14 @@ pub mod Levels
 pub mod Reaching
 pub mod Ways
 pub mod Originating
-pub mod Passing
 pub mod Redistributing
 pub mod Own
 pub mod Candidates
 pub mod Learning
 pub mod Mending
 pub mod Changes
-pub mod Nets
 pub mod SessionRows
-pub mod PassingRows
+pub mod LearningRows
 pub mod CandidateRows
 pub mod RedistributionRows
 pub mod ChangeRows

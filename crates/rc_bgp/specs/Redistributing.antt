@@ -25,7 +25,7 @@ use Rattle.rc_route.specs.declared.route.Route.{Route}
 use Rattle.rc_route.specs.declared.route.Source.{Source}
 use Rattle.rc_route.specs.declared.route.Source.TheVariants.{Connected, Static, Ospf, OspfIa, OspfE1, OspfE2}
 use Rattle.rc_bgp.specs.Originating.{originated}
-use Rattle.rc_bgp.specs.Passing.{default_prefix, mapped}
+use Rattle.rc_bgp_session.specs.Passing.{default_prefix, mapped}
 
 abbrev pub is_connected : Source → Bool
 is_connected Connected = true

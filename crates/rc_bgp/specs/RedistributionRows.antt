@@ -20,7 +20,7 @@ use Rattle.rc_route.specs.declared.route.Route.{Route}
 use Rattle.rc_route.specs.declared.route.Source.{Source}
 use Rattle.rc_route.specs.declared.route.Source.TheVariants as source
 use Rattle.rc_ospf.specs.Interfaces.{ospf_interfaces}
-use Rattle.rc_bgp.specs.Nets.{subnet, gigabit, loopback, on}
+use Rattle.rc_bgp_session.specs.Nets.{subnet, gigabit, loopback, on}
 use Rattle.rc_bgp.specs.Originating.{originated}
 use Rattle.rc_bgp.specs.Own.{own_paths}
 use Rattle.rc_bgp.specs.Redistributing.{no_kinds, redistributed_paths}

@@ -12,10 +12,10 @@ use Rattle.rc_fib.specs.Forwarding.{hops_within}
 use Rattle.rc_route.specs.declared.route.Route.{Route}
 use Rattle.rc_route.specs.declared.state.RouterState.{RouterState}
 use Rattle.rc_topology.specs.Ports.{links_of}
-use Rattle.rc_bgp.specs.Nets.{ip, subnet, gigabit, gigabit_1, loopback, on, peer, process, router, two, three, external, internal, connected, static, knows}
+use Rattle.rc_bgp_session.specs.Nets.{ip, subnet, gigabit, gigabit_1, loopback, on, peer, process, router, two, three, external, internal, connected, static, knows}
 use Rattle.rc_bgp.specs.Sessions.{sessions, is_up}
 use Rattle.rc_bgp.specs.Speakers.{identifier, own_addresses, speakers}
-use Rattle.rc_bgp.specs.declared.session.Session.{Session}
+use Rattle.rc_bgp_session.specs.declared.session.Session.{Session}
 
 -- ---- identifiers
 

@@ -9,7 +9,7 @@ use Rattle.rc_topology.specs.Topology.{Topology}
 use Rattle.rc_bgp.specs.Known.{table_of}
 use Rattle.rc_bgp.specs.Reaching.{reaches}
 use Rattle.rc_bgp.specs.Speakers.{speakers, statement_about}
-use Rattle.rc_bgp.specs.declared.session.Session.{Session}
+use Rattle.rc_bgp_session.specs.declared.session.Session.{Session}
 use Rattle.rc_bgp.specs.declared.speaker.OwnAddr.{OwnAddr}
 use Rattle.rc_bgp.specs.declared.speaker.Speaker.{Speaker}
 use Rattle.rc_bgp.specs.declared.statement.Statement.{Statement}

@@ -4,13 +4,13 @@ ghost use Rattle.std.specs.Option.{option_to_list};
 ghost use Rattle.rc_route.specs.Tables.{IsPathList, IsRouterState};
 ghost use Rattle.rc_bgp.specs.Candidates as spec;
 ghost use Rattle.rc_bgp.specs.Known.{path_at};
-ghost use Rattle.rc_bgp.specs.Passing as pass;
+ghost use Rattle.rc_bgp_session.specs.Passing as pass;
 
-use crate::Session;
 use crate::known::{path_at, paths_of};
-use crate::passing::{default_prefix, export, originated_default, taken};
 use crate::resolver::Resolver;
+use crate::{Session, export};
 use rc_base::{Items, Prefix};
+use rc_bgp_session::{default_prefix, originated_default, taken};
 use rc_config::Network;
 use rc_route::{BgpPath, State};
 use std::alloc::{AllocError, Global};

@@ -6,13 +6,12 @@ ghost use Rattle.rc_base.specs.Prefix.{same_prefix};
 ghost use Rattle.rc_config.specs.Down.{prefix_of};
 ghost use Rattle.rc_config.specs.Interface.{declared_addresses};
 ghost use Rattle.rc_route.specs.Tables.{IsPathList, IsTable};
-ghost use Rattle.rc_bgp.specs.Passing.{default_prefix};
+ghost use Rattle.rc_bgp_session.specs.Passing.{default_prefix};
 ghost use Rattle.rc_bgp.specs.Redistributing as spec;
 
 use crate::originating::originated;
-use crate::passing::default_prefix;
-use crate::policy::mapped;
 use rc_base::{Items, Origin, Prefix, RouterId};
+use rc_bgp_session::{default_prefix, mapped};
 use rc_config::{
     BgpProcess, BgpRedistribution, IfAddr, Interface, Network, OspfKinds, OspfRedistribution,
     RouterText,

@@ -8,7 +8,7 @@ ghost use Rattle.rc_route.specs.Tables.{IsPathList, IsRouterState};
 ghost use Rattle.rc_bgp.specs.Candidates as spec;
 ghost use Rattle.rc_bgp.specs.Changes.{AreChanges, AreMended, AreToldAmong, CoversChange};
 ghost use Rattle.rc_bgp.specs.Changes as change_spec;
-ghost use Rattle.rc_bgp.specs.declared.session.Session.{Session as SessionModel};
+ghost use Rattle.rc_bgp_session.specs.declared.session.Session.{Session as SessionModel};
 ghost use Rattle.rc_bgp.specs.Known as known_spec;
 
 use crate::alike::reads_alike;

@@ -11,7 +11,7 @@ use Rattle.rc_bgp.specs.Changes.{CoversChange}
 use Rattle.rc_bgp.specs.Known.{path_at, paths_of, table_of}
 use Rattle.rc_bgp.specs.Own.{own_paths, paths_of_process}
 use Rattle.rc_bgp.specs.Sessions.{is_up, sessions, sessions_of}
-use Rattle.rc_bgp.specs.declared.session.Session.{Session}
+use Rattle.rc_bgp_session.specs.declared.session.Session.{Session}
 use Rattle.rc_config.specs.Members.{router_at, router_ids}
 use Rattle.rc_config.specs.declared.network.Network.{Network}
 use Rattle.rc_config.specs.declared.router_text.RouterText.{RouterText}

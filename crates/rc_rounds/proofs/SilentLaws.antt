@@ -6,7 +6,7 @@ use Rattle.rc_bgp.specs.Candidates.{best_paths}
 use Rattle.rc_bgp.specs.Known.{table_of}
 use Rattle.rc_bgp.specs.Sessions.{sessions, sessions_from}
 use Rattle.rc_bgp.specs.Speakers.{silent, speaker_at, speaker_of, speakers}
-use Rattle.rc_bgp.specs.declared.session.Session.{Session}
+use Rattle.rc_bgp_session.specs.declared.session.Session.{Session}
 use Rattle.rc_bgp.specs.declared.speaker.Speaker.{Speaker}
 use Rattle.rc_config.specs.Members.{router_at, router_ids}
 use Rattle.rc_config.specs.declared.network.Network.{Network}

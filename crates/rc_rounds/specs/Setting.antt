@@ -3,7 +3,7 @@ use Rattle.std.specs.Prelude.{◌≡◌, List, All}
 use Rattle.std.specs.List.Sorted.{IsStrictlySortedBy}
 use Rattle.rc_base.specs.Prefix.{prefix_cmp}
 use Rattle.rc_bgp.specs.Sessions.{sessions}
-use Rattle.rc_bgp.specs.declared.session.Session.{Session}
+use Rattle.rc_bgp_session.specs.declared.session.Session.{Session}
 use Rattle.rc_config.specs.Lawful.{IsLawful}
 use Rattle.rc_config.specs.declared.network.Network.{Network}
 use Rattle.rc_ospf.specs.declared.model.Internal.{Internal}

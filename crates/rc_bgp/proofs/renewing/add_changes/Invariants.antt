@@ -3,7 +3,7 @@ use Rattle.std.specs.List.{flat_map, fold}
 use Rattle.std.specs.BTreeSet.{keys, insert_key}
 use Rattle.rc_base.specs.Prefix.{prefix_cmp}
 use Rattle.rc_bgp.specs.Changes.{changes_of}
-use Rattle.rc_bgp.specs.declared.session.Session.{Session}
+use Rattle.rc_bgp_session.specs.declared.session.Session.{Session}
 use Rattle.rc_bgp.proofs.renewing.add_changes.Given as goal
 
 abbrev pub invariant-loop-session : goal.invariant-loop-session

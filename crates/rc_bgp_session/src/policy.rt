@@ -1,6 +1,6 @@
 //! Prefix lists and route maps of a session.
 ghost use Rattle.std.specs.Prelude.{◌≡◌, IfOk};
-ghost use Rattle.rc_bgp.specs.Passing as spec;
+ghost use Rattle.rc_bgp_session.specs.Passing as spec;
 
 use rc_base::Prefix;
 use rc_config::{Mention, MetricType, RouteMap, RouterText};
@@ -90,8 +90,9 @@ fn mapped_by(
     }
 }
 
-/// What the route map that is named makes of a path, if any. Without a name the path stays as it is.
-pub(crate) fn mapped(
+/// What the route map that is named makes of a path: the path as it is where none is named, and `None` exactly where the map
+/// rejects it or isn't there. It errs only where memory runs out.
+pub fn mapped(
     alloc: Global,
     file: &RouterText,
     map: &Option<Mention>,

@@ -16,7 +16,7 @@ use Rattle.rc_route.specs.declared.route.Hop.TheVariants.{Dev, Via}
 use Rattle.rc_route.specs.declared.route.Route.{Route}
 use Rattle.rc_route.specs.declared.route.Source.TheVariants.{Connected, Static}
 use Rattle.rc_route.specs.declared.state.RouterState.{RouterState}
-use Rattle.rc_bgp.specs.declared.session.Session.{Session}
+use Rattle.rc_bgp_session.specs.declared.session.Session.{Session}
 
 -- 10.0.m.n
 abbrev pub ip : ℕ → ℕ → ℕ

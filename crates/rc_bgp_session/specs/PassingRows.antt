@@ -1,4 +1,4 @@
--- Worked cases of export, import and the routes of best paths, each by computation.
+-- Worked cases of export and import, each by computation.
 use Rattle.std.specs.Prelude.{◌≡◌, ℕ, true, List, [], ◌∷◌, Option, Some, None, option_and_then, codes, refl}
 use Rattle.rc_base.specs.declared.origin.Origin.TheVariants.{Egp, Incomplete}
 use Rattle.rc_config.specs.PrefixList.{no_lines as no_prefix_lines, with_line}
@@ -13,19 +13,15 @@ use Rattle.rc_config.specs.declared.router_text.RouterText.{RouterText}
 use Rattle.rc_config.specs.declared.sets.Sets.{Sets}
 use Rattle.rc_route.specs.declared.path.BgpPath.{BgpPath}
 use Rattle.rc_route.specs.declared.path.PathSource.TheVariants.{Network, Static, External, Internal}
-use Rattle.rc_route.specs.declared.route.Hop.TheVariants.{Via}
-use Rattle.rc_route.specs.declared.route.Route.{Route}
-use Rattle.rc_route.specs.declared.route.Source.TheVariants.{Ebgp, Ibgp}
-use Rattle.rc_bgp.specs.Learning.{learned_route}
-use Rattle.rc_bgp.specs.Nets.{ip, subnet, peer, external, internal, ninth}
-use Rattle.rc_bgp.specs.Passing.{exported, imported, default_path, no_export, no_advertise, no_export_subconfed}
-use Rattle.rc_bgp.specs.declared.session.Session.{Session}
+use Rattle.rc_bgp_session.specs.Nets.{ip, subnet, peer, external, internal, ninth}
+use Rattle.rc_bgp_session.specs.Passing.{exported, imported, default_path, no_export, no_advertise, no_export_subconfed}
+use Rattle.rc_bgp_session.specs.declared.session.Session.{Session}
 
 -- a path learned by router 0 from 10.0.7.7, of another AS or of its own
-abbrev learned : BgpPath
+abbrev pub learned : BgpPath
 learned = record (ninth 7 External) { next_hop = ip 7 7; med = 50; local_preference = 150; weight = 9; origin = Egp; as_path = 65003 ∷ []; communities = 77 ∷ []; sender_id = 70; neighbor = ip 7 7; igp_metric = 4 }
 
-abbrev from_peer : BgpPath
+abbrev pub from_peer : BgpPath
 from_peer = record learned { source = Internal }
 
 -- router 0, AS 65001, sends from 10.0.12.1 to 10.0.12.2 of router 1
@@ -171,17 +167,3 @@ default_out = refl
 
 pub default_inside : (default_path 65001 inside).as_path ≡ []
 default_inside = refl
-
--- ---- routes
-
-abbrev route : BgpPath → Option Route
-route x = learned_route x
-
-pub external_route : route learned ≡ Some (record { prefix = subnet 9; source = Ebgp; distance = 20; metric = 50; hops = Via (ip 7 7) None ∷ [] })
-external_route = refl
-
-pub internal_route : route from_peer ≡ Some (record { prefix = subnet 9; source = Ibgp; distance = 200; metric = 50; hops = Via (ip 7 7) None ∷ [] })
-internal_route = refl
-
-pub own_path_gives_none : route (ninth 0 Network) ≡ None
-own_path_gives_none = refl

@@ -1,7 +1,7 @@
 //! What a session makes of a path: export by its sender, import by its receiver.
 ghost use Rattle.std.specs.Prelude.{◌≡◌, IfOk};
 ghost use Rattle.rc_bgp_decide.specs.Decision.{is_internal, is_originated};
-ghost use Rattle.rc_bgp.specs.Passing as spec;
+ghost use Rattle.rc_bgp_session.specs.Passing as spec;
 
 use crate::Session;
 use crate::policy::{mapped, passes_list};
@@ -200,8 +200,8 @@ pub fn export(
     }
 }
 
-/// The prefix of the default route.
-pub(crate) fn default_prefix() -> Prefix
+/// The prefix of the default route, 0.0.0.0/0. It takes no memory.
+pub fn default_prefix() -> Prefix
     ensures { result ≡ spec.default_prefix }
 {
     Prefix::new(Addr::new(0), 0).unwrap()
@@ -229,8 +229,9 @@ fn default_path(alloc: Global, asn: u32, session: &Session) -> Result<BgpPath, A
     })
 }
 
-/// The default path that the sender of a session originates, if a line says so.
-pub(crate) fn originated_default(
+/// The default path that the sender of a session originates, or `None` exactly where no statement of it about the receiver has
+/// `default-originate`. No list and no map is put to it. It errs only where memory runs out.
+pub fn originated_default(
     alloc: Global,
     net: &Network,
     session: &Session,
@@ -309,8 +310,9 @@ fn imported(
     }
 }
 
-/// What the receiver of a session makes of a path that is its own already.
-pub(crate) fn taken(
+/// What the receiver of a session takes of an advertised path that is its own already: what `import` takes of it, without a copy.
+/// It errs only where memory runs out.
+pub fn taken(
     alloc: Global,
     net: &Network,
     session: &Session,

@@ -1,0 +1,14 @@
+//! One BGP session: what goes over it (RFC 4271 s.5.1, s.9.1, s.9.2, RFC 1997).
+//!
+//! It stands on the model of rc_config, the lists and maps of rc_policy, the paths of rc_route and, for what is internal or
+//! originated, on the decision of rc_bgp_decide. The layer above knows what the sender exports and the receiver imports as
+//! functions of the network, the session and the path. Which sessions there are is not asked here. All that errs is memory.
+#![tactic(auto)]
+
+mod passing;
+mod policy;
+mod session;
+
+pub use passing::{default_prefix, export, import, originated_default, taken};
+pub use policy::mapped;
+pub use session::{Session, Sessions};
