@@ -20,10 +20,19 @@ pub struct Full;
 
 /// A table of nodes, shared by callers of which each has a seat. It is made for the list of trees that a value of `M` stands for, and
 /// holds no others.
-#[derive(Drop)]
 pub struct Nodes<M: May> {
     table: Table<(), Knowledge, Plan<M>, NodeRule<M>, Global>,
     capacity: u32,
+}
+
+/// By a function of its own, so that what holds a table drops it by one call.
+impl<M: May> Drop for Nodes<M> {
+    fn drop(self) {
+        let Nodes {
+            table: _,
+            capacity: _,
+        } = self;
+    }
 }
 
 impl<M: May> Model for Nodes<M> {
