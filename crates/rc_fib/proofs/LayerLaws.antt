@@ -1,6 +1,8 @@
 -- Layer upon layer of entries comes to the resolved table.
-use Rattle.std.proofs.Common.{refl, subst, All, rules, ◌≡◌, ap, sym, ◌∙◌, ℕ, zero, suc, ◌+◌, ◌-◌, ◌<◌, ◌≤◌, arith, List, [], ◌∷◌, ◌++◌, map, Bool, true, false, cond, not, ◌&&◌, ◌||◌, Some, None}
+use Rattle.std.proofs.Common.{refl, subst, All, rules, ◌≡◌, ap, sym, ◌∙◌, ℕ, zero, suc, ◌+◌, ◌-◌, ◌<◌, ◌≤◌, arith, List, [], ◌∷◌, ◌++◌, map, append_assoc, length, get_or, take, Bool, true, false, cond, not, ◌&&◌, ◌||◌, Some, None}
 use Rattle.std.specs.List.{list_all, flat_map}
+use Rattle.std.proofs.lemmas.List.{map-append, take_more}
+use Rattle.std.proofs.lemmas.List.Elements.{All-push}
 use Rattle.std.specs.List.Sorted.{IsStrictlySortedBy}
 use Rattle.rc_base.specs.Prefix.{IsCidr, prefix_cmp}
 use Rattle.rc_route.specs.Tables.{IsTable}
@@ -10,7 +12,7 @@ use Rattle.rc_route.specs.declared.route.Hop.TheVariants.{Null, Dev, Via}
 use Rattle.rc_route.specs.Hops.{same_hop}
 use Rattle.rc_base.specs.Lists.{first_seen}
 use Rattle.rc_fib.specs.declared.entry.Entry.{Entry}
-use Rattle.rc_fib.specs.Entries.{IsInOrder, entries_over, is_settled}
+use Rattle.rc_fib.specs.Entries.{IsInOrder, entry_over, entries_over, is_settled}
 use Rattle.rc_fib.specs.Forwarding.{resolve_all, resolve_hop, resolved_hops, is_resolved, hops_within, resolved, resolved_within}
 use Rattle.rc_fib.proofs.ForwardingLaws.{resolved_hops-within}
 
@@ -127,6 +129,22 @@ in_order_over entries next table sorted is canonical = record {
   sorted = subst (IsStrictlySortedBy prefix_cmp) (sym (ap (map (λ (e : Entry). e.prefix)) is ∙ prefixes_over entries table)) sorted;
   canonical = canonical;
 }
+
+-- one entry more
+pub entries-more : (entries next more : List Entry) (table : List Route) (i : ℕ) (route : Route) → i < length table → route ≡ get_or table i route →
+    next ≡ entries_over entries (take i table) → more ≡ next ++ entry_over entries route ∷ [] → more ≡ entries_over entries (take (i + 1) table)
+entries-more entries next more table i route within at is push =
+    push ∙ (λ k. is k ++ entry_over entries (at k) ∷ [])
+    ∙ sym (map-append (entry_over entries) (take i table) (get_or table i route ∷ [])) ∙ ap (entries_over entries) (sym (take_more table i route within))
+
+-- and the one of what is left of a table
+pub entries-moved : (next more all : List Entry) (route : Route) (left rest : List Route) → all ≡ next ++ entries_over [] left → left ≡ route ∷ rest →
+    more ≡ next ++ entry_over [] route ∷ [] → all ≡ more ++ entries_over [] rest
+entries-moved next more all route left rest is front push =
+    is ∙ ap (λ rs. next ++ entries_over [] rs) front ∙ sym (append_assoc next (entry_over [] route ∷ []) (entries_over [] rest)) ∙ ap (λ es. es ++ entries_over [] rest) (sym push)
+
+pub canonical-more : (next more : List Entry) (e : Entry) → All (λ (e : Entry). IsCidr e.prefix) next → IsCidr e.prefix → more ≡ next ++ e ∷ [] → All (λ (e : Entry). IsCidr e.prefix) more
+canonical-more next more e all is push = subst (All (λ (e : Entry). IsCidr e.prefix)) (sym push) (All-push (λ (e : Entry). IsCidr e.prefix) next e all is)
 
 pub none_in_order : IsInOrder []
 unfolding IsStrictlySortedBy

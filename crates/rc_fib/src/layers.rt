@@ -1,5 +1,5 @@
 //! A table resolved layer by layer: each layer looks the gateways up in the one before it.
-ghost use Rattle.std.specs.Prelude.{◌≡◌, ◌↔◌, [], IsTrue, IfOk};
+ghost use Rattle.std.specs.Prelude.{◌≡◌, ◌↔◌, [], ◌∷◌, ◌++◌, IsTrue, IfOk, OnOk};
 ghost use Rattle.std.specs.List.{list_all};
 ghost use Rattle.rc_base.specs.Prefix.{IsCidr};
 ghost use Rattle.rc_route.specs.Tables.{IsTable};
@@ -17,16 +17,21 @@ use std::collections::VecDeque;
 /// How many look-ups may follow one another.
 const DEPTH: u8 = 16;
 
-/// A route's entry, where other entries give the hops of its gateways.
-fn entry_over(alloc: Global, entries: &[Entry], route: &Route) -> Result<Entry, AllocError>
+/// Puts a route's entry at the end, where other entries give the hops of its gateways.
+fn push_over(
+    next: &mut Items<Entry>,
+    alloc: Global,
+    entries: &[Entry],
+    route: &Route,
+) -> Result<(), AllocError>
     requires { IsInOrder entries.now }
-    ensures value { IfOk result (λ entry. entry ≡ layer.entry_over entries.now route.now) }
+    ensures value { OnOk result (next.new ≡ next.old ++ layer.entry_over entries.now route.now ∷ []) }
     ensures canonical { IsCidr route.now.prefix }
 {
     // For the proof: reading the network tells that the prefix is one.
     let _network = route.prefix.network();
     let hops = resolve_hops(alloc, entries, &route.hops)?;
-    Ok(Entry {
+    next.push(Entry {
         prefix: route.prefix,
         hops,
     })
@@ -45,21 +50,21 @@ fn entries_over(
 {
     let mut next = Items::from_vec(Vec::with_capacity(alloc, table.len())?);
     for route in table {
-        next.push(entry_over(alloc, entries, route)?)?;
+        push_over(&mut next, alloc, entries, route)?;
     }
     Ok(next)
 }
 
-/// A route's entry, where no other entries are known: it takes the route's hops over.
-fn entry_of(alloc: Global, route: Route) -> Result<Entry, AllocError>
-    ensures value { IfOk result (λ entry. entry ≡ layer.entry_over [] route) }
+/// Puts a route's entry at the end, where no other entries are known: it takes the route's hops over.
+fn push_taken(made: &mut Items<Entry>, alloc: Global, route: Route) -> Result<(), AllocError>
+    ensures value { OnOk result (made.new ≡ made.old ++ layer.entry_over [] route ∷ []) }
     ensures canonical { IsCidr route.prefix }
 {
     let prefix = route.prefix;
     // For the proof: reading the network tells that the prefix is one.
     let _network = prefix.network();
     let hops = taken_hops(alloc, route.into_hops())?;
-    Ok(Entry { prefix, hops })
+    made.push(Entry { prefix, hops })
 }
 
 /// The entries of a table, where no other entries are known: they take its hops over.
@@ -71,7 +76,7 @@ fn entries_of(alloc: Global, table: Table) -> Result<Items<Entry>, AllocError>
     let mut made = Items::from_vec(Vec::with_capacity(alloc, table.len())?);
     let mut left = VecDeque::from(table.into_vec());
     while let Some(route) = left.pop_front() {
-        made.push(entry_of(alloc, route)?)?;
+        push_taken(&mut made, alloc, route)?;
     }
     Ok(made)
 }
@@ -107,8 +112,7 @@ pub(crate) fn resolve_table(alloc: Global, table: &[Route]) -> Result<Items<Entr
     ensures in_order { IfOk result IsInOrder }
 {
     if is_plain_table(table) {
-        let plain = entries_over(alloc, &[], table)?;
-        return Ok(plain);
+        return entries_over(alloc, &[], table);
     }
     let mut entries = Items::new(alloc);
     for _depth in 0..DEPTH {

@@ -1,11 +1,12 @@
 -- A table read by its stretches.
-use Rattle.std.proofs.Common.{◌≡◌, ℕ, suc, ◌+◌, ◌≤◌, true, false, cond, refl, sym, ap, subst, ◌∙◌, arith, List, [], ◌∷◌, ◌++◌, append-nil, append_assoc, length, map, filter, take, drop, get_or, Result, Ok, Err, OnOk, Ordering, Less, Equal, Greater}
+use Rattle.std.proofs.Common.{◌≡◌, ℕ, zero, suc, ◌+◌, ◌<◌, ◌≤◌, true, false, cond, refl, sym, ap, subst, ◌∙◌, arith, List, [], ◌∷◌, ◌++◌, append-nil, append_assoc, length, map, filter, take, drop, get_or, Result, Ok, Err, OnOk, Ordering, Less, Equal, Greater}
 use Rattle.std.specs.BTreeSet.{insert_key}
 use Rattle.std.specs.Cmp.{IsTotalOrder}
 use Rattle.std.specs.List.{AllByRecursion, flat_map, fold, list_any}
 use Rattle.std.specs.Ordering.{match_ordering, ordering_reverse}
-use Rattle.std.proofs.lemmas.List.{take-append-drop}
+use Rattle.std.proofs.lemmas.List.{map-append, take-append-drop, take_more}
 use Rattle.std.proofs.lemmas.List.Concat.{flat_map-append}
+use Rattle.rc_base.specs.Prefix.{Cidr}
 use Rattle.rc_fib.specs.declared.entry.Entry.{Entry}
 use Rattle.rc_route.proofs.OrderLaws.{hop_cmp_total}
 use Rattle.rc_route.specs.Hops.{hop_cmp, same_hop}
@@ -54,6 +55,40 @@ on_done (Err e) P Q next done = tt
 -- one stretch more is found
 pub found_more : (x : Hop) (n : ℕ) (left : List Entry) → prefixes_over x (take n left) ++ prefixes_over x (drop n left) ≡ prefixes_over x left
 found_more x n left = sym (given-append x (take n left) (drop n left)) ∙ ap (prefixes_over x) (take-append-drop n left)
+
+pub more_found : (x : Hop) (n : ℕ) (given more all : List Cidr) (left stretch rest : List Entry) → stretch ≡ take n left → rest ≡ drop n left →
+    more ≡ given ++ prefixes_over x stretch → given ++ prefixes_over x left ≡ all → more ++ prefixes_over x rest ≡ all
+more_found x n given more all left stretch rest front back push is =
+    ap (λ ps. ps ++ prefixes_over x rest) push ∙ append_assoc given (prefixes_over x stretch) (prefixes_over x rest)
+    ∙ (λ i. given ++ (prefixes_over x (front i) ++ prefixes_over x (back i))) ∙ ap (λ ps. given ++ ps) (found_more x n left) ∙ is
+
+-- the prefix of one route more
+pub prefix_more : (old now more : List Cidr) (es : List Entry) (i : ℕ) (e : Entry) → i < length es → e ≡ get_or es i e →
+    now ≡ old ++ map (λ (f : Entry). f.prefix) (take i es) → more ≡ now ++ e.prefix ∷ [] → more ≡ old ++ map (λ (f : Entry). f.prefix) (take (i + 1) es)
+prefix_more old now more es i e within at is push =
+    push ∙ (λ k. is k ++ (at k).prefix ∷ []) ∙ append_assoc old (map (λ (f : Entry). f.prefix) (take i es)) ((get_or es i e).prefix ∷ [])
+    ∙ ap (λ ps. old ++ ps) (sym (map-append (λ (f : Entry). f.prefix) (take i es) (get_or es i e ∷ [])) ∙ ap (map (λ (f : Entry). f.prefix)) (sym (take_more es i e within)))
+
+-- ---- the stretches that are left
+
+drop_step : (ns : List ℕ) (k d : ℕ) → k < length ns → drop k ns ≡ get_or ns k d ∷ drop (k + 1) ns
+drop_step [] k d less = absurd (omega arith)
+drop_step (n ∷ ns) zero d less = refl
+drop_step (n ∷ ns) (suc k) d less =
+    drop_step ns k d (omega arith) ∙ ap (λ m. get_or ns k d ∷ drop m (n ∷ ns)) (let e : suc (k + 1) ≡ suc k + 1 = omega arith in e)
+
+drop_whole : (ns : List ℕ) (k : ℕ) → length ns ≤ k → drop k ns ≡ []
+drop_whole [] zero le = refl
+drop_whole [] (suc k) le = refl
+drop_whole (n ∷ ns) zero le = absurd (omega arith)
+drop_whole (n ∷ ns) (suc k) le = drop_whole ns k (omega arith)
+
+pub next_stretch : (ns : List ℕ) (k d : ℕ) (es : List Entry) → k < length ns → AreStretches (drop k ns) es →
+    (get_or ns k d ≤ length es) × IsStretch (take (get_or ns k d) es) × AreStretches (drop (k + 1) ns) (drop (get_or ns k d) es)
+next_stretch ns k d es less are = subst (λ ms. AreStretches ms es) (drop_step ns k d less) are
+
+pub no_stretch : (ns : List ℕ) (k : ℕ) (es : List Entry) → length ns ≤ k → AreStretches (drop k ns) es → es ≡ []
+no_stretch ns k es le are = subst (λ ms. AreStretches ms es) (drop_whole ns k le) are
 
 -- ---- a hop that was put in last may be put in again
 

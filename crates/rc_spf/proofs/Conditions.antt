@@ -87,8 +87,8 @@ below_copy n nodes costs copy lt len same = let e : length copy ≡ length costs
 
 -- the search at its start, from lists that are what they are to be
 pub start_of : (edges : List Edge) (root nodes most : ℕ) (costs : List (Option ℕ)) (settled : List Bool) (firsts : List First) → root < nodes →
-    costs ≡ replicate nodes None → settled ≡ replicate nodes false → firsts ≡ [] → IsSearch edges root nodes most (set costs root (Some 0)) settled firsts
+    costs ≡ set (replicate nodes None) root (Some 0) → settled ≡ replicate nodes false → firsts ≡ [] → IsSearch edges root nodes most costs settled firsts
 start_of edges root nodes most costs settled firsts lt a b c =
-    subst (λ k. IsSearch edges root nodes most (set k root (Some 0)) settled firsts) (sym a)
+    subst (λ k. IsSearch edges root nodes most k settled firsts) (sym a)
     (subst (λ k. IsSearch edges root nodes most (set (replicate nodes None) root (Some 0)) k firsts) (sym b)
     (subst (λ k. IsSearch edges root nodes most (set (replicate nodes None) root (Some 0)) (replicate nodes false) k) (sym c) (search_start edges root nodes most lt)))

@@ -153,24 +153,25 @@ lower_at costs at sum d answer lt is test y has =
     (subst (λ (o : Option ℕ). MatchOption o (IsTrue answer) (λ old. IsTrue answer ↔ (sum < old))) (get_or_default costs at d None lt ∙ has) test).0 is
 
 -- at the start the root alone waits
-pub first_waits : (costs : List (Option ℕ)) (queue queue' : Queue) (settled : List Bool) (root nodes : ℕ) → root < nodes → costs ≡ replicate nodes None → queue ≡ [] →
-    IsPermutation ((0, root) ∷ queue) queue' → IsQueue queue' (set costs root (Some 0)) settled
-first_waits costs queue queue' settled root nodes lt none empty perm =
-    (lowered queue queue' costs root 0 in_range perm (λ y has. absurd (no_cost root y has))).still settled (record {
-      open_waits = λ k x is has. absurd (no_cost k x has);
+pub first_waits : (costs : List (Option ℕ)) (queue queue' : Queue) (settled : List Bool) (root nodes : ℕ) → root < nodes →
+    costs ≡ set (replicate nodes None) root (Some 0) → queue ≡ [] → IsPermutation ((0, root) ∷ queue) queue' → IsQueue queue' costs settled
+first_waits costs queue queue' settled root nodes lt same empty perm =
+    subst (λ k. IsQueue queue' k settled) (sym same)
+    ((lowered queue queue' unreached root 0 in_range perm (λ y has. absurd (no_cost nodes root y has))).still settled (record {
+      open_waits = λ k x is has. absurd (no_cost nodes k x has);
       no_lower = λ k y has. absurd (let (j, bad, e) = subst (λ (l : Queue). Contains l (y, k)) empty has in omega arith);
-    })
+    }))
   where
-    no_cost : (k x : ℕ) → HasCost costs k x → ⊥
-    no_cost k x has = none_at nodes k x (subst (λ (l : List (Option ℕ)). HasCost l k x) none has)
-      where
-        none_at : (n k x : ℕ) → HasCost (replicate n None) k x → ⊥
-        none_at zero k x has = cc
-        none_at (suc n) zero x has = cc
-        none_at (suc n) (suc k) x has = none_at n k x has
+    no_cost : (n k x : ℕ) → HasCost (replicate n None) k x → ⊥
+    no_cost zero k x has = cc
+    no_cost (suc n) zero x has = cc
+    no_cost (suc n) (suc k) x has = no_cost n k x has
 
-    in_range : root < length costs
-    in_range = let e : length costs ≡ nodes = ap length none ∙ length-replicate nodes None in omega arith
+    unreached : List (Option ℕ)
+    unreached = replicate nodes None
+
+    in_range : root < length unreached
+    in_range = let e : length unreached ≡ nodes = length-replicate nodes None in omega arith
 
 -- a turn of the search
 pub queue_turn : (left queue' : Queue) (costs costs₁ costs₂ new costs' : List (Option ℕ)) (settled settled₁ : List Bool) (node cost : ℕ) →

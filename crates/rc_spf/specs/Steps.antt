@@ -1,11 +1,13 @@
 -- What the parts of the search promise.
-use Rattle.std.specs.Prelude.{◌≡◌, ℕ, ◌+◌, ◌*◌, ◌≤◌, ◌<◌, ◌⊎◌, ◌↔◌, Bool, true, false, cond, List, Option, Some, None, Contains, All, length, Vec, take, drop, ◌-◌}
+use Rattle.std.specs.Prelude.{◌≡◌, ℕ, ◌+◌, ◌*◌, ◌≤◌, ◌<◌, ◌⊎◌, ◌↔◌, Bool, true, false, cond, List, Option, Some, None, Contains, All, length, Vec, take, drop, ◌-◌, [], replicate, slice_set, vec_len, MatchOption}
 use Rattle.std.specs.declared.alloc.Global.{Global}
 use Rattle.std.specs.List.{slice_index_or}
 use Rattle.rc_spf.specs.declared.graph.Edge.{Edge}
 use Rattle.rc_spf.specs.declared.graph.First.{First}
 use Rattle.rc_spf.specs.declared.graph.Graph.{Graph}
 use Rattle.rc_spf.specs.declared.graph.Groups.{Groups}
+use Rattle.rc_spf.specs.declared.graph.Tree.{Tree}
+use Rattle.rc_spf.specs.Walks.{IsWalk, IsLeastCost, IsFirstHop}
 
 -- the cost that a node has so far
 abbrev pub HasCost : List (Option ℕ) → ℕ → ℕ → Type 0
@@ -88,3 +90,19 @@ HasNoFirsts n firsts = (h : ℕ) → Contains firsts (first_of n h) → ⊥
 -- no cost is more than that of so many edges of the greatest cost as there are nodes
 pub record AreBounded (costs : List (Option ℕ)) (edges : List Edge) (nodes : ℕ) : Type 0 where
   pub bound : (most : ℕ) → All (λ (e : Edge). e.cost ≤ most) edges → (n c : ℕ) → HasCost costs n c → c ≤ nodes * most
+
+-- what is known of the walks from a root before the search: the root alone is reached
+pub record IsStart (nodes root : ℕ) (tree : Tree) : Type 0 where
+  pub costs : tree.costs.items ≡ slice_set (replicate nodes None) root (Some 0)
+  pub firsts : tree.firsts.items ≡ []
+  pub spans : AreSpans tree.spans.items tree.firsts.items
+  pub len : length tree.spans.items ≡ nodes
+
+-- the least walks from a root
+pub record IsTree (graph : Graph) (root : ℕ) (tree : Tree) : Type 0 where
+  pub nodes : vec_len tree.costs ≡ graph.nodes
+  pub cost : (n : ℕ) → MatchOption (slice_index_or tree.costs.items n None)
+      ((walk : List Edge) → IsWalk graph.edges.items root walk n → ⊥) (λ c. IsLeastCost graph.edges.items root n c)
+  pub spans : AreSpans tree.spans.items tree.firsts.items × (length tree.spans.items ≡ graph.nodes)
+  pub small : AreBounded tree.costs.items graph.edges.items graph.nodes
+  pub hops : (n h : ℕ) → Contains tree.firsts.items (first_of n h) ↔ IsFirstHop graph.edges.items root n h

@@ -1,17 +1,17 @@
 //! The search: the nearest node that is not settled is settled, and the edges out of it are followed (RFC 2328, section
 //! 16.1, steps 1 to 5). At any moment each node that was reached and is not settled waits in the queue at its cost.
-ghost use Rattle.std.specs.Prelude.{◌≡◌, ℕ, ◌+◌, ◌*◌, ◌^◌, ◌<◌, ◌≤◌, ◌↔◌, length, None, IsTrue, IfOk, MatchOption, All, Contains, vec_len, List};
+ghost use Rattle.std.specs.Prelude.{◌≡◌, ℕ, ◌+◌, ◌*◌, ◌^◌, ◌<◌, ◌≤◌, ◌↔◌, length, None, IsTrue, IfOk, MatchOption, All, Contains, vec_len, List, replicate, false};
 ghost use Rattle.std.specs.List.{slice_index_or};
 ghost use Rattle.std.specs.BinaryHeap.{heap_items};
 ghost use Rattle.rc_spf.specs.declared.graph.Edge.{Edge};
 ghost use Rattle.rc_spf.specs.Waiting.{waiting, IsQueue, IsNext, IsStillQueue};
 ghost use Rattle.rc_spf.specs.Walks.{IsWalk, IsLeastCost, IsFirstHop};
-ghost use Rattle.rc_spf.specs.Steps.{NoneNearest, IsImproved, IsRelaxed, first_of, AreBounded, AreGroups, AreSpans};
+ghost use Rattle.rc_spf.specs.Steps.{NoneNearest, IsImproved, IsRelaxed, first_of, AreBounded, AreGroups, AreSpans, IsStart, IsTree};
 
 use crate::groups::groups_of;
 use crate::hops::{find_hops, record_span};
 use crate::queue::Queue;
-use crate::{Edge, First, Graph, Groups, Tree};
+use crate::{Edge, Graph, Groups, Tree};
 use std::alloc::{AllocError, Global};
 
 /// Takes the node of least cost among those that are not settled out of the queue, with its cost.
@@ -77,6 +77,105 @@ fn relax(
     Ok(())
 }
 
+/// A search under way.
+struct Search {
+    /// What is known of the walks so far.
+    tree: Tree,
+    /// By node: whether its cost and its first hops are final.
+    settled: Vec<bool>,
+    queue: Queue,
+    /// The hops found at the node that was settled last.
+    found: Vec<usize>,
+}
+
+/// By a function of its own, so that what holds a search drops it by one call.
+impl Drop for Search {
+    fn drop(self) {
+        let Search {
+            tree: _,
+            settled: _,
+            queue: _,
+            found: _,
+        } = self;
+    }
+}
+
+/// What is known of the walks from a root before the search: the root alone is reached.
+fn start(alloc: Global, nodes: usize, root: usize) -> Result<Tree, AllocError>
+    requires { root < nodes }
+    ensures { IfOk result (λ t. IsStart nodes root t) }
+{
+    let mut costs = vec![in alloc; None; nodes]?;
+    costs[root] = Some(0);
+    let spans = vec![in alloc; (0, 0); nodes]?;
+    Ok(Tree {
+        costs,
+        firsts: Vec::new(alloc),
+        spans,
+    })
+}
+
+impl Search {
+    /// A search from a root, at its start.
+    fn new(alloc: Global, nodes: usize, root: usize) -> Result<Search, AllocError>
+        requires { root < nodes }
+        ensures tree { IfOk result (λ s. IsStart nodes root s.tree) }
+        ensures settled { IfOk result (λ s. s.settled.items ≡ replicate nodes false) }
+        ensures queue { IfOk result (λ s. IsQueue (waiting (heap_items s.queue.heap)) s.tree.costs.items s.settled.items) }
+    {
+        let mut queue = Queue::new(alloc);
+        queue.push(0, root)?;
+        let settled = vec![in alloc; false; nodes]?;
+        let tree = start(alloc, nodes, root)?;
+        Ok(Search {
+            tree,
+            settled,
+            queue,
+            found: Vec::new(alloc),
+        })
+    }
+
+    /// Settles all nodes that walks from the root lead to, the nearest first.
+    fn run(&mut self, graph: &Graph, groups: &Groups, root: usize) -> Result<(), AllocError>
+        requires root { root < graph.now.nodes }
+        requires ends { All (λ e. (e.from < graph.now.nodes) × (e.to < graph.now.nodes)) graph.now.edges.items }
+        requires costs { All (λ e. (1 ≤ e.cost) × (e.cost * graph.now.nodes < 2 ^ 32)) graph.now.edges.items }
+        requires groups { AreGroups graph.now groups.now }
+        requires tree { IsStart graph.now.nodes root self.old.tree }
+        requires settled { self.old.settled.items ≡ replicate graph.now.nodes false }
+        requires queue { IsQueue (waiting (heap_items self.old.queue.heap)) self.old.tree.costs.items self.old.settled.items }
+        ensures { IfOk result (λ u. IsTree graph.now root self.new.tree) }
+    {
+        while let Some((node, cost)) = next(&mut self.queue, &self.tree.costs, &self.settled) {
+            let incoming = &groups.incoming[node];
+            find_hops(&mut self.found, incoming, root, node, cost, &self.tree)?;
+            record_span(
+                &mut self.tree.firsts,
+                &mut self.tree.spans,
+                node,
+                &self.found,
+            )?;
+            self.settled[node] = true;
+            let outgoing = &groups.outgoing[node];
+            relax(outgoing, node, cost, &mut self.tree.costs, &mut self.queue)?;
+        }
+        Ok(())
+    }
+
+    /// What the search found.
+    fn into_tree(self) -> Tree
+        ensures { result ≡ self.tree }
+    {
+        let Search {
+            tree,
+            settled: _,
+            queue: _,
+            found: _,
+        } = self;
+        tree
+    }
+}
+
 /// The least walks from a root, by the groups of the graph's edges: the least cost to each node, and the first hops of all
 /// least walks.
 ///
@@ -98,34 +197,9 @@ pub fn tree_by(
     ensures small { IfOk result (λ t. AreBounded t.costs.items graph.now.edges.items graph.now.nodes) }
     ensures hops { IfOk result (λ t. (n h : ℕ) → Contains t.firsts.items (first_of n h) ↔ IsFirstHop graph.now.edges.items root n h) }
 {
-    let mut costs: Vec<Option<u32>> = vec![in alloc; None; graph.nodes]?;
-    let mut settled: Vec<bool> = vec![in alloc; false; graph.nodes]?;
-    let mut firsts: Vec<First> = Vec::new(alloc);
-    let mut spans: Vec<(usize, usize)> = vec![in alloc; (0, 0); graph.nodes]?;
-    let mut found: Vec<usize> = Vec::new(alloc);
-    let mut queue = Queue::new(alloc);
-    costs[root] = Some(0);
-    queue.push(0, root)?;
-    while let Some((node, cost)) = next(&mut queue, &costs, &settled) {
-        find_hops(
-            &mut found,
-            &groups.incoming[node],
-            root,
-            node,
-            cost,
-            &costs,
-            &firsts,
-            &spans,
-        )?;
-        record_span(&mut firsts, &mut spans, node, &found)?;
-        settled[node] = true;
-        relax(&groups.outgoing[node], node, cost, &mut costs, &mut queue)?;
-    }
-    Ok(Tree {
-        costs,
-        firsts,
-        spans,
-    })
+    let mut search = Search::new(alloc, graph.nodes, root)?;
+    search.run(graph, groups, root)?;
+    Ok(search.into_tree())
 }
 
 /// The least walks from a root: the least cost to each node, and the first hops of all least walks.

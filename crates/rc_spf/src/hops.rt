@@ -2,15 +2,15 @@
 ghost use Rattle.std.specs.Prelude.{◌≡◌, ℕ, ◌<◌, ◌↔◌, ◌⊎◌, ◌++◌, map, length, IsTrue, IfOk, All, Contains};
 ghost use Rattle.rc_spf.specs.Steps.{IsTight, IsFound, first_of, AreSpans, HasFirstsOf, HasNoFirsts};
 
-use crate::{Edge, First};
+use crate::{Edge, First, Tree};
 use std::alloc::AllocError;
 
 /// Whether the edge ends a walk of that cost to the node.
-fn is_tight(costs: &[Option<u32>], node: usize, cost: u32, edge: Edge) -> bool
-    requires { edge.from < length costs.now }
-    ensures { IsTrue result ↔ IsTight costs.now node cost edge }
+fn is_tight(tree: &Tree, node: usize, cost: u32, edge: Edge) -> bool
+    requires { edge.from < length tree.now.costs.items }
+    ensures { IsTrue result ↔ IsTight tree.now.costs.items node cost edge }
 {
-    match costs[edge.from] {
+    match tree.costs[edge.from] {
         Some(before) => edge.to == node && edge.cost <= cost && before == cost - edge.cost,
         None => false,
     }
@@ -26,8 +26,8 @@ fn add(found: &mut Vec<usize>, hop: usize) -> Result<(), AllocError>
     Ok(())
 }
 
-/// Adds the first hops of a node.
-fn add_hops(firsts: &[First], from: usize, found: &mut Vec<usize>) -> Result<(), AllocError>
+/// Adds the first hops that are among these of a node.
+fn add_firsts(firsts: &[First], from: usize, found: &mut Vec<usize>) -> Result<(), AllocError>
     ensures { IfOk result (λ u. (h : ℕ) → Contains found.new.items h ↔ (Contains found.old.items h ⊎ Contains firsts.now (first_of from h))) }
 {
     for first in firsts {
@@ -48,6 +48,15 @@ pub fn firsts_at<'a>(firsts: &'a [First], spans: &[(usize, usize)], node: usize)
     &firsts[from..to]
 }
 
+/// Adds the first hops of a node.
+fn add_hops(tree: &Tree, from: usize, found: &mut Vec<usize>) -> Result<(), AllocError>
+    requires spans { AreSpans tree.now.spans.items tree.now.firsts.items }
+    requires from { from < length tree.now.spans.items }
+    ensures { IfOk result (λ u. (h : ℕ) → Contains found.new.items h ↔ (Contains found.old.items h ⊎ Contains tree.now.firsts.items (first_of from h))) }
+{
+    add_firsts(firsts_at(&tree.firsts, &tree.spans, from), from, found)
+}
+
 /// Finds the hops by which walks of that cost to a node begin, from the edges that lead there. What was found before is cleared
 /// away, so that one list serves all nodes.
 pub(crate) fn find_hops(
@@ -56,22 +65,20 @@ pub(crate) fn find_hops(
     root: usize,
     node: usize,
     cost: u32,
-    costs: &[Option<u32>],
-    firsts: &[First],
-    spans: &[(usize, usize)],
+    tree: &Tree,
 ) -> Result<(), AllocError>
-    requires ends { All (λ e. e.from < length costs.now) edges.now }
-    requires len { length spans.now ≡ length costs.now }
-    requires spans { AreSpans spans.now firsts.now }
-    ensures { IfOk result (λ u. IsFound edges.now root node cost costs.now firsts.now found.new.items) }
+    requires ends { All (λ e. e.from < length tree.now.costs.items) edges.now }
+    requires len { length tree.now.spans.items ≡ length tree.now.costs.items }
+    requires spans { AreSpans tree.now.spans.items tree.now.firsts.items }
+    ensures { IfOk result (λ u. IsFound edges.now root node cost tree.now.costs.items tree.now.firsts.items found.new.items) }
 {
     found.clear();
     for edge in edges {
-        if is_tight(costs, node, cost, *edge) {
+        if is_tight(tree, node, cost, *edge) {
             if edge.from == root {
                 add(found, edge.hop)?;
             }
-            add_hops(firsts_at(firsts, spans, edge.from), edge.from, found)?;
+            add_hops(tree, edge.from, found)?;
         }
     }
     Ok(())

@@ -1,6 +1,8 @@
 use Rattle.std.proofs.Common.{◌≡◌, ap, sym, ◌∙◌, arith}
 use Rattle.std.proofs.lemmas.Grind.{common_steps}
+use Rattle.std.proofs.lemmas.Result.{IfOk-weaker}
 use Rattle.rc_fib.specs.Entries.{entries_over}
+use Rattle.rc_fib.specs.Forwarding.{resolved}
 use Rattle.rc_fib.proofs.LayerLaws.{more_layers, all_layers, next_of_layers, no_layers, last_layer, none_in_order, plain_table}
 use Rattle.rc_fib.proofs.layers.resolve_table.Goals as goal
 
@@ -32,4 +34,6 @@ entries_over-requires-clause-entries c = none_in_order
 
 pub returns-then-is_plain_table-clause-value : goal.returns-then-is_plain_table-clause-value
 returns-then-is_plain_table-clause-value c =
-    plain_table c.args.table.now c.in_ok-plain.plain c.in_ok-plain.ensures.value (sym c.is_plain_table.ensures ∙ c.if-is_plain_table.true)
+    let table = c.args.table.now in
+    let plain = sym c.is_plain_table.ensures ∙ c.if-is_plain_table.true in
+    IfOk-weaker _ _ (λ entries. entries ≡ resolved table) (λ made is. plain_table table made is plain) c.entries_over.ensures.value

@@ -1,100 +1,18 @@
-use Rattle.std.proofs.Common.{rules, subst, ◌+◌, ◌<◌, ◌^◌, length, ap, sym, ◌∙◌, refl, true, false}
-use Rattle.rc_spf.specs.declared.graph.Edge.{Edge}
-use Rattle.rc_spf.proofs.Found.{done_cost, done_hops, done_small}
-use Rattle.rc_spf.proofs.Grouping.{found_in, relaxed_in, all_in}
-use Rattle.rc_spf.proofs.Conditions.{fit_of, sum_fits, whole, near_of, none_of, turn, near_small, below_copy, start_of}
-use Rattle.rc_spf.proofs.Waiting.{first_waits, queue_turn}
-use Rattle.rc_spf.proofs.Spans.{spans_start, spans_len, spans_of_copies, none_of_open}
+use Rattle.std.proofs.Common.{sym, subst}
+use Rattle.rc_spf.specs.Steps.{IsTree}
 use Rattle.rc_spf.proofs.dijkstra.tree_by.Goals as goal
 
-pub loop-node-init : goal.loop-node-init
-loop-node-init c = (
-  start_of _ _ _ _ _ _ _ c.requires.root
-      (c.in_ok-costs.ensures.items_if_clones_equal (search rules)) (c.in_ok-settled.ensures.items_if_clones_equal (λ y is. is)) c.new-firsts.ensures.items,
-  first_waits _ _ _ _ _ _ c.requires.root (c.in_ok-costs.ensures.items_if_clones_equal (search rules)) c.new-queue.ensures c.in_ok-push.ensures,
-  spans_start _ _ _ (c.in_ok-spans.ensures.items_if_clones_equal (search rules)) c.new-firsts.ensures.items,
-  spans_len _ _ (c.in_ok-spans.ensures.items_if_clones_equal (search rules)),
-)
-
-pub find_hops-requires-clause-ends : goal.find_hops-requires-clause-ends
-find_hops-requires-clause-ends c =
-    let fit = fit_of _ c.args.root _ c.requires.root c.requires.ends c.requires.costs in
-    let near = near_of _ _ _ _ _ _ c.deref.ensures.value c.deref-in-loop-node.ensures.value c.in-Some.ensures.nearest in
-    all_in (λ (e : Edge). e.from < length c.deref-in-Some-2.result.now) _ c.args.graph.now.edges.items _ _ _ _ false
-    (near_small _ _ _ _ _ _ _ _ _ c.loop-node.invariant.0 near) c.requires.groups.incoming
-    c.index.ensures c.deref-in-Some.ensures.value
-    (λ e has. below_copy e.from _ _ _ (fit.from e has) c.loop-node.invariant.0.costs_len c.deref-in-Some-2.ensures.value)
-
-pub find_hops-requires-clause-len : goal.find_hops-requires-clause-len
-find_hops-requires-clause-len c = ap length c.deref-in-Some-4.ensures.value ∙ c.loop-node.invariant.3 ∙ sym c.loop-node.invariant.0.costs_len ∙ sym (ap length c.deref-in-Some-2.ensures.value)
-
-pub find_hops-requires-clause-spans : goal.find_hops-requires-clause-spans
-find_hops-requires-clause-spans c = spans_of_copies _ _ _ _ c.deref-in-Some-4.ensures.value c.deref-in-Some-3.ensures.value c.loop-node.invariant.2
-
-pub record_span-requires-clause-node : goal.record_span-requires-clause-node
-record_span-requires-clause-node c =
-    let near = near_of _ _ _ _ _ _ c.deref.ensures.value c.deref-in-loop-node.ensures.value c.in-Some.ensures.nearest in
-    let small = near_small _ _ _ _ _ _ _ _ _ c.loop-node.invariant.0 near in
-    let long = ap length c.deref_mut.ensures.value ∙ c.loop-node.invariant.3 in
-    subst (λ n. c.in-Some.node < n) (sym long) small
-
-pub record_span-requires-clause-spans : goal.record_span-requires-clause-spans
-record_span-requires-clause-spans c = spans_of_copies _ _ _ _ c.deref_mut.ensures.value refl c.loop-node.invariant.2
-
-pub record_span-requires-clause-none : goal.record_span-requires-clause-none
-record_span-requires-clause-none c =
-    let near = near_of _ _ _ _ _ _ c.deref.ensures.value c.deref-in-loop-node.ensures.value c.in-Some.ensures.nearest in
-    none_of_open _ _ _ c.loop-node.invariant.0.firsts_settled near.is_open
-
-pub relax-requires-clause-ends : goal.relax-requires-clause-ends
-relax-requires-clause-ends c =
-    let fit = fit_of _ c.args.root _ c.requires.root c.requires.ends c.requires.costs in
-    let near = near_of _ _ _ _ _ _ c.deref.ensures.value c.deref-in-loop-node.ensures.value c.in-Some.ensures.nearest in
-    all_in (λ (e : Edge). e.to < length c.deref_mut-in-Some.result.now) _ c.args.graph.now.edges.items _ _ _ _ true
-    (near_small _ _ _ _ _ _ _ _ _ c.loop-node.invariant.0 near) c.requires.groups.outgoing
-    c.index-in-Some.ensures c.deref-in-Some-6.ensures.value
-    (λ e has. below_copy e.to _ _ _ (fit.to e has) c.loop-node.invariant.0.costs_len c.deref_mut-in-Some.ensures.value)
-
-pub relax-requires-clause-fits : goal.relax-requires-clause-fits
-relax-requires-clause-fits c =
-    let fit = fit_of _ c.args.root _ c.requires.root c.requires.ends c.requires.costs in
-    let near = near_of _ _ _ _ _ _ c.deref.ensures.value c.deref-in-loop-node.ensures.value c.in-Some.ensures.nearest in
-    all_in (λ (e : Edge). c.in-Some.cost + e.cost < 2 ^ 32) _ c.args.graph.now.edges.items _ _ _ _ true
-    (near_small _ _ _ _ _ _ _ _ _ c.loop-node.invariant.0 near) c.requires.groups.outgoing
-    c.index-in-Some.ensures c.deref-in-Some-6.ensures.value
-    (λ e has. sum_fits c.args.graph.now.edges.items c.args.root c.args.graph.now.nodes c.in-Some.node c.in-Some.cost e.cost _ _ _ c.loop-node.invariant.0 near (fit.greatest e has))
-
-pub loop-node-preserved : goal.loop-node-preserved
-loop-node-preserved c = (
-  let near = near_of _ _ _ _ _ _ c.deref.ensures.value c.deref-in-loop-node.ensures.value c.in-Some.ensures.nearest in
-      let small = near_small _ _ _ _ _ _ _ _ _ c.loop-node.invariant.0 near in
-      turn c.args.graph.now.edges.items _ _ c.args.root c.args.graph.now.nodes c.in-Some.node c.in-Some.cost _ _ _ _ _ _ _ _ _ _ _
-      (fit_of _ c.args.root _ c.requires.root c.requires.ends c.requires.costs) c.loop-node.invariant.0 near
-      refl c.deref-in-Some-2.ensures.value c.deref-in-Some-3.ensures.value
-      (found_in _ c.args.graph.now.edges.items _ _ _ _ _ _ _ _ _ small c.requires.groups.incoming
-      c.index.ensures c.deref-in-Some.ensures.value c.in_ok-find_hops.ensures)
-      c.deref-in-Some-5.ensures.value c.in_ok-record_span.ensures.items
-      refl c.deref_mut-in-Some.ensures.value
-      (relaxed_in _ c.args.graph.now.edges.items _ _ _ _ _ _ _ small c.requires.groups.outgoing
-      c.index-in-Some.ensures c.deref-in-Some-6.ensures.value c.in_ok-relax.ensures.costs) c.relax.auto.costs
-      (whole _ _ _ ((c.loop-node.costs.ok).0 ∙ sym (ap length c.deref_mut-in-Some.ensures.value) ∙ sym c.relax.auto.costs)),
-  queue_turn _ _ _ _ _ _ _ _ _ _ _ c.deref.ensures.value c.deref-in-loop-node.ensures.value c.in-Some.ensures
-      c.deref_mut-in-Some.ensures.value c.in_ok-relax.ensures.queue
-      (whole _ _ _ ((c.loop-node.costs.ok).0 ∙ sym (ap length c.deref_mut-in-Some.ensures.value) ∙ sym c.relax.auto.costs)),
-  spans_of_copies _ _ _ _ (whole _ _ _ ((c.loop-node.spans.ok).0 ∙ sym (ap length c.deref_mut.ensures.value) ∙ sym c.record_span.auto.spans)) refl c.in_ok-record_span.ensures.spans,
-  ap length (whole _ _ _ ((c.loop-node.spans.ok).0 ∙ sym (ap length c.deref_mut.ensures.value) ∙ sym c.record_span.auto.spans))
-      ∙ c.record_span.auto.spans ∙ ap length c.deref_mut.ensures.value ∙ c.loop-node.invariant.3,
-)
+pub returns-clause-nodes : goal.returns-clause-nodes
+returns-clause-nodes c = (subst (IsTree c.args.graph.now c.args.root) (sym c.into_tree.ensures) c.in_ok-run.ensures).nodes
 
 pub returns-clause-cost : goal.returns-clause-cost
-returns-clause-cost c = done_cost _ _ _ _ _ c.loop-node.settled.items _
-    (fit_of _ c.args.root _ c.requires.root c.requires.ends c.requires.costs)
-    (record { search = c.loop-node.invariant.0; none = none_of _ _ _ _ c.deref.ensures.value c.deref-in-loop-node.ensures.value c.in_default.ensures })
+returns-clause-cost c = (subst (IsTree c.args.graph.now c.args.root) (sym c.into_tree.ensures) c.in_ok-run.ensures).cost
 
-pub returns-clause-hops : goal.returns-clause-hops
-returns-clause-hops c = done_hops _ _ _ _ _ c.loop-node.settled.items _
-    (fit_of _ c.args.root _ c.requires.root c.requires.ends c.requires.costs)
-    (record { search = c.loop-node.invariant.0; none = none_of _ _ _ _ c.deref.ensures.value c.deref-in-loop-node.ensures.value c.in_default.ensures })
+pub returns-clause-spans : goal.returns-clause-spans
+returns-clause-spans c = (subst (IsTree c.args.graph.now c.args.root) (sym c.into_tree.ensures) c.in_ok-run.ensures).spans
 
 pub returns-clause-small : goal.returns-clause-small
-returns-clause-small c = done_small _ _ _ _ _ _ _ c.loop-node.invariant.0
+returns-clause-small c = (subst (IsTree c.args.graph.now c.args.root) (sym c.into_tree.ensures) c.in_ok-run.ensures).small
+
+pub returns-clause-hops : goal.returns-clause-hops
+returns-clause-hops c = (subst (IsTree c.args.graph.now c.args.root) (sym c.into_tree.ensures) c.in_ok-run.ensures).hops

@@ -1,12 +1,12 @@
-use Rattle.rc_spf.proofs.Finding.{hops_skip, hops_take, hops_all}
-use Rattle.rc_spf.proofs.hops.add_hops.Goals.{then-first-from+in_ok-add, else-first-from}
+use Rattle.std.proofs.Common.{subst}
+use Rattle.std.proofs.lemmas.Result.{IfOk-weaker}
+use Rattle.rc_spf.specs.Steps.{HasFirstsOf}
+use Rattle.rc_spf.proofs.Finding.{HasHops}
+use Rattle.rc_spf.proofs.Spans.{hops_from}
 use Rattle.rc_spf.proofs.hops.add_hops.Goals as goal
 
-pub loop-first-preserved : goal.loop-first-preserved
-loop-first-preserved c = elim c.if-first-from.branch [
-  | then-first-from+in_ok-add w ↦ rw w.found-is (hops_take _ _ _ _ _ _ w.add.new.found.items c.loop-first-test.true c.loop-first.invariant w.if-first-from.true w.in_ok-add.ensures)
-  | else-first-from w ↦ rw w.found-is (hops_skip _ _ _ _ _ _ c.loop-first-test.true c.loop-first.invariant w.if-first-from.false)
-]
-
 pub returns : goal.returns
-returns c = hops_all _ _ _ _ _ c.loop-first-test.false c.loop-first.invariant
+returns c =
+    let same : HasFirstsOf c.args.from c.args.tree.now.firsts.items c.firsts_at.result.now = subst (λ k. HasFirstsOf c.args.from k c.firsts_at.result.now) c.deref.ensures.value c.firsts_at.ensures in
+    IfOk-weaker _ (λ u. HasHops c.args.found.now.items c.add_firsts.new.found.items c.firsts_at.result.now c.args.from) _
+    (λ u has. hops_from _ _ _ _ _ same has) c.add_firsts.ensures

@@ -1,7 +1,6 @@
 use Rattle.std.proofs.Common.{◌≡◌, refl, true, false}
 use Rattle.rc_spf.proofs.Finding.{found_skip, found_take, own_added, own_skipped}
 use Rattle.rc_spf.proofs.hops.find_hops.Goals.{then-is_tight+in_ok-add_hops, then-edge-root+in_ok-add, else-edge-root, else-is_tight}
-use Rattle.rc_spf.proofs.Spans.{hops_from}
 use Rattle.rc_spf.proofs.hops.find_hops.Goals as goal
 
 pub loop-edge-preserved : goal.loop-edge-preserved
@@ -12,6 +11,6 @@ loop-edge-preserved c = elim c.if-is_tight.branch [
         | then-edge-root+in_ok-add w' ↦ rw w'.found-is (own_added _ _ _ _ _ w'.if-edge-root.true w'.in_ok-add.ensures)
         | else-edge-root w' ↦ rw w'.found-is (own_skipped _ _ _ _ w'.if-edge-root.false)
       ])
-      (hops_from _ _ _ _ _ w.firsts_at.ensures w.in_ok-add_hops.ensures))
+      w.in_ok-add_hops.ensures)
   | else-is_tight w ↦ rw w.found-is (found_skip _ _ _ _ _ _ _ _ _ c.loop-edge-test.true c.loop-edge.invariant (λ tight. let e : false ≡ true = w.if-is_tight.ensures.1 tight in cc))
 ]

@@ -1,0 +1,12 @@
+use Rattle.rc_spf.proofs.Finding.{hops_skip, hops_take, hops_all}
+use Rattle.rc_spf.proofs.hops.add_firsts.Goals.{then-first-from+in_ok-add, else-first-from}
+use Rattle.rc_spf.proofs.hops.add_firsts.Goals as goal
+
+pub loop-first-preserved : goal.loop-first-preserved
+loop-first-preserved c = elim c.if-first-from.branch [
+  | then-first-from+in_ok-add w ↦ rw w.found-is (hops_take _ _ _ _ _ _ w.add.new.found.items c.loop-first-test.true c.loop-first.invariant w.if-first-from.true w.in_ok-add.ensures)
+  | else-first-from w ↦ rw w.found-is (hops_skip _ _ _ _ _ _ c.loop-first-test.true c.loop-first.invariant w.if-first-from.false)
+]
+
+pub returns : goal.returns
+returns c = hops_all _ _ _ _ _ c.loop-first-test.false c.loop-first.invariant
