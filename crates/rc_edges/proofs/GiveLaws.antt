@@ -2,6 +2,7 @@
 use Rattle.std.proofs.Common.{refl, ◌≡◌, ap, sym, ◌∙◌, subst, ℕ, ◌<◌, ◌==◌, Bool, true, false, not, ◌&&◌, cond, List, [], ◌∷◌, ◌++◌, append_assoc, length, Some, None, inl, inr, ◌⊎◌, Result, Ok, Err, IfOk}
 use Rattle.std.proofs.lemmas.Bool.{cases_eq, eq-eqb, ne_eqb}
 use Rattle.rc_base.proofs.KeepLaws.{In}
+use Rattle.rc_base.specs.declared.addr.Addr.{Addr}
 use Rattle.rc_base.specs.declared.position.IfId.{IfId}
 use Rattle.rc_base.specs.declared.position.Pos.{Pos}
 use Rattle.rc_bdd.specs.declared.work.SetError.{SetError}
@@ -10,6 +11,7 @@ use Rattle.rc_edges.proofs.RowLaws.{row_kept}
 use Rattle.rc_edges.specs.Edges.{onto_link, takes, towards, union}
 use Rattle.rc_edges.specs.Given.{Gives, IsRow, MayGet, MayGive, joined, leads_onto, with_sets}
 use Rattle.rc_edges.specs.Sent.{leaving, to_interface, to_subnets, untaken}
+use Rattle.rc_edges.specs.Steps.{device}
 use Rattle.rc_edges.specs.declared.rows.Row.{Row}
 use Rattle.rc_nodes.specs.Seats.{TableView, SeatView, Keeps, SeatKnows}
 use Rattle.rc_route.specs.declared.route.Hop.{Hop}
@@ -94,3 +96,22 @@ gives_like_if v w row next onto xs ys result e g = subst (λ zs. IfOk result (λ
 
 pub get_like : (nodes : TableView) (v : SeatView) (row : Row) (onto : ℕ) (xs ys : List Recipe) → xs ≡ ys → MayGet nodes v row onto xs → MayGet nodes v row onto ys
 get_like nodes v row onto xs ys e m = subst (MayGet nodes v row onto) e m
+
+-- ---- onto an interface where a hop leads
+
+where_it_leads : (a b : Bool) (xs : List Recipe) → not a && b ≡ true → xs ≡ cond a [] (cond b xs [])
+where_it_leads true b xs leads = absurd (let e : false ≡ true = leads in cc)
+where_it_leads false true xs leads = refl
+where_it_leads false false xs leads = absurd (let e : false ≡ true = leads in cc)
+
+module _ (plane : DataPlane) (q : Pos) (t : IfId) (x : Hop) (leads : leads_onto plane.links x t ≡ true) where
+  pub towards_linked : (i : IfId) → x ≡ Dev i → onto_link plane q t i ≡ towards plane q t x
+  towards_linked i is =
+      where_it_leads (port_is plane.links is_loopback i) (are_linked plane.links i t) (onto_link plane q t i) (ap (λ y. leads_onto plane.links y t) (sym is) ∙ leads)
+      ∙ ap (towards plane q t) (sym is)
+
+  pub towards_taker : (g : Addr) (i : IfId) → x ≡ Via g (Some i) → leaving plane q x (device x) ∷ [] ≡ towards plane q t x
+  towards_taker g i is =
+      ap (λ y. leaving plane q y (device y) ∷ []) is
+      ∙ where_it_leads (port_is plane.links is_loopback i) (takes plane.links i g t) (leaving plane q (Via g (Some i)) i ∷ []) (ap (λ y. leads_onto plane.links y t) (sym is) ∙ leads)
+      ∙ ap (towards plane q t) (sym is)

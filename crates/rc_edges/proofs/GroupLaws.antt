@@ -60,3 +60,9 @@ module _ (net : Network) where
   pub out_entering : (q : Pos) (i j : IfId) → q ≡ Entering j → passing_at net Out i ≡ let_out net q i
   unfolding let_out
   out_entering q i j e = ap (λ p. let_out net p i) (sym e)
+
+  pub one_there : (d : Direction) (i : IfId) (text : RouterText) (name : List ℕ) (block : Interface) (group : Option (List ℕ)) → Some text ≡ router_at net i.router → Some (name, block) ≡ slice_get text.interfaces i.index → group ≡ group_of block d → passing_set text.lists.access_lists group ≡ passing_at net d i
+  one_there d i text name block group is there same =
+      ap (passing_set text.lists.access_lists) same
+      ∙ ap (λ (o : Option (List ℕ × Interface)). option_map_or (λ e. passing_set text.lists.access_lists (group_of e.1 d)) o (given always)) there
+      ∙ ap (λ (o : Option RouterText). option_map_or (λ e. passing_set (option_map_or (λ (t : RouterText). t.lists.access_lists) o []) (group_of e.1 d)) (slice_get (option_map_or (λ (t : RouterText). t.interfaces) o []) i.index) (given always)) is

@@ -1,5 +1,6 @@
 -- The sets of destinations as joins of chains of prefixes.
 use Rattle.std.proofs.Common.{refl, ◌≡◌, ap, sym, ◌∙◌, ℕ, ◌+◌, ◌<◌, List, [], ◌∷◌, ◌++◌, append_assoc, append-nil, length, map, take, get_or, Option, Some, None}
+use Rattle.std.proofs.lemmas.List.{map_more}
 use Rattle.std.specs.List.{flat_map}
 use Rattle.std.specs.Option.{option_map_or}
 use Rattle.rc_base.specs.Prefix.{Cidr, prefix_at}
@@ -64,3 +65,7 @@ hosts_more ps k p is less =
     ap (λ xs. flat_map hosts_by_port (take k ps) ++ xs) (sym (append-nil (hosts_by_port p)))
     ∙ sym (hosts_append (take k ps) (p ∷ []))
     ∙ ap (flat_map hosts_by_port) (sym (taken_here (λ (x : Port). given never) ps k p is less))
+
+-- each of some things in a row made into another, and one more
+pub mapped_more : {A B : Type 0} (f : A → B) (xs : List A) (k : ℕ) (x : A) → x ≡ get_or xs k x → k < length xs → map f (take k xs) ++ f x ∷ [] ≡ map f (take (k + 1) xs)
+mapped_more f xs k x is less = ap (λ y. map f (take k xs) ++ f y ∷ []) is ∙ sym (map_more f xs k x less)

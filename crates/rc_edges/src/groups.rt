@@ -51,11 +51,10 @@ fn group_set<M: May>(
     let Some(name) = group else {
         return Ok(ALWAYS);
     };
-    let list = lists.get(name);
-    match list {
-        Some(list) => list_set(work, nodes, list),
-        None => Ok(ALWAYS),
-    }
+    let Some(list) = lists.get(name) else {
+        return Ok(ALWAYS);
+    };
+    list_set(work, nodes, list)
 }
 
 /// What an interface lets pass in a direction.
@@ -76,17 +75,15 @@ fn interface_group_set<M: May>(
     let Some(router) = net.router_at(interface.router) else {
         return Ok(ALWAYS);
     };
-    match router.interfaces.at(interface.index) {
-        Some((_, block)) => {
-            group_set(
-                work,
-                nodes,
-                &router.lists.access_lists,
-                block.group(direction),
-            )
-        }
-        None => Ok(ALWAYS),
-    }
+    let Some((_, block)) = router.interfaces.at(interface.index) else {
+        return Ok(ALWAYS);
+    };
+    group_set(
+        work,
+        nodes,
+        &router.lists.access_lists,
+        block.group(direction),
+    )
 }
 
 /// What the router at a position takes in.

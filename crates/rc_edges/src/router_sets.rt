@@ -186,11 +186,12 @@ fn new_part<M: May>(
     ensures set { IfOk result (λ r. SeatKnows work.new r.index (tree (fixed plane.now router part hop.now))) }
     ensures cause { IfErr result (IsCause nodes.now work.new) }
 {
+    let interface = device(hop);
     match part {
         Part::Over => over_set(alloc, work, nodes, plane, router, stretches, hop),
-        Part::LetOut => let_out_set(work, nodes, plane.network(), &device(hop)),
-        Part::Taken => taken_set(alloc, work, nodes, plane, &device(hop)),
-        Part::Subnets => subnets_set(alloc, work, nodes, plane, &device(hop)),
+        Part::LetOut => let_out_set(work, nodes, plane.network(), &interface),
+        Part::Taken => taken_set(alloc, work, nodes, plane, &interface),
+        Part::Subnets => subnets_set(alloc, work, nodes, plane, &interface),
     }
 }
 

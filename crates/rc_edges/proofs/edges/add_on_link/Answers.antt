@@ -1,5 +1,5 @@
 use Rattle.std.proofs.Common.{refl, ap, sym, ◌∙◌, ◌∷◌, [], cond}
-use Rattle.rc_edges.proofs.GiveLaws.{get_front, get_second, gives_both_if}
+use Rattle.rc_edges.proofs.GiveLaws.{get_front, get_second, gives_both_if, gives_like}
 use Rattle.rc_edges.proofs.StepLaws.{link_front, link_one, link_two, owned_part, rest_part}
 use Rattle.rc_edges.specs.Edges as spec
 use Rattle.rc_topology.specs.Links.{port_is}
@@ -28,3 +28,11 @@ returns-clause-given g c =
     let serial = ap (λ l. port_is l is_serial c.args.interface.now) (sym c.links.ensures) ∙ sym c.is_serial.ensures ∙ c.if-not-is_serial.false in
     gives_both_if c.args.work.now c.add_owned.new.work c.add_step.new.work c.args.row.now c.add_owned.new.row c.add_step.new.row c.args.onto (owned_part plane q c.args.next.now c.args.at.now.hop c.args.interface.now) (rest_part plane q c.args.next.now c.args.at.now.hop c.args.interface.now)
     (spec.onto_link plane q c.args.next.now c.args.interface.now) c.add_step.result (link_two plane q c.args.next.now c.args.at.now.hop c.args.interface.now c.requires.at.1 serial) c.in_ok-add_owned.ensures.given c.add_step.ensures.given
+
+pub returns-then-not-is_serial-clause-given : goal.returns-then-not-is_serial-clause-given
+returns-then-not-is_serial-clause-given g c =
+    let plane = c.args.site.now.plane.now in
+    let q = c.args.site.now.position in
+    let none = ap (λ l. port_is l is_serial c.args.interface.now) (sym c.links.ensures) ∙ sym c.is_serial.ensures ∙ c.if-not-is_serial.true in
+    gives_like c.args.work.now c.add_owned.new.work c.args.row.now c.add_owned.new.row c.args.onto (owned_part plane q c.args.next.now c.args.at.now.hop c.args.interface.now ∷ []) (spec.onto_link plane q c.args.next.now c.args.interface.now)
+    (sym (link_one plane q c.args.next.now c.args.at.now.hop c.args.interface.now c.requires.at.1 none)) c.in_ok-add_owned.ensures.given

@@ -50,3 +50,6 @@ returns-clause-given g c =
     gives_after c.args.work.now c.and.new.self c.add.new.work c.args.row.now c.add.new.self c.args.onto c.in_ok-owned.owned.index (recipes.and left right) c.add.result
     (λ r t k. c.in_ok-owned.ensures.keeps r t (c.in_ok-there.ensures.keeps r t (c.in_ok-leaving.ensures.keeps r t k)))
     (c.in_ok-owned.ensures.and (tree left) (tree right) (c.in_ok-there.ensures.keeps c.in_ok-leaving.leaving.index (tree left) c.in_ok-leaving.ensures.set) c.in_ok-there.ensures.set) c.add.ensures.added
+
+pub returns-clause-keeps : goal.returns-clause-keeps
+returns-clause-keeps g c = λ r t k. c.add.ensures.keeps r t (c.in_ok-owned.ensures.keeps r t (c.in_ok-there.ensures.keeps r t (c.in_ok-leaving.ensures.keeps r t k)))

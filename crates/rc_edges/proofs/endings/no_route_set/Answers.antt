@@ -1,6 +1,6 @@
-use Rattle.std.proofs.Common.{◌≡◌, ap, sym, ◌∙◌, subst, take, Some, slice_get, ◌+◌}
+use Rattle.std.proofs.Common.{◌≡◌, ap, sym, ◌∙◌, subst, take, Some, slice_get, ◌+◌, ◌≤◌, length, arith}
 use Rattle.rc_edges.proofs.EndLaws.{without_may, without_next, without-uses}
-use Rattle.rc_edges.proofs.JoinLaws.{may_minus, piece}
+use Rattle.rc_edges.proofs.JoinLaws.{may_minus, piece, take-whole}
 use Rattle.rc_edges.proofs.MadeLaws.{made_kept}
 use Rattle.rc_edges.specs.Sent.{forwarded, hops_at}
 use Rattle.rc_nodes.specs.Seats.{SeatKnows}
@@ -69,3 +69,17 @@ loop-index-preserved g c =
           (c.in_ok-set-2.ensures.minus (tree left) (tree (f hop)) (c.part_set.ensures.keeps c.loop-index.set.index (tree left) c.loop-index.invariant.known)
           c.in_ok-over.ensures.set);
     }
+
+pub loop-index-init : goal.loop-index-init
+loop-index-init g c = record { made = c.in_ok-set.ensures.made; keeps = c.in_ok-set.ensures.keeps; known = c.in_ok-set.ensures.set }
+
+pub returns-clause-set : goal.returns-clause-set
+returns-clause-set g c =
+    let plane = c.args.site.now.plane.now in
+    let q = c.args.site.now.position in
+    let hops = hops_at plane q in
+    let a = c.len-index-end.ensures in
+    let b = ap length c.in_ok-set.ensures.made.hops in
+    let t = c.loop-index-test.false in
+    let end : length hops ≤ c.loop-index.index = omega arith in
+    subst (λ hs. SeatKnows c.loop-index.work c.loop-index.set.index (tree (without (hop_set (fib_of plane (router_of q))) (forwarded plane q) hs))) (take-whole c.loop-index.index hops end) c.loop-index.invariant.known

@@ -7,7 +7,7 @@ use Rattle.rc_edges.proofs.groups.group_set.Goals as goal
 pub returns-in_default-clause-set : goal.returns-in_default-clause-set
 returns-in_default-clause-set g c = everything c.args.work.now (passing_set c.args.lists.now (option_copied c.args.group)) (no_group c.args.lists.now (option_copied c.args.group) (ap option_copied c.in_default.is))
 
-pub returns-in-None-clause-set : goal.returns-in-None-clause-set
-returns-in-None-clause-set g c =
+pub returns-in_default-get-clause-set : goal.returns-in_default-get-clause-set
+returns-in_default-get-clause-set g c =
     everything c.args.work.now (passing_set c.args.lists.now (option_copied c.args.group))
-    (no_list c.args.lists.now (option_copied c.args.group) c.in-Some.name.now (ap option_copied c.in-Some.is) (sym c.get-list.ensures ∙ ap option_copied c.in-None.is))
+    (no_list c.args.lists.now (option_copied c.args.group) c.in-Some.name.now (ap option_copied c.in-Some.is) (sym c.get.ensures ∙ ap option_copied c.in_default-get.is))

@@ -1,5 +1,6 @@
-use Rattle.std.proofs.Common.{arith}
+use Rattle.std.proofs.Common.{◌≡◌, subst, arith}
 use Rattle.rc_edges.proofs.MakingLaws.{share_still}
+use Rattle.rc_edges.specs.Shares.{IsShare}
 use Rattle.rc_edges.proofs.making.put_positions.Goals as goal
 
 pub loop-number-init : goal.loop-number-init
@@ -13,3 +14,25 @@ loop-number-init g c =
       sends = c.in_ok-sending.ensures.sends;
       share = share_still c.args.work.now c.begin.new.work c.in_ok-sending.ensures.keeps c.args.plane.now c.args.ends c.args.from c.args.from c.args.share.now c.requires.share;
     }
+
+pub loop-number-preserved : goal.loop-number-preserved
+loop-number-preserved g c =
+    let i = c.loop-number.invariant in
+    let test = c.loop-number-test.true in
+    let end = c.requires.end in
+    record {
+      keeps = λ r t k. c.in_ok-put_position.ensures.keeps r t (i.keeps r t k);
+      last = omega arith;
+      sends = c.in_ok-put_position.ensures.sends;
+      share = c.in_ok-put_position.ensures.share c.args.from i.share;
+    }
+
+pub returns-clause-seat : goal.returns-clause-seat
+returns-clause-seat g c = c.loop-number.invariant.sends.made.table
+
+pub returns-clause-share : goal.returns-clause-share
+returns-clause-share g c =
+    let most = c.loop-number.auto.number-end in
+    let least = c.loop-number-test.false in
+    let end : c.loop-number.number ≡ c.args.to = omega arith in
+    subst (λ n. IsShare c.loop-number.work c.args.plane.now c.args.ends c.args.from n c.loop-number.share) end c.loop-number.invariant.share

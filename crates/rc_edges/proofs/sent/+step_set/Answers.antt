@@ -42,3 +42,6 @@ pub returns-clause-set : goal.returns-clause-set
 returns-clause-set g t c =
     step_known c.args.site.now.plane.now c.args.site.now.position c.args.at.now.hop c.args.step (sym c.is_first.ensures ∙ c.if-is_first.false) c.earlier.result c.earlier.ensures c.second.result c.second.ensures c.takes_away.result c.takes_away.ensures
     c.part_set.new.work c.in_ok-first.first.index c.in_ok-second.second.index (c.in_ok-second.ensures.keeps c.in_ok-first.first.index _ c.in_ok-first.ensures.set) c.in_ok-second.ensures.set c.operate.new.work c.operate.result c.operate.ensures.set
+
+pub returns-clause-keeps : goal.returns-clause-keeps
+returns-clause-keeps g t c = λ r u k. c.operate.ensures.keeps r u (c.in_ok-second.ensures.keeps r u (c.in_ok-first.ensures.keeps r u k))

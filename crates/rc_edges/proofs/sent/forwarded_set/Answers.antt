@@ -63,3 +63,6 @@ returns-clause-set g c =
     let right = to_router plane (router_of q) in
     subst (λ r. SeatKnows c.minus.new.self c.in_ok-set.set.index (tree r)) (forwarded_is plane q)
     (c.in_ok-set.ensures.minus (tree left) (tree right) (c.in_ok-owned.ensures.keeps c.in_ok-let_in.let_in.index (tree left) (subst (λ n. SeatKnows c.let_in_set.new.work c.in_ok-let_in.let_in.index (tree (let_in n q))) c.network.ensures c.in_ok-let_in.ensures.set)) c.in_ok-owned.ensures.set)
+
+pub returns-clause-keeps : goal.returns-clause-keeps
+returns-clause-keeps g c = λ r t k. c.in_ok-set.ensures.keeps r t (c.in_ok-owned.ensures.keeps r t (c.in_ok-let_in.ensures.keeps r t k))
