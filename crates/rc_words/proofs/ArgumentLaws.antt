@@ -1,10 +1,10 @@
 -- Clap is told a command's arguments one after another.
-use Rattle.std.proofs.Common.{ap, sym, ◌≡◌, ◌∙◌, ℕ, suc, ◌+◌, ◌<◌, List, ◌∷◌, drop, fold, get_or, length, map, false, drop-cons, add-one}
+use Rattle.std.proofs.Common.{refl, ap, sym, ◌≡◌, ◌∙◌, ℕ, zero, suc, ◌+◌, ◌<◌, ◌≤◌, arith, List, [], ◌∷◌, drop, fold, get_or, length, map, false, drop-cons, add-one}
 use Rattle.clap.specs.Words.{App, AddsArg, app_of, rule_of, with_rule}
 use Rattle.clap.specs.declared.builder.arg.Arg.{Arg}
 use Rattle.clap.specs.declared.builder.command.Command.{Command}
 use Rattle.clap.specs.declared.builder.command.Command.TheViews.{out-Command}
-use Rattle.rc_words.specs.Arguments.{rule_told}
+use Rattle.rc_words.specs.Arguments.{IsTold, rule_told}
 use Rattle.rc_words.specs.declared.app.Argument.{Argument}
 
 -- with the arguments that are left, the command as told so far is what all of them make of the first one
@@ -21,3 +21,16 @@ one_more start old new a x all i lt is rule local added left =
       same = ap (λ b. fold with_rule b (map rule_told (drop (i + 1) all))) told ∙ sym (ap (λ xs. fold with_rule (app_of old) (map rule_told xs)) first) ∙ left.same;
       local = added.globals ∙ rw (left.local, local);
     }
+
+-- where no argument is left clap is told them all
+pub all_told : (start : App) (now : Command) (all : List Argument) (i : ℕ) → length all ≤ i → AreLeft start now all i → IsTold now (fold with_rule start (map rule_told all))
+all_told start now all i le left = record {
+  app = ap (λ xs. fold with_rule (app_of now) (map rule_told xs)) (sym (drop_whole all i le)) ∙ left.same;
+  local = left.local;
+}
+  where
+    drop_whole : (xs : List Argument) (k : ℕ) → length xs ≤ k → drop k xs ≡ []
+    drop_whole [] zero le = refl
+    drop_whole [] (suc k) le = refl
+    drop_whole (x ∷ xs) zero le = absurd (omega arith)
+    drop_whole (x ∷ xs) (suc k) le = drop_whole xs k (omega arith)
