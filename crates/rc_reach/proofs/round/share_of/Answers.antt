@@ -1,8 +1,9 @@
-use Rattle.std.proofs.Common.{rules, ◌≡◌, ◌<◌, length, [], ◌∷◌, ◌++◌, slice_index_or, sym, subst, arith}
+use Rattle.std.proofs.Common.{rules, ◌≡◌, ◌+◌, ◌<◌, length, [], ◌∷◌, ◌++◌, slice_index_or, sym, subst, arith}
 use Rattle.std.proofs.lemmas.List.{length-append}
 use Rattle.rc_nodes.specs.Seats.{SeatKnows}
-use Rattle.rc_reach.specs.Known.{no_header}
+use Rattle.rc_reach.specs.Known.{KnowsShare, no_header}
 use Rattle.rc_reach.specs.Kept.{edges_kept, after_kept}
+use Rattle.rc_reach.specs.Rounds.{arrived}
 use Rattle.rc_reach.proofs.Rounding.{no_share, sets_push, are_sent, may_gather, comes_next}
 use Rattle.rc_reach.proofs.round.share_of.Goals as goal
 
@@ -44,3 +45,11 @@ loop-q-preserved g c =
         each = sets_push c.loop-q.work c.gathered_set.new.work c.gathered_set.ensures.keeps c.loop-q.made.items c.in_ok-set.set _ c.args.from c.loop-q.q (sym count) known.each next;
       };
     })
+
+pub returns-clause-made : goal.returns-clause-made
+returns-clause-made g c =
+    let round = c.args.round.now in
+    let most = c.loop-q.auto.q-end c.requires.order in
+    let least = c.loop-q-test.false in
+    let end : c.loop-q.q ≡ c.args.to = omega arith in
+    subst (λ b. KnowsShare c.loop-q.work c.loop-q.made.items (arrived (g.E.Sends.edge round.sends.now) (length round.prepared.now.into) round.place (round.number + 1)) c.args.from b) end c.loop-q.invariant.known
