@@ -150,10 +150,10 @@ impl<M: May> Work<M> {
         if self.prepare().is_err() {
             return Err(SetError::Memory);
         }
-        match self.combine(nodes, operation, 0, left, right) {
-            Ok(result) => Ok(result),
-            Err(_) => Err(SetError::Full),
-        }
+        let Ok(result) = self.combine(nodes, operation, 0, left, right) else {
+            return Err(SetError::Full);
+        };
+        Ok(result)
     }
 
     /// Makes the memo, where it isn't made yet.

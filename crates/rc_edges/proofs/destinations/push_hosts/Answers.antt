@@ -1,6 +1,7 @@
-use Rattle.std.proofs.Common.{ap, sym, ◌∙◌, ◌∷◌, ◌++◌, [], map, append_assoc, take}
+use Rattle.std.proofs.Common.{ap, sym, ◌∙◌, ◌∷◌, ◌++◌, [], map, append_assoc, append-nil, take}
 use Rattle.rc_base.specs.Prefix.{prefix_at}
 use Rattle.rc_topology.specs.declared.port.PortAddr.{PortAddr}
+use Rattle.rc_edges.proofs.JoinLaws.{take-whole}
 use Rattle.rc_edges.proofs.PieceLaws.{mapped_more}
 use Rattle.rc_edges.proofs.destinations.push_hosts.Goals as goal
 
@@ -12,3 +13,9 @@ loop-address-preserved c =
     ∙ append_assoc c.args.hosts.now.items (map f (take c.loop-address.address-index c.args.addresses.now)) (c.host.result ∷ [])
     ∙ ap (λ p. c.args.hosts.now.items ++ (map f (take c.loop-address.address-index c.args.addresses.now) ++ p ∷ [])) c.host.ensures
     ∙ ap (λ ps. c.args.hosts.now.items ++ ps) (mapped_more f c.args.addresses.now c.loop-address.address-index c.address-item.result c.address-item.is c.loop-address-test.true)
+
+pub loop-address-init : goal.loop-address-init
+loop-address-init c = sym (append-nil c.args.hosts.now.items)
+
+pub returns : goal.returns
+returns c = c.loop-address.invariant ∙ ap (λ xs. c.args.hosts.now.items ++ map (λ (a : PortAddr). prefix_at a.addr 32) xs) (take-whole c.loop-address.address-index c.args.addresses.now c.loop-address-test.false)

@@ -36,3 +36,6 @@ returns-then-not-is_serial-clause-given g c =
     let none = ap (λ l. port_is l is_serial c.args.interface.now) (sym c.links.ensures) ∙ sym c.is_serial.ensures ∙ c.if-not-is_serial.true in
     gives_like c.args.work.now c.add_owned.new.work c.args.row.now c.add_owned.new.row c.args.onto (owned_part plane q c.args.next.now c.args.at.now.hop c.args.interface.now ∷ []) (spec.onto_link plane q c.args.next.now c.args.interface.now)
     (sym (link_one plane q c.args.next.now c.args.at.now.hop c.args.interface.now c.requires.at.1 none)) c.in_ok-add_owned.ensures.given
+
+pub returns-clause-keeps : goal.returns-clause-keeps
+returns-clause-keeps g c = λ r t k. c.add_step.ensures.keeps r t (c.in_ok-add_owned.ensures.keeps r t k)

@@ -53,3 +53,9 @@ returns-clause-given g c =
 
 pub returns-clause-keeps : goal.returns-clause-keeps
 returns-clause-keeps g c = λ r t k. c.add.ensures.keeps r t (c.in_ok-owned.ensures.keeps r t (c.in_ok-there.ensures.keeps r t (c.in_ok-leaving.ensures.keeps r t k)))
+
+pub returns-in_err-there-clause-keeps : goal.returns-in_err-there-clause-keeps
+returns-in_err-there-clause-keeps g c = λ r t k. c.interface_set.ensures.keeps r t (c.in_ok-leaving.ensures.keeps r t k)
+
+pub returns-in_err-owned-clause-keeps : goal.returns-in_err-owned-clause-keeps
+returns-in_err-owned-clause-keeps g c = λ r t k. c.and.ensures.keeps r t (c.in_ok-there.ensures.keeps r t (c.in_ok-leaving.ensures.keeps r t k))

@@ -83,3 +83,12 @@ returns-clause-set g c =
     let t = c.loop-index-test.false in
     let end : length hops ≤ c.loop-index.index = omega arith in
     subst (λ hs. SeatKnows c.loop-index.work c.loop-index.set.index (tree (without (hop_set (fib_of plane (router_of q))) (forwarded plane q) hs))) (take-whole c.loop-index.index hops end) c.loop-index.invariant.known
+
+pub returns-in_err-over-clause-keeps : goal.returns-in_err-over-clause-keeps
+returns-in_err-over-clause-keeps g c = λ r t k. c.part_set.ensures.keeps r t (c.loop-index.invariant.keeps r t k)
+
+pub returns-clause-seat : goal.returns-clause-seat
+returns-clause-seat g c = c.loop-index.invariant.made.table
+
+pub returns-clause-keeps : goal.returns-clause-keeps
+returns-clause-keeps g c = c.loop-index.invariant.keeps

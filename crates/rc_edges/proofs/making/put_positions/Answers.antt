@@ -36,3 +36,21 @@ returns-clause-share g c =
     let least = c.loop-number-test.false in
     let end : c.loop-number.number ≡ c.args.to = omega arith in
     subst (λ n. IsShare c.loop-number.work c.args.plane.now c.args.ends c.args.from n c.loop-number.share) end c.loop-number.invariant.share
+
+pub returns-then-from-to-clause-share : goal.returns-then-from-to-clause-share
+returns-then-from-to-clause-share g c = subst (λ n. IsShare c.args.work.now c.args.plane.now c.args.ends c.args.from n c.args.share.now) c.if-from-to.true c.requires.share
+
+pub put_position-requires-clause-last : goal.put_position-requires-clause-last
+put_position-requires-clause-last g c = c.loop-number.invariant.last
+
+pub put_position-requires-clause-sends : goal.put_position-requires-clause-sends
+put_position-requires-clause-sends g c = c.loop-number.invariant.sends
+
+pub put_position-requires-clause-rows : goal.put_position-requires-clause-rows
+put_position-requires-clause-rows g c = c.loop-number.invariant.share.as_many
+
+pub returns-in_err-put_position-clause-keeps : goal.returns-in_err-put_position-clause-keeps
+returns-in_err-put_position-clause-keeps g c = λ r t k. c.put_position.ensures.keeps r t (c.loop-number.invariant.keeps r t k)
+
+pub returns-clause-keeps : goal.returns-clause-keeps
+returns-clause-keeps g c = c.loop-number.invariant.keeps

@@ -1,6 +1,6 @@
 -- The operation is the joined sides' operations.
 use Rattle.std.proofs.Common.{arith, sym, subst}
-use Rattle.rc_nodes.specs.Seats.{SeatView, SeatKnows, Keeps}
+use Rattle.rc_nodes.specs.Seats.{SeatView, IsSeatOf, SeatKnows, Keeps}
 use Rattle.rc_trees.specs.Combine.{combined}
 use Rattle.rc_trees.specs.Trees.{low_side, high_side}
 use Rattle.rc_bdd.specs.Work.{truth}
@@ -83,3 +83,34 @@ returns-clause-combined g t c =
     let q = one_known c.args.self.now c.requires.seat.sound c.args.right.index m.right u m.knows_right ku in
     subst (λ (x : SeatView). SeatKnows x c.in_ok-result.result.index (combined f s u)) (sym c.note.ensures)
     (subst (SeatKnows c.branch-self.new.self c.in_ok-result.result.index) (λ i. combined f (p i) (q i)) there)
+
+pub recall-requires : goal.recall-requires
+recall-requires g t c = c.requires.seat.sound
+
+pub sides-sides-requires-clause-known : goal.sides-sides-requires-clause-known
+sides-sides-requires-clause-known g t c =
+    let m = c.requires.may in
+    ((m.left, m.knows_left), (m.right, m.knows_right))
+
+pub returns-in-Some-clause-combined : goal.returns-in-Some-clause-combined
+returns-in-Some-clause-combined g t c = λ s u ks ku. c.in-Some.ensures c.args.self.now s u c.requires.seat.sound ks ku
+
+pub returns-in-Some-recall-clause-combined : goal.returns-in-Some-recall-clause-combined
+returns-in-Some-recall-clause-combined g t c = c.in-Some-recall.ensures
+
+pub returns-in_err-low-clause-keeps : goal.returns-in_err-low-clause-keeps
+returns-in_err-low-clause-keeps g t c = λ r u k. c.combine.ensures.keeps r u (c.sides-sides.ensures.keeps r u k)
+
+pub returns-in_err-high-clause-keeps : goal.returns-in_err-high-clause-keeps
+returns-in_err-high-clause-keeps g t c = λ r u k. c.combine-2.ensures.keeps r u (c.combine.ensures.keeps r u (c.sides-sides.ensures.keeps r u k))
+
+pub returns-in_err-result-clause-keeps : goal.returns-in_err-result-clause-keeps
+returns-in_err-result-clause-keeps g t c = λ r u k. c.branch-self.ensures.keeps r u (c.combine-2.ensures.keeps r u (c.combine.ensures.keeps r u (c.sides-sides.ensures.keeps r u k)))
+
+pub returns-clause-seat : goal.returns-clause-seat
+returns-clause-seat g t c = subst (λ (s : SeatView). IsSeatOf c.args.nodes.now s) (sym c.note.ensures) c.branch-self.ensures.seat
+
+pub returns-clause-keeps : goal.returns-clause-keeps
+returns-clause-keeps g t c = λ r u k.
+    subst (λ (s : SeatView). SeatKnows s r u) (sym c.note.ensures)
+    (c.branch-self.ensures.keeps r u (c.combine-2.ensures.keeps r u (c.combine.ensures.keeps r u (c.sides-sides.ensures.keeps r u k))))
