@@ -1,7 +1,7 @@
--- Endings have the same words on the command line and in a walk.
-use Rattle.std.specs.Prelude.{◌≡◌, map, refl}
-use Rattle.rc_report.specs.WalkText.{kind_text}
-use Rattle.rc_words.specs.Endings.{all_endings, ending_word}
+-- The numbers of all statuses, by computation.
+use Rattle.std.specs.Prelude.{◌≡◌, [], ◌∷◌, map, refl}
+use Rattle.rc_answers.specs.Codes.{status_code}
+use Rattle.rc_answers.specs.declared.status.Status.TheVariants.{Done, Refused, Usage, Repeats, Limit, Nodes, Source, Sink, Memory, NoPlace}
 
-pub same_words : map ending_word all_endings ≡ map kind_text all_endings
-same_words = refl
+pub numbers : map status_code (Done ∷ Refused ∷ Usage ∷ Repeats ∷ Limit ∷ Nodes ∷ Source ∷ Sink ∷ Memory ∷ NoPlace ∷ []) ≡ 0 ∷ 1 ∷ 2 ∷ 3 ∷ 4 ∷ 5 ∷ 6 ∷ 7 ∷ 8 ∷ 9 ∷ []
+numbers = refl

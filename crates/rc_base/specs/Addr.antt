@@ -1,5 +1,6 @@
 -- IPv4 addresses (RFC 791 s.3.2) and masks (RFC 950 s.2.1) as numbers below 2 ^ 32.
-use Rattle.std.specs.Prelude.{ℕ, ◌-◌, ◌/◌, ◌%◌, ◌^◌, ◌==◌, if◌then◌else◌, count_ones, Option, Some, None, List, ◌++◌, codes, decimal}
+use Rattle.std.specs.Prelude.{ℕ, ◌-◌, ◌/◌, ◌%◌, ◌^◌, ◌==◌, Option, find, List, ◌++◌, codes, decimal}
+use Rattle.std.specs.List.{range_with_len}
 
 -- the first len bits of an address, as a number
 abbrev pub leading_bits : ℕ → ℕ → ℕ
@@ -9,9 +10,9 @@ leading_bits len a = a / 2 ^ (32 - len)
 abbrev pub mask : ℕ → ℕ
 mask len = 2 ^ 32 - 2 ^ (32 - len)
 
--- the length of a mask: it is the mask of as many ones as it has, or none
-abbrev pub mask_len : ℕ → Option ℕ
-mask_len m = if mask (count_ones m) == m then Some (count_ones m) else None
+-- the length of a mask: that of the lengths from 0 to 32 whose mask it is
+unfoldable pub mask_len : ℕ → Option ℕ
+mask_len m = find (λ len. mask len == m) (range_with_len 0 33)
 
 -- four decimal octets with dots between them (RFC 1123 s.2.1)
 unfoldable pub dotted : ℕ → List ℕ

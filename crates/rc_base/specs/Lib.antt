@@ -11,3 +11,4 @@ pub mod IndexRows
 pub mod Communities
 pub mod CommunityRows
 pub mod Rows
+pub mod Endings

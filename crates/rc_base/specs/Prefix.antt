@@ -39,6 +39,13 @@ prefix_cmp p q = slice_cmp nat_cmp (prefix_key p) (prefix_key q)
 abbrev pub same_prefix : Cidr → Cidr → Bool
 same_prefix = eq_by_cmp prefix_cmp
 
+-- 0.0.0.0/0, the prefix of a default route
+abbrev pub default_prefix : Cidr
+default_prefix = record { network = 0; len = 0 }
+
+abbrev pub is_default : Cidr → Bool
+is_default p = same_prefix p default_prefix
+
 -- the address, a slash and the length
 unfoldable pub prefix_text : Cidr → List ℕ
 prefix_text p = dotted p.network ++ codes "/" ++ decimal p.len

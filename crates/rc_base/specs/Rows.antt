@@ -8,6 +8,7 @@ use Rattle.std.specs.declared.cmp.Ordering.{Ordering}
 use Rattle.std.specs.declared.cmp.Ordering.TheVariants.{Less, Equal, Greater}
 use Rattle.rc_base.specs.Addr.{mask}
 use Rattle.rc_base.specs.Communities.{community_set, has_all, has_community, joined}
+use Rattle.rc_base.specs.Endings.{all_kinds, kind_named, kind_word}
 use Rattle.rc_base.specs.Groups.{under}
 use Rattle.rc_base.specs.Index.{Rows, members, with_member}
 use Rattle.rc_base.specs.Name.{is_name, name_of_number, same_name}
@@ -155,3 +156,14 @@ pub unions :
     × (has_all (joined two three) two ≡ true)
     × (has_community (joined two three) (65535 * 65536 + 65281) ≡ false)
 unions = (refl, refl, refl, refl, refl)
+
+-- each ending has the word that is written for it, and is the one that its word names
+pub words_of_endings : map kind_word all_kinds
+    ≡ codes "denied-in" ∷ codes "accepted" ∷ codes "no-route" ∷ codes "null-routed" ∷ codes "denied-out" ∷ codes "unreachable" ∷ codes "exits" ∷ codes "delivered" ∷ []
+words_of_endings = refl
+
+pub endings_of_words : map (λ k. kind_named (kind_word k)) all_kinds ≡ map Some all_kinds
+endings_of_words = refl
+
+pub no_such_ending : (kind_named (codes "loop") ≡ None) × (kind_named (codes "accept") ≡ None) × (kind_named (codes "Exits") ≡ None) × (kind_named [] ≡ None)
+no_such_ending = (refl, refl, refl, refl)

@@ -1,5 +1,5 @@
 //! IPv4 addresses and masks.
-ghost use Rattle.std.specs.Prelude.{◌≡◌, ◌≤◌, ◌*◌, ◌^◌, ◌-◌};
+ghost use Rattle.std.specs.Prelude.{◌≡◌, ◌==◌, ◌≤◌, ◌*◌, ◌^◌, ◌-◌, IfSome};
 ghost use Rattle.rc_base.specs.Addr.{leading_bits, mask, mask_len};
 
 use std::marker::Model;
@@ -65,14 +65,25 @@ pub fn mask_of(len: u8) -> Addr
     Addr { bits }
 }
 
-/// The length of a mask, or `None` exactly where its ones aren't a front.
-pub fn len_of(mask: Addr) -> Option<u8>
-    ensures { result ≡ mask_len mask }
+fn has_length(addr: Addr, len: u8) -> bool
+    requires { len ≤ 32 }
+    ensures { result ≡ (mask len == addr) }
 {
-    let len = mask.bits.count_ones() as u8;
-    if mask_of(len).bits == mask.bits {
-        Some(len)
-    } else {
-        None
+    mask_of(len).bits == addr.bits
+}
+
+/// The length of a mask, or `None` exactly where its ones aren't a front.
+#[tactic(auto, unfolding(crate::specs::Addr::mask_len))]
+pub fn len_of(mask: Addr) -> Option<u8>
+    ensures short { IfSome result (λ n. n ≤ 32) }
+    ensures value { result ≡ mask_len mask }
+{
+    let mut len = 0;
+    while len < 33 {
+        if has_length(mask, len) {
+            return Some(len);
+        }
+        len += 1;
     }
+    None
 }

@@ -1,5 +1,6 @@
 //! The endings of a walk.
-ghost use Rattle.std.specs.Prelude.{◌≡◌};
+ghost use Rattle.std.specs.Prelude.{◌≡◌, ◌<◌, Some, slice_get};
+ghost use Rattle.rc_base.specs.Endings.{all_kinds, kind_named, kind_word};
 ghost use Rattle.rc_base.specs.Positions.{is_among};
 
 /// How a walk ends.
@@ -21,6 +22,51 @@ pub enum Kind {
     Exits,
     /// The packet comes to a host of a connected subnet.
     Delivered,
+}
+
+/// All endings, in their order.
+const KINDS: [Kind; 8] = [
+    Kind::DeniedIn,
+    Kind::Accepted,
+    Kind::NoRoute,
+    Kind::NullRouted,
+    Kind::DeniedOut,
+    Kind::Unreachable,
+    Kind::Exits,
+    Kind::Delivered,
+];
+
+impl Kind {
+    /// The ending of an index, from 0 to 7, in their order.
+    pub fn at(index: usize) -> Kind
+        requires { index < 8 }
+        ensures { slice_get all_kinds index ≡ Some result }
+    {
+        KINDS[index]
+    }
+
+    /// The word for it, on the command line and at the end of a walk.
+    pub fn word(self) -> &'static str
+        ensures { result.now ≡ kind_word self }
+    {
+        match self {
+            Kind::DeniedIn => "denied-in",
+            Kind::Accepted => "accepted",
+            Kind::NoRoute => "no-route",
+            Kind::NullRouted => "null-routed",
+            Kind::DeniedOut => "denied-out",
+            Kind::Unreachable => "unreachable",
+            Kind::Exits => "exits",
+            Kind::Delivered => "delivered",
+        }
+    }
+
+    /// The ending for which a text is the word, or `None` exactly where it is the word for none.
+    pub fn named(text: &str) -> Option<Kind>
+        ensures { result ≡ kind_named text.now }
+    {
+        KINDS.iter().copied().find(|kind| kind.word() == text)
+    }
 }
 
 /// A set of endings.

@@ -27,7 +27,7 @@ impl Model for Prefix {
 }
 
 impl Prefix {
-    ghost use Rattle.rc_base.specs.Prefix.{prefix_at, contains, covers, IsCidr};
+    ghost use Rattle.rc_base.specs.Prefix.{prefix_at, contains, covers, default_prefix, is_default, IsCidr};
 
     /// The prefix of this length that holds an address, or `None` exactly where the length is over 32.
     pub fn new(addr: Addr, len: u8) -> Option<Prefix>
@@ -38,6 +38,20 @@ impl Prefix {
         }
         let network = addr.without_host_bits(len);
         Some(Prefix { network, len })
+    }
+
+    /// 0.0.0.0/0, the prefix of a default route.
+    pub fn default_route() -> Prefix
+        ensures { result ≡ default_prefix }
+    {
+        Prefix::new(Addr::new(0), 0).unwrap()
+    }
+
+    /// Whether it is 0.0.0.0/0.
+    pub fn is_default(&self) -> bool
+        ensures { result ≡ is_default self.now }
+    {
+        *self == Prefix::default_route()
     }
 
     /// Its first address.

@@ -4,7 +4,7 @@ use Rattle.std.specs.List.{AllByRecursion, cons_option, filter_map, flat_map, li
 use Rattle.std.specs.List.Sorted.{IsStrictlySortedBy}
 use Rattle.std.specs.Option.{option_map, option_or}
 use Rattle.std.proofs.lemmas.Bool.{or_parts}
-use Rattle.rc_base.specs.Prefix.{Cidr, prefix_cmp, same_prefix}
+use Rattle.rc_base.specs.Prefix.{Cidr, prefix_cmp, same_prefix, default_prefix}
 use Rattle.rc_base.proofs.OrderedLaws.{any-in_order, in_order-sorted, prefix_cmp_total, same_by_prefix_cmp}
 use Rattle.rc_bgp_decide.specs.Decision.{best_path, is_originated}
 use Rattle.rc_config.specs.declared.bgp.Neighbor.{Neighbor}
@@ -20,7 +20,7 @@ use Rattle.rc_bgp.specs.Changes.{AreChanges, AreMended, CoversChange, IsHeardAli
 use Rattle.rc_bgp.specs.Known.{path_at, paths_of, table_of}
 use Rattle.rc_bgp.specs.Mending.{mended}
 use Rattle.rc_bgp.specs.Own.{own_paths}
-use Rattle.rc_bgp_session.specs.Passing.{as_received, as_sent, default_path, default_prefix, export, exported, import, imported, is_withheld, mapped, next_hop_over, originated_default, passes_list, with_med}
+use Rattle.rc_bgp_session.specs.Passing.{as_received, as_sent, default_path, export, exported, import, imported, is_withheld, mapped, next_hop_over, originated_default, passes_list, with_med}
 use Rattle.rc_bgp.specs.Reaching.{metric_to}
 use Rattle.rc_bgp.specs.Sessions.{is_up, sessions_of, up_sessions}
 use Rattle.rc_bgp_session.specs.declared.session.Session.{Session}

@@ -6,7 +6,7 @@ use Rattle.std.specs.Option.{option_map}
 use Rattle.std.specs.BTreeSet.{insert_key}
 use Rattle.std.proofs.lemmas.List.Elements.{All-from_recursion}
 use Rattle.std.proofs.lemmas.List.Sums.{fold-append}
-use Rattle.rc_base.specs.Prefix.{Cidr, prefix_cmp, same_prefix}
+use Rattle.rc_base.specs.Prefix.{Cidr, prefix_cmp, same_prefix, default_prefix}
 use Rattle.rc_base.proofs.OrderedLaws.{in_order-sorted, prefix_cmp_total}
 use Rattle.rc_bgp_decide.specs.Decision.{best_path, best_place}
 use Rattle.rc_bgp_decide.proofs.DecisionLaws.{best_path_at_place}
@@ -26,7 +26,7 @@ use Rattle.rc_topology.proofs.ListLaws.{all_append, found_passes}
 use Rattle.rc_bgp.specs.Known.{path_at, paths_of, route_at}
 use Rattle.rc_bgp.specs.Originating.{by_network, by_networks, from_route, is_bgp, originated}
 use Rattle.rc_bgp.specs.Redistributing.{med_of, redistributed, redistributed_paths, takes}
-use Rattle.rc_bgp_session.specs.Passing.{as_sent, as_received, default_path, default_prefix, exported, export, imported, import, is_withheld, mapped, originated_default, passes_list, with_med}
+use Rattle.rc_bgp_session.specs.Passing.{as_sent, as_received, default_path, exported, export, imported, import, is_withheld, mapped, originated_default, passes_list, with_med}
 use Rattle.rc_bgp.specs.Reaching.{metric_to}
 use Rattle.rc_bgp.specs.Candidates.{advertised, advertised_best, advertised_default, best_among, candidates_at, heard, own_at, prefixes_of, prefixes_seen, reachable, sender_prefixes}
 use Rattle.rc_bgp_session.specs.declared.session.Session.{Session}

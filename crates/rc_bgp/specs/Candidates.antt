@@ -3,7 +3,7 @@ use Rattle.std.specs.Prelude.{ℕ, if◌then◌else◌, List, ◌∷◌, ◌++�
 use Rattle.std.specs.List.{filter_map, flat_map}
 use Rattle.std.specs.Option.{option_map, option_or}
 use Rattle.rc_base.specs.Lists.{in_order}
-use Rattle.rc_base.specs.Prefix.{Cidr, prefix_cmp, same_prefix}
+use Rattle.rc_base.specs.Prefix.{Cidr, prefix_cmp, same_prefix, default_prefix}
 use Rattle.rc_bgp_decide.specs.Decision.{best_path}
 use Rattle.rc_config.specs.declared.network.Network.{Network}
 use Rattle.rc_route.specs.declared.path.BgpPath.{BgpPath}
@@ -11,7 +11,7 @@ use Rattle.rc_route.specs.declared.route.Route.{Route}
 use Rattle.rc_route.specs.declared.state.RouterState.{RouterState}
 use Rattle.rc_bgp.specs.Known.{path_at, paths_of, table_of}
 use Rattle.rc_bgp.specs.Own.{own_paths}
-use Rattle.rc_bgp_session.specs.Passing.{default_prefix, export, import, originated_default}
+use Rattle.rc_bgp_session.specs.Passing.{export, import, originated_default}
 use Rattle.rc_bgp.specs.Reaching.{metric_to}
 use Rattle.rc_bgp.specs.Sessions.{up_sessions}
 use Rattle.rc_bgp_session.specs.declared.session.Session.{Session}

@@ -2,7 +2,7 @@
 use Rattle.std.specs.Prelude.{ℕ, ◌==◌, Bool, true, false, not, ◌&&◌, if◌then◌else◌, List, [], Option, None, map, option_and_then, unwrap_or}
 use Rattle.std.specs.List.{filter_map, flat_map, list_any}
 use Rattle.std.specs.Option.{option_map_or}
-use Rattle.rc_base.specs.Prefix.{Cidr, same_prefix}
+use Rattle.rc_base.specs.Prefix.{Cidr, same_prefix, default_prefix}
 use Rattle.rc_base.specs.declared.origin.Origin.TheVariants.{Incomplete}
 use Rattle.rc_config.specs.Bgp.{process_of}
 use Rattle.rc_config.specs.ByNumber.{with_number}
@@ -25,7 +25,7 @@ use Rattle.rc_route.specs.declared.route.Route.{Route}
 use Rattle.rc_route.specs.declared.route.Source.{Source}
 use Rattle.rc_route.specs.declared.route.Source.TheVariants.{Connected, Static, Ospf, OspfIa, OspfE1, OspfE2}
 use Rattle.rc_bgp.specs.Originating.{originated}
-use Rattle.rc_bgp_session.specs.Passing.{default_prefix, mapped}
+use Rattle.rc_bgp_session.specs.Passing.{mapped}
 
 abbrev pub is_connected : Source → Bool
 is_connected Connected = true

@@ -18,7 +18,6 @@ use crate::{Session, Sessions};
 use rc_as_path::AsPath;
 use rc_base::{Items, Prefix, RouterId};
 use rc_bgp_decide::best;
-use rc_bgp_session::default_prefix;
 use rc_config::Network;
 use rc_route::{BgpPath, State};
 use std::alloc::{AllocError, Global};
@@ -108,7 +107,7 @@ fn prefixes_seen(
     ensures { IfOk result (λ prefixes. prefixes ≡ spec.prefixes_seen state.now own.now sessions.now) }
 {
     let mut set = BTreeSet::new(alloc);
-    insert(&mut set, default_prefix())?;
+    insert(&mut set, Prefix::default_route())?;
     add_own(&mut set, own)?;
     add_senders(&mut set, state, sessions)?;
     listed(alloc, set)

@@ -10,7 +10,7 @@ use crate::known::{path_at, paths_of};
 use crate::resolver::Resolver;
 use crate::{Session, export};
 use rc_base::{Items, Prefix};
-use rc_bgp_session::{default_prefix, originated_default, taken};
+use rc_bgp_session::{originated_default, taken};
 use rc_config::Network;
 use rc_route::{BgpPath, State};
 use std::alloc::{AllocError, Global};
@@ -62,7 +62,7 @@ fn advertised(
     requires { All IsRouterState state.now }
     ensures { IfOk result (λ made. made ≡ spec.advertised net.now state.now session.now prefix.now) }
 {
-    if *prefix == default_prefix() {
+    if prefix.is_default() {
         advertised_default(alloc, net, state, session, prefix)
     } else {
         advertised_best(alloc, net, state, session, prefix)

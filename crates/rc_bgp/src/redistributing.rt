@@ -6,12 +6,11 @@ ghost use Rattle.rc_base.specs.Prefix.{same_prefix};
 ghost use Rattle.rc_config.specs.Down.{prefix_of};
 ghost use Rattle.rc_config.specs.Interface.{declared_addresses};
 ghost use Rattle.rc_route.specs.Tables.{IsPathList, IsTable};
-ghost use Rattle.rc_bgp_session.specs.Passing.{default_prefix};
 ghost use Rattle.rc_bgp.specs.Redistributing as spec;
 
 use crate::originating::originated;
 use rc_base::{Items, Origin, Prefix, RouterId};
-use rc_bgp_session::{default_prefix, mapped};
+use rc_bgp_session::mapped;
 use rc_config::{
     BgpProcess, BgpRedistribution, IfAddr, Interface, Network, OspfKinds, OspfRedistribution,
     RouterText,
@@ -81,13 +80,6 @@ fn med_of(line: &BgpRedistribution, route: &Route) -> u32
     }
 }
 
-/// Whether a prefix is that of the default route.
-fn is_default(prefix: &Prefix) -> bool
-    ensures { result ≡ same_prefix prefix.now default_prefix }
-{
-    *prefix == default_prefix()
-}
-
 /// The path of a route that a line redistributes, if any.
 fn redistributed(
     alloc: Global,
@@ -104,7 +96,7 @@ fn redistributed(
     if !takes(source, kinds, prefixes, route) {
         return Ok(None);
     }
-    if is_default(&route.prefix) {
+    if route.prefix.is_default() {
         return Ok(None);
     }
     let med = med_of(line, route);

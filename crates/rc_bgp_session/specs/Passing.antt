@@ -3,7 +3,7 @@ use Rattle.std.specs.Prelude.{ℕ, ◌==◌, Bool, true, not, ◌&&◌, ◌||◌
 use Rattle.std.specs.List.{list_any}
 use Rattle.std.specs.Option.{option_map}
 use Rattle.rc_base.specs.Communities.{has_community}
-use Rattle.rc_base.specs.Prefix.{Cidr, prefix_at}
+use Rattle.rc_base.specs.Prefix.{Cidr, default_prefix}
 use Rattle.rc_base.specs.declared.origin.Origin.TheVariants.{Igp}
 use Rattle.rc_bgp_decide.specs.Decision.{is_internal, is_originated}
 use Rattle.rc_config.specs.Bgp.{address_of}
@@ -118,9 +118,6 @@ abbrev pub export : Network → Session → BgpPath → Option BgpPath
 export net s x = ask net s.sender s.receiver_address (λ file asn n. exported file asn n s x)
 
 -- ---- the default path of `default-originate`
-
-abbrev pub default_prefix : Cidr
-default_prefix = prefix_at 0 0
 
 -- no list and no map is applied to it
 abbrev pub default_path : ℕ → Session → BgpPath

@@ -9,6 +9,6 @@ mod passing;
 mod policy;
 mod session;
 
-pub use passing::{default_prefix, export, import, originated_default, taken};
+pub use passing::{export, import, originated_default, taken};
 pub use policy::mapped;
 pub use session::{Session, Sessions};

@@ -184,27 +184,16 @@ pub fn export(
 ) -> Result<Option<BgpPath>, AllocError>
     ensures { IfOk result (λ made. made ≡ spec.export net.now session.now path.now) }
 {
-    let found = net.router_at(session.sender);
-    match found {
-        None => Ok(None),
-        Some(file) => match &file.bgp {
-            None => Ok(None),
-            Some(process) => {
-                let named = process.neighbors.get(session.receiver_address.bits());
-                match named {
-                    None => Ok(None),
-                    Some(neighbor) => exported(alloc, file, process.asn, neighbor, session, path),
-                }
-            }
-        },
-    }
-}
-
-/// The prefix of the default route, 0.0.0.0/0. It takes no memory.
-pub fn default_prefix() -> Prefix
-    ensures { result ≡ spec.default_prefix }
-{
-    Prefix::new(Addr::new(0), 0).unwrap()
+    let Some(file) = net.router_at(session.sender) else {
+        return Ok(None);
+    };
+    let Some(process) = &file.bgp else {
+        return Ok(None);
+    };
+    let Some(neighbor) = process.neighbors.get(session.receiver_address.bits()) else {
+        return Ok(None);
+    };
+    exported(alloc, file, process.asn, neighbor, session, path)
 }
 
 /// The default path of `default-originate`.
@@ -213,7 +202,7 @@ fn default_path(alloc: Global, asn: u32, session: &Session) -> Result<BgpPath, A
 {
     let as_path = as_path_over(alloc, asn, session, &AsPath::empty())?;
     Ok(BgpPath {
-        prefix: default_prefix(),
+        prefix: Prefix::default_route(),
         next_hop: session.sender_address,
         med: 0,
         local_preference: 100,
@@ -238,26 +227,20 @@ pub fn originated_default(
 ) -> Result<Option<BgpPath>, AllocError>
     ensures { IfOk result (λ made. made ≡ spec.originated_default net.now session.now) }
 {
-    let found = net.router_at(session.sender);
-    match found {
-        None => Ok(None),
-        Some(file) => match &file.bgp {
-            None => Ok(None),
-            Some(process) => {
-                let named = process.neighbors.get(session.receiver_address.bits());
-                match named {
-                    None => Ok(None),
-                    Some(neighbor) => {
-                        if !neighbor.default_originate {
-                            return Ok(None);
-                        }
-                        let path = default_path(alloc, process.asn, session)?;
-                        Ok(Some(path))
-                    }
-                }
-            }
-        },
+    let Some(file) = net.router_at(session.sender) else {
+        return Ok(None);
+    };
+    let Some(process) = &file.bgp else {
+        return Ok(None);
+    };
+    let Some(neighbor) = process.neighbors.get(session.receiver_address.bits()) else {
+        return Ok(None);
+    };
+    if !neighbor.default_originate {
+        return Ok(None);
     }
+    let path = default_path(alloc, process.asn, session)?;
+    Ok(Some(path))
 }
 
 /// The source of what is heard over a session.
@@ -320,20 +303,16 @@ pub fn taken(
 ) -> Result<Option<BgpPath>, AllocError>
     ensures { IfOk result (λ made. made ≡ spec.import net.now session.now path) }
 {
-    let found = net.router_at(session.receiver);
-    match found {
-        None => Ok(None),
-        Some(file) => match &file.bgp {
-            None => Ok(None),
-            Some(process) => {
-                let named = process.neighbors.get(session.sender_address.bits());
-                match named {
-                    None => Ok(None),
-                    Some(neighbor) => imported(alloc, file, process.asn, neighbor, session, path),
-                }
-            }
-        },
-    }
+    let Some(file) = net.router_at(session.receiver) else {
+        return Ok(None);
+    };
+    let Some(process) = &file.bgp else {
+        return Ok(None);
+    };
+    let Some(neighbor) = process.neighbors.get(session.sender_address.bits()) else {
+        return Ok(None);
+    };
+    imported(alloc, file, process.asn, neighbor, session, path)
 }
 
 /// What the receiver of a session takes of an advertised path, or `None` exactly where the path holds the receiver's AS (RFC 4271

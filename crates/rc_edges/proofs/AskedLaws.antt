@@ -11,7 +11,8 @@ use Rattle.rc_edges.proofs.JoinLaws.{taken}
 use Rattle.rc_edges.specs.Endings.{end}
 use Rattle.rc_edges.specs.Given.{AreFlows, real, with_flow}
 use Rattle.rc_edges.specs.Prepare.{ends_at}
-use Rattle.rc_edges.specs.Query.{all_kinds, kinds_of}
+use Rattle.rc_base.specs.Endings.{all_kinds}
+use Rattle.rc_edges.specs.Query.{kinds_of}
 use Rattle.rc_edges.specs.Stops.{AreKnown, asked, asked_of}
 use Rattle.rc_jobs.specs.Flows.{endings_of}
 use Rattle.rc_jobs.specs.declared.flow.Flow.{Flow}

@@ -21,7 +21,7 @@ use Rattle.rc_edges.specs.HopParts.{no_parts, part_in, parts_of}
 use Rattle.rc_edges.specs.Likes.{IsLike}
 use Rattle.rc_edges.specs.Made.{IsKnownIfMade, IsMade}
 use Rattle.rc_edges.specs.Prepare.{edge_at, ends_at}
-use Rattle.rc_edges.specs.Query.{all_kinds}
+use Rattle.rc_base.specs.Endings.{all_kinds}
 use Rattle.rc_edges.specs.Sendings.{IsSending}
 use Rattle.rc_edges.specs.Sent.{forwarded, hops_at, to_router}
 use Rattle.rc_edges.specs.Shares.{IsShare}

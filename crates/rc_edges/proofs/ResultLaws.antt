@@ -31,7 +31,8 @@ use Rattle.rc_walk.specs.declared.walk.Stop.TheVariants.{At}
 use Rattle.rc_walk.specs.declared.walk.Walk.{Walk}
 use Rattle.rc_edges.specs.Endings.{end}
 use Rattle.rc_edges.specs.Planes.{IsPlane}
-use Rattle.rc_edges.specs.Query.{IsReaching, all_kinds, kinds_of, reached, reaching}
+use Rattle.rc_base.specs.Endings.{all_kinds}
+use Rattle.rc_edges.specs.Query.{IsReaching, kinds_of, reached, reaching}
 use Rattle.rc_edges.proofs.MemberLaws.{in-flat_map, in-range}
 use Rattle.rc_edges.proofs.MoveLaws.{end_is_move}
 use Rattle.rc_edges.proofs.QueryLaws.{ending}

@@ -1,10 +1,10 @@
 -- What a query makes: the headers that reach each position step by step, and of these the ones that may end as asked.
 use Rattle.std.specs.Prelude.{◌≡◌, ◌≤◌, true, ℕ, zero, suc, List, [], ◌∷◌, map, filter, flat_map, length, if◌then◌else◌}
 use Rattle.std.specs.List.{fold}
+use Rattle.rc_base.specs.Endings.{all_kinds}
 use Rattle.rc_base.specs.Positions.{is_among, same_position}
 use Rattle.rc_base.specs.declared.ending.Ends.{Ends}
 use Rattle.rc_base.specs.declared.ending.Kind.{Kind}
-use Rattle.rc_base.specs.declared.ending.Kind.TheVariants.{DeniedIn, Accepted, NoRoute, NullRouted, DeniedOut, Unreachable, Exits, Delivered}
 use Rattle.rc_base.specs.declared.header.Header.{Header}
 use Rattle.rc_base.specs.declared.position.Pos.{Pos}
 use Rattle.rc_config.specs.Members.{positions}
@@ -16,9 +16,6 @@ use Rattle.rc_trees.specs.Trees.{Tree, never, always}
 use Rattle.rc_trees.specs.Recipes.{Recipe, given, and, or, nodes}
 use Rattle.rc_edges.specs.Edges.{edge, union}
 use Rattle.rc_edges.specs.Endings.{end}
-
-abbrev pub all_kinds : List Kind
-all_kinds = DeniedIn ∷ Accepted ∷ NoRoute ∷ NullRouted ∷ DeniedOut ∷ Unreachable ∷ Exits ∷ Delivered ∷ []
 
 -- the endings of a set, in their order
 abbrev pub kinds_of : Ends → List Kind

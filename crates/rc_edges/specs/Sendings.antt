@@ -6,7 +6,7 @@ use Rattle.rc_config.specs.Members.{positions}
 use Rattle.rc_edges.specs.Edges.{edge}
 use Rattle.rc_edges.specs.Given.{IsRow}
 use Rattle.rc_edges.specs.Made.{IsMade}
-use Rattle.rc_edges.specs.Query.{all_kinds}
+use Rattle.rc_base.specs.Endings.{all_kinds}
 use Rattle.rc_edges.specs.Stops.{AreKnown, asked_of}
 use Rattle.rc_edges.specs.declared.sending.Sending.{Sending}
 use Rattle.rc_nodes.specs.Seats.{TableView, SeatView}

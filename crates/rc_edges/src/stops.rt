@@ -5,7 +5,7 @@ ghost use Rattle.rc_bdd.specs.Work.{IsCause};
 ghost use Rattle.rc_edges.specs.Given.{with_flow};
 ghost use Rattle.rc_edges.specs.Made.{IsMade};
 ghost use Rattle.rc_edges.specs.Prepare.{MayEnd};
-ghost use Rattle.rc_edges.specs.Query.{all_kinds};
+ghost use Rattle.rc_base.specs.Endings.{all_kinds};
 ghost use Rattle.rc_edges.specs.Stops.{AreKnown, asked, asked_of};
 ghost use Rattle.rc_nodes.specs.Seats.{IsSeatOf, Keeps};
 ghost use Rattle.rc_trees.specs.Trees.{Tree};
@@ -19,23 +19,6 @@ use rc_bdd::{SetError, Work};
 use rc_jobs::Flow;
 use rc_nodes::{May, Nodes, Ref};
 use std::alloc::{AllocError, Global};
-
-/// The ending of an index.
-fn kind_at(index: usize) -> Kind
-    requires { index < 8 }
-    ensures { slice_get all_kinds index ≡ Some result }
-{
-    match index {
-        0 => Kind::DeniedIn,
-        1 => Kind::Accepted,
-        2 => Kind::NoRoute,
-        3 => Kind::NullRouted,
-        4 => Kind::DeniedOut,
-        5 => Kind::Unreachable,
-        6 => Kind::Exits,
-        _ => Kind::Delivered,
-    }
-}
 
 /// Puts a set behind the others.
 fn put_stop(stops: &mut Vec<Ref>, set: Ref) -> Result<(), SetError>
@@ -93,7 +76,7 @@ pub(crate) fn add_endings<M: May>(
     ensures cause { IfErr result (IsCause nodes.now work.new) }
 {
     for index in 0..8 {
-        let kind = kind_at(index);
+        let kind = Kind::at(index);
         add_ending(alloc, work, nodes, site, made, ends, kind, stops)?;
     }
     Ok(())

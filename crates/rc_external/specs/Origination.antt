@@ -2,7 +2,7 @@
 use Rattle.std.specs.Prelude.{ℕ, ◌==◌, Bool, true, false, not, ◌&&◌, ◌||◌, List, [], ◌++◌, Option, Some, None, if◌then◌else◌, option_and_then, option_map, unwrap_or, slice_get}
 use Rattle.std.specs.List.{filter_map, find, flat_map}
 use Rattle.std.specs.Option.{option_map_or, option_to_list}
-use Rattle.rc_base.specs.Prefix.{Cidr, same_prefix}
+use Rattle.rc_base.specs.Prefix.{Cidr, same_prefix, default_prefix, is_default}
 use Rattle.rc_base.specs.declared.origin.Origin.TheVariants.{Incomplete}
 use Rattle.rc_config.specs.Classes.{natural_length}
 use Rattle.rc_config.specs.Members.{router_at, router_ids}
@@ -27,13 +27,6 @@ use Rattle.rc_route.specs.declared.route.Source.{Source}
 use Rattle.rc_route.specs.declared.route.Source.TheVariants.{Connected, Static, Ebgp, Ospf, OspfIa, OspfE1, OspfE2, Ibgp}
 use Rattle.rc_route.specs.declared.state.RouterState.{RouterState}
 use Rattle.rc_external.specs.AsExternal.{AsExternal, sent_metric}
-
--- 0.0.0.0/0
-abbrev pub default_prefix : Cidr
-default_prefix = record { network = 0; len = 0 }
-
-abbrev pub is_default : Cidr → Bool
-is_default p = same_prefix p default_prefix
 
 -- a prefix has the length of its address's class; from 224.0.0.0 on there is none
 abbrev pub has_natural_length : Cidr → Bool

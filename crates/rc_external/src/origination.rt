@@ -2,13 +2,13 @@
 ghost use Rattle.std.specs.Prelude.{◌≡◌, ◌≤◌, Some, IfOk, option_map};
 ghost use Rattle.std.specs.List.{find};
 ghost use Rattle.std.specs.Option.{option_copied};
-ghost use Rattle.rc_base.specs.Prefix.{same_prefix};
+ghost use Rattle.rc_base.specs.Prefix.{is_default, same_prefix};
 ghost use Rattle.rc_external.specs.AsExternal.{sent_metric};
 ghost use Rattle.rc_external.specs.Origination as spec;
 
 use crate::External;
 use rc_as_path::AsPath;
-use rc_base::{Addr, Communities, Origin, Prefix, RouterId};
+use rc_base::{Communities, Origin, Prefix, RouterId};
 use rc_config::{
     DefaultInformation, Mention, MetricType, OspfProcess, RedistributedSource, Redistribution,
     RouterText, natural_len,
@@ -26,20 +26,6 @@ fn sent_metric(metric: u32) -> u32
     ensures finite { result ≤ 16777214 }
 {
     metric.min(GREATEST_METRIC)
-}
-
-/// Whether a prefix is 0.0.0.0/0.
-fn is_default(prefix: &Prefix) -> bool
-    ensures { result ≡ spec.is_default prefix.now }
-{
-    *prefix == default_prefix()
-}
-
-/// 0.0.0.0/0
-fn default_prefix() -> Prefix
-    ensures { result ≡ spec.default_prefix }
-{
-    Prefix::new(Addr::new(0), 0).unwrap()
 }
 
 /// Whether a prefix has the length of its address's class.
@@ -93,7 +79,7 @@ fn line_for<'a>(
 fn passes(line: &Redistribution, prefix: &Prefix) -> bool
     ensures { result ≡ spec.passes line.now prefix.now }
 {
-    !is_default(prefix) && (line.subnets || has_natural_length(prefix))
+    !prefix.is_default() && (line.subnets || has_natural_length(prefix))
 }
 
 /// The metric of a line.
@@ -273,12 +259,12 @@ fn is_ospf(source: Source) -> bool
 
 /// The default route of a table.
 fn default_in(table: &Table) -> Option<&Route>
-    ensures { option_copied result ≡ find (λ x. spec.is_default x.prefix) table.now }
+    ensures { option_copied result ≡ find (λ x. is_default x.prefix) table.now }
 {
     table
         .as_slice()
         .iter()
-        .find(|route| is_default(&route.prefix))
+        .find(|route| route.prefix.is_default())
 }
 
 /// Whether a table has the default route from another source than OSPF.
@@ -305,7 +291,7 @@ pub(crate) fn default_sent(
     }
     Some(External::new(
         router,
-        default_prefix(),
+        Prefix::default_route(),
         sent_metric(line.metric.unwrap_or(1)),
         line.metric_type.unwrap_or(MetricType::Type2),
     ))

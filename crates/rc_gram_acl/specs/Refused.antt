@@ -14,7 +14,8 @@ use Rattle.rc_gram_acl.specs.declared.ports.Side.{Side}
 use Rattle.rc_gram_acl.specs.declared.ports.Side.TheVariants.{Source, Destination}
 use Rattle.rc_gram_acl.specs.Address.{address}
 use Rattle.rc_gram_acl.specs.Port.{operator_of, listed, end_point}
-use Rattle.rc_gram_acl.specs.Values.{begins_with_letter, is_unknown_port, protocol_of}
+use Rattle.rc_openings.specs.Values.{begins_with_letter}
+use Rattle.rc_gram_acl.specs.Values.{is_unknown_port, protocol_of}
 
 -- these words anywhere behind the opening
 unfoldable pub refused_words : List (List ℕ)

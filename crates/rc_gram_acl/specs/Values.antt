@@ -1,9 +1,8 @@
 -- The words of an access list that are values: protocols and ports, by number or by name.
-use Rattle.std.specs.Prelude.{ℕ, Bool, false, ◌&&◌, List, [], ◌∷◌, Option, Some, None, if◌then◌else◌, is_none, codes}
+use Rattle.std.specs.Prelude.{ℕ, Bool, ◌&&◌, List, Option, Some, None, if◌then◌else◌, is_none, codes}
 use Rattle.std.specs.Option.{option_map}
-use Rattle.std.specs.Char.{is_ascii_alphabetic}
 use Rattle.std.specs.Str.{bytes_eq}
-use Rattle.rc_openings.specs.Values.{at_most, number_of}
+use Rattle.rc_openings.specs.Values.{at_most, begins_with_letter, number_of}
 use Rattle.rc_config.specs.declared.access_list.ProtocolTest.{ProtocolTest}
 use Rattle.rc_config.specs.declared.access_list.ProtocolTest.TheVariants as protocol
 use Rattle.rc_gram_acl.specs.NumberName.{Row, number_named, protocol_names, port_names}
@@ -23,10 +22,6 @@ port_of word = number_up_to 65535 port_names word
 -- `ip` is every protocol; any other word is one from 0 to 255
 abbrev pub protocol_of : List ℕ → Option ProtocolTest
 protocol_of word = if bytes_eq word (codes "ip") then Some protocol.Any else option_map protocol.Is (number_up_to 255 protocol_names word)
-
-abbrev pub begins_with_letter : List ℕ → Bool
-begins_with_letter [] = false
-begins_with_letter (b ∷ bs) = is_ascii_alphabetic b
 
 -- a name of no port that is known here
 abbrev pub is_unknown_port : List ℕ → Bool

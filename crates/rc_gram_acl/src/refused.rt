@@ -9,9 +9,9 @@ ghost use Rattle.rc_gram_acl.specs.Values.{is_unknown_port as is_unknown};
 
 use crate::addresses::read_address;
 use crate::ports::{Operator, Side, has_ports, operator_of, read_end_point};
-use crate::values::{begins_alphabetic, is_unknown_port, word_protocol};
+use crate::values::{is_unknown_port, word_protocol};
 use rc_config::ProtocolTest;
-use rc_openings::Words;
+use rc_openings::{Words, begins_with_letter};
 
 /// The words that make a line of an access list one that isn't modelled, wherever they stand behind its opening, where it fits no
 /// row.
@@ -160,7 +160,7 @@ pub(crate) fn has_refused_place(words: Words) -> bool
     match rest.next_word() {
         Some(word) => match word_protocol(word) {
             Some(protocol) => is_refused_behind_protocol(protocol, rest),
-            None => begins_alphabetic(word),
+            None => begins_with_letter(word),
         },
         None => false,
     }

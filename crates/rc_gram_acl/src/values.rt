@@ -6,7 +6,7 @@ ghost use Rattle.rc_gram_acl.specs.Values as values;
 
 use crate::number_name::{NumberName, number_named, port_names, protocol_names};
 use rc_config::ProtocolTest;
-use rc_openings::word_u32;
+use rc_openings::{begins_with_letter, word_u32};
 
 /// The number that a word is, or that it names in a table.
 fn number_or_name(rows: &[NumberName], word: &[u8]) -> Option<u32>
@@ -55,19 +55,9 @@ pub(crate) fn word_protocol(word: &[u8]) -> Option<ProtocolTest>
     }
 }
 
-/// Whether a word begins with a letter.
-pub(crate) fn begins_alphabetic(word: &[u8]) -> bool
-    ensures { result ≡ values.begins_with_letter word.now }
-{
-    match word {
-        [first, ..] => first.is_ascii_alphabetic(),
-        [] => false,
-    }
-}
-
 /// Whether a word is a name, and that of no port.
 pub(crate) fn is_unknown_port(word: &[u8]) -> bool
     ensures { result ≡ values.is_unknown_port word.now }
 {
-    begins_alphabetic(word) && word_port(word).is_none()
+    begins_with_letter(word) && word_port(word).is_none()
 }

@@ -1,11 +1,11 @@
 -- Lines of BGP with what they say, by computation.
 use Rattle.std.specs.Prelude.{◌≡◌, refl, ℕ, Bool, true, false, List, Option, Some, None, Ok, Err, codes}
+use Rattle.rc_base.specs.Addr.{mask_len}
 use Rattle.rc_base.specs.Prefix.{prefix_at}
 use Rattle.rc_openings.specs.GlobalOpenings.{global, global_forms, global_refused, global_ignored}
 use Rattle.rc_openings.specs.BgpOpenings.{bgp, bgp_forms, bgp_refused, bgp_ignored}
 use Rattle.rc_openings.specs.Opening.{decisive_row}
 use Rattle.rc_openings.specs.Reading.{decided}
-use Rattle.rc_openings.specs.Values.{mask_length}
 use Rattle.rc_openings.specs.Words.{words_of}
 use Rattle.rc_openings.specs.declared.reading.LineRefusal.TheVariants.{Unsupported, BadValue}
 use Rattle.rc_config.specs.Update.{after, empty}
@@ -85,7 +85,7 @@ pub masked :
     × Says (codes " network 10.9.1.0 mask 255.255.255.0 0") (Err BadValue)
     × Says (codes " network 10.9.1.0/24") (Err BadValue)
     × Says (codes " network") (Err BadValue)
-unfolding decided decisive_row bgp bgp_forms bgp_refused bgp_ignored words_of mask_length
+unfolding decided decisive_row bgp bgp_forms bgp_refused bgp_ignored words_of mask_len
 masked = (refl, refl, refl, refl, refl, refl, refl, refl, refl, refl, refl)
 
 -- without a mask the class of the address gives the length, and from 224.0.0.0 on there is none
@@ -107,7 +107,7 @@ pub refused_networks :
     × Says (codes " network 10.9.1.0 mask 255.255.255.0 backdoor") (Err Unsupported)
     × Says (codes " network backdoor") (Err Unsupported)
     × Says (codes " network 10.9.1.0 mask 255.255.255.0 weight 5") (Err BadValue)
-unfolding decided decisive_row bgp bgp_forms bgp_refused bgp_ignored words_of mask_length
+unfolding decided decisive_row bgp bgp_forms bgp_refused bgp_ignored words_of mask_len
 refused_networks = (refl, refl, refl, refl)
 
 abbrev Sets : List ℕ → NeighborSetting → Type 0

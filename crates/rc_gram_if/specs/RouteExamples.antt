@@ -1,9 +1,9 @@
 -- Lines `ip route` with what they say, by computation.
 use Rattle.std.specs.Prelude.{◌≡◌, refl, ℕ, List, Ok, Err, codes}
+use Rattle.rc_base.specs.Addr.{mask_len}
 use Rattle.rc_openings.specs.GlobalOpenings.{global, global_forms, global_refused, global_ignored}
 use Rattle.rc_openings.specs.Opening.{decisive_row}
 use Rattle.rc_openings.specs.Reading.{decided}
-use Rattle.rc_openings.specs.Values.{mask_length}
 use Rattle.rc_openings.specs.Words.{words_of}
 use Rattle.rc_openings.specs.declared.reading.LineRefusal.TheVariants.{Unsupported, BadValue}
 use Rattle.rc_config.specs.Update.{empty}
@@ -31,7 +31,7 @@ pub prefixes :
     × Says (codes "ip route 10.1.2 255.255.0.0 Null0") (Err BadValue)
     × Says (codes "ip route 10.1.2.3 255.255.0.0") (Err BadValue)
     × Says (codes "ip route") (Err BadValue)
-unfolding decided decisive_row global global_forms global_refused global_ignored words_of mask_length
+unfolding decided decisive_row global global_forms global_refused global_ignored words_of mask_len
 prefixes = (refl, refl, refl, refl, refl, refl, refl)
 
 -- the target: a gateway, `Null0`, an interface or both; the letters of `Null0` count, and an interface begins with one
@@ -45,7 +45,7 @@ pub targets :
     × Says (codes "ip route 10.1.2.3 255.255.0.0 Serial0 10.0.0.1 10.0.0.2") (Err BadValue)
     × Says (codes "ip route 10.1.2.3 255.255.0.0 Serial0 10.0.0.256") (Err BadValue)
     × Says (codes "ip route 10.1.2.3 255.255.0.0 0Serial") (Err BadValue)
-unfolding decided decisive_row global global_forms global_refused global_ignored words_of mask_length
+unfolding decided decisive_row global global_forms global_refused global_ignored words_of mask_len
 targets = (refl, refl, refl, refl, refl, refl, refl, refl, refl)
 
 -- without a target `name` and `tag` are interfaces
@@ -54,7 +54,7 @@ pub options_alone :
     × Says (codes "ip route 10.1.2.3 255.255.0.0 name x") (Err BadValue)
     × Says (codes "ip route 10.1.2.3 255.255.0.0 name name x tag 7") (route (target.Dev (codes "name")) 1)
     × Says (codes "ip route 10.1.2.3 255.255.0.0 tag 5") (route (target.Dev (codes "tag")) 5)
-unfolding decided decisive_row global global_forms global_refused global_ignored words_of mask_length
+unfolding decided decisive_row global global_forms global_refused global_ignored words_of mask_len
 options_alone = (refl, refl, refl, refl)
 
 -- options in any order, each at most once; a distance from 1 to 255, a tag below 2^32, any word as a name
@@ -71,7 +71,7 @@ pub options :
     × Says (codes "ip route 10.1.2.3 255.255.0.0 Null0 name") (Err BadValue)
     × Says (codes "ip route 10.1.2.3 255.255.0.0 Null0 tag") (Err BadValue)
     × Says (codes "ip route 10.1.2.3 255.255.0.0 Null0 tag 4294967296") (Err BadValue)
-unfolding decided decisive_row global global_forms global_refused global_ignored words_of mask_length
+unfolding decided decisive_row global global_forms global_refused global_ignored words_of mask_len
 options = (refl, refl, refl, refl, refl, refl, refl, refl, refl, refl, refl, refl)
 
 -- a line that fits no row and has a refused word isn't modelled; `vrf` begins another opening
@@ -84,5 +84,5 @@ pub refused :
     × Says (codes "ip route 10.1.2.3 255.255.0.0 Serial0 dhcp 250") (Err Unsupported)
     × Says (codes "ip route 10.1.2.3 255.0.255.0 track") (Err Unsupported)
     × Says (codes "ip route vrf RED 10.1.2.3 255.255.0.0 Null0") (Err Unsupported)
-unfolding decided decisive_row global global_forms global_refused global_ignored words_of mask_length
+unfolding decided decisive_row global global_forms global_refused global_ignored words_of mask_len
 refused = (refl, refl, refl, refl, refl, refl, refl, refl)

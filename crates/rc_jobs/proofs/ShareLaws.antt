@@ -5,7 +5,7 @@ use Rattle.rc_nodes.specs.Seats.{TableView, SeatView, Keeps, IsFull}
 use Rattle.rc_bdd.specs.Work.{IsCause}
 use Rattle.rc_bdd.specs.declared.work.SetError.{SetError}
 use Rattle.rc_bdd.specs.declared.work.SetError.TheVariants.{Memory}
-use Rattle.rc_jobs.specs.Shares.{share_start}
+use Rattle.rc_outside.specs.Shares.{share_start}
 
 -- ---- where shares begin
 

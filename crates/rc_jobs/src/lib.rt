@@ -1,8 +1,8 @@
 //! Work on sets that is shared by workers at once, and the flows between positions that such work is done over.
 //!
 //! It stands on the works of rc_bdd and on the gate of rc_outside. The layer above says by `Job` what a share is, and may know that all
-//! shares together are the whole, for every number of workers; that a worker has a seat and a memo of its own, and hands its seat back in
-//! every outcome; and that want of memory comes before a full table.
+//! shares together are the whole, for every number of workers; and that a worker has a seat and a memo of its own, and hands its seat back in
+//! every outcome.
 #![tactic(auto)]
 
 mod flow;

@@ -2,7 +2,7 @@
 ghost use Rattle.std.specs.Prelude.{◌≡◌, ℕ, ◌+◌, ◌<◌, ◌≤◌, ◌⊎◌, IfOk, IfErr};
 ghost use Rattle.std.specs.Thread.{IsSync, IsSend};
 ghost use Rattle.rc_bdd.specs.Work.{IsCause};
-ghost use Rattle.rc_jobs.specs.Shares.{share_start};
+ghost use Rattle.rc_outside.specs.Shares.{share_start};
 ghost use Rattle.rc_nodes.specs.Seats.{IsSeatOf, Keeps, SeatView, TableView};
 
 use crate::job::Job;
@@ -168,7 +168,46 @@ pub fn by_workers<R: Threads + Sync, M: May + Send + Sync, J: Job, G: Gate>(
     )
 }
 
-/// The whole job by workers one after another, with one seat and one memo. Each passes the gate once, before its work.
+/// The workers behind this one pass the gate.
+fn pass_behind<G: Gate>(gate: &G, phase: u32, worker: u32, workers: u32)
+    requires { worker < workers }
+{
+    for behind in worker + 1..workers {
+        gate.pass(phase, behind);
+    }
+}
+
+/// The share of a worker, where one goes after another. Where it makes none, those behind it pass the gate nevertheless: so in a phase that was
+/// begun each worker has passed.
+fn share_in_turn<M: May, J: Job, G: Gate>(
+    alloc: Global,
+    work: &mut Work<M>,
+    nodes: &Nodes<M>,
+    job: &J,
+    phase: u32,
+    workers: u32,
+    worker: u32,
+    gate: &G,
+) -> Result<J::Made, SetError>
+    requires seat { IsSeatOf nodes.now work.old }
+    requires ready { J.ready job.now nodes.now work.old }
+    requires few { J.count job.now ≤ 4294967295 }
+    requires worker { worker < workers }
+    requires most { workers ≤ 64 }
+    ensures seat { IsSeatOf nodes.now work.new }
+    ensures keeps { Keeps work.old work.new }
+    ensures made { IfOk result (J.knows job.now work.new (share_start (J.count job.now) workers worker) (share_start (J.count job.now) workers (worker + 1))) }
+    ensures cause { IfErr result (IsCause nodes.now work.new) }
+{
+    let made = share_of(alloc, work, nodes, job, phase, workers, worker, gate);
+    if made.is_err() {
+        pass_behind(gate, phase, worker, workers);
+    }
+    made
+}
+
+/// The whole job by workers one after another, with one seat and one memo. Each passes the gate once, before its work, and also
+/// where the share of an earlier one failed.
 ///
 /// `workers` is from 1 to 64, and there are at most 4,294,967,295 items. It errs where memory runs out or the table is full.
 pub fn in_turn<M: May, J: Job, G: Gate>(
@@ -190,9 +229,9 @@ pub fn in_turn<M: May, J: Job, G: Gate>(
     ensures made { IfOk result (J.knows job.now work.new 0 (J.count job.now)) }
     ensures cause { IfErr result (IsCause nodes.now work.new) }
 {
-    let mut all = share_of(alloc, work, nodes, job, phase, workers, 0, gate)?;
+    let mut all = share_in_turn(alloc, work, nodes, job, phase, workers, 0, gate)?;
     for worker in 1..workers {
-        let next = share_of(alloc, work, nodes, job, phase, workers, worker, gate)?;
+        let next = share_in_turn(alloc, work, nodes, job, phase, workers, worker, gate)?;
         all = match job.together(all, next) {
             Ok(whole) => whole,
             Err(_) => return Err(SetError::Memory),

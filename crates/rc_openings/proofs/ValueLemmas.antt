@@ -7,8 +7,7 @@ use Rattle.std.proofs.lemmas.List.Splits.{slice_split_first, slice_split_none}
 use Rattle.std.proofs.lemmas.List.Elements.{All-from_get_or}
 use Rattle.std.proofs.lemmas.List.Sums.{fails_before_first}
 use Rattle.std.proofs.lemmas.Option.{cond_some}
-use Rattle.rc_openings.specs.Values.{digits_from, at_most, length_up_to}
-use Rattle.rc_base.specs.Addr.{mask}
+use Rattle.rc_openings.specs.Values.{digits_from, at_most}
 
 pub too_large : (limit n : ℕ) (ds : List ℕ) → limit < n → at_most limit (digits_from n ds) ≡ None
 too_large limit n [] h = grind (arith, nat_tests)
@@ -34,11 +33,3 @@ pub parts_none : (p : ℕ → Bool) (bs : List ℕ) → None ≡ position p bs �
 parts_none p bs h =
     let all : length bs ≤ position_or_len p bs = not_found _ _ (sym h) in
     slice_split_none p bs (All-from_get_or (λ x. p x ≡ false) bs 0 (λ i lt. fails_before_first p bs i 0 (omega arith)))
-
-pub other_length : (n m : ℕ) → 1 ≤ n → eqb (mask n) m ≡ false → length_up_to n m ≡ length_up_to (n - 1) m
-other_length zero m l h = absurd (omega arith)
-other_length (suc n) m l h = let e : suc n - 1 ≡ n = omega arith in rw (h, e) refl
-
-pub same_length : (n m : ℕ) → eqb (mask n) m ≡ true → length_up_to n m ≡ Some n
-same_length zero m h = rw h refl
-same_length (suc n) m h = rw h refl

@@ -3,7 +3,7 @@ use Rattle.std.specs.Prelude.{ℕ, Bool, true, false, ◌||◌, ◌&&◌, not, L
 use Rattle.std.specs.List.{list_all, list_any}
 use Rattle.rc_openings.specs.declared.form.Form.{Form as FormKind}
 use Rattle.rc_openings.specs.declared.opening.Verdict.{Verdict}
-use Rattle.rc_openings.specs.declared.opening.Verdict.TheVariants.{Form, Later, Refused, Ignored}
+use Rattle.rc_openings.specs.declared.opening.Verdict.TheVariants.{Form, Refused, Ignored}
 use Rattle.rc_openings.specs.Opening.{Row, stands_for, begins_with}
 
 -- no line begins with both
@@ -20,14 +20,12 @@ are_apart (row ∷ rows) = list_all (λ other. not (nat_eq (length row.words) (l
 -- where it is a form, it is one of these
 abbrev pub is_own : (FormKind → Bool) → Verdict → Bool
 is_own own (Form f) = own f
-is_own own (Later f) = own f
 is_own own Refused = true
 is_own own Ignored = true
 
 -- it is one of these forms
 abbrev pub is_form_of : (FormKind → Bool) → Verdict → Bool
 is_form_of own (Form f) = own f
-is_form_of own (Later f) = own f
 is_form_of own Refused = false
 is_form_of own Ignored = false
 

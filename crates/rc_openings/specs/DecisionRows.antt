@@ -1,5 +1,6 @@
 -- What decides a line, and what words write, by computation.
 use Rattle.std.specs.Prelude.{◌≡◌, ℕ, true, false, List, [], ◌∷◌, Some, None, Result, Ok, Err, codes, drop, refl}
+use Rattle.rc_base.specs.Addr.{mask_len}
 use Rattle.rc_base.specs.Prefix.{prefix_at}
 use Rattle.rc_openings.specs.AccessListOpenings.{access_list, access_list_forms, access_list_refused, access_list_ignored}
 use Rattle.rc_openings.specs.BgpOpenings.{bgp, bgp_forms, bgp_refused, bgp_ignored}
@@ -13,7 +14,7 @@ use Rattle.rc_openings.specs.OspfOpenings.{ospf, ospf_forms, ospf_refused, ospf_
 use Rattle.rc_openings.specs.Reading as Decided
 use Rattle.rc_openings.specs.Reading.{OfForm, code_of, decided, judged, number_in_front, unopened}
 use Rattle.rc_openings.specs.RouteMapOpenings.{route_map, route_map_forms, route_map_refused, route_map_ignored}
-use Rattle.rc_openings.specs.Values.{address_of, mask_length, mask_length_of, number_of, number_within, prefix_of}
+use Rattle.rc_openings.specs.Values.{address_of, mask_length_of, number_of, number_within, prefix_of}
 use Rattle.rc_openings.specs.Words.{words_of}
 use Rattle.rc_openings.specs.declared.block.Block.TheVariants as block
 use Rattle.rc_openings.specs.declared.form.Form.TheVariants as form
@@ -88,7 +89,7 @@ pub values :
     × (number_within 1 99 (codes "100") ≡ None)
     × (mask_length_of (codes "255.255.255.252") ≡ Some 30)
     × (prefix_of (codes "10.1.2.3/08") ≡ Some (prefix_at 0x0a000000 8))
-unfolding mask_length
+unfolding mask_len
 values = (refl, refl, refl, refl)
 
 -- an address is four numbers, each of one to three digits and at most 255; zeros in front are decimal and not octal

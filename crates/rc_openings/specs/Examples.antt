@@ -1,5 +1,6 @@
 -- Lines and words with what they are, by computation.
 use Rattle.std.specs.Prelude.{◌≡◌, refl, ℕ, List, [], ◌∷◌, Option, Some, None, codes, option_map}
+use Rattle.rc_base.specs.Addr.{mask_len}
 use Rattle.rc_openings.specs.declared.block.Block.{Block}
 use Rattle.rc_openings.specs.declared.block.Block.TheVariants as block
 use Rattle.rc_openings.specs.declared.form.Form.TheVariants as form
@@ -10,7 +11,7 @@ use Rattle.rc_openings.specs.Block.{rows_of}
 use Rattle.rc_openings.specs.Opening.{decisive_row}
 use Rattle.rc_openings.specs.Reading as Decided
 use Rattle.rc_openings.specs.Reading.{unopened, decided, OfForm, Passed}
-use Rattle.rc_openings.specs.Values.{area_of, interface_of, number_of, number_within, address_of, mask_length, mask_length_of, prefix_of}
+use Rattle.rc_openings.specs.Values.{area_of, interface_of, number_of, number_within, address_of, mask_length_of, prefix_of}
 use Rattle.rc_openings.specs.Words.{words_of}
 use Rattle.rc_openings.specs.GlobalOpenings.{global, global_forms, global_refused, global_ignored}
 use Rattle.rc_openings.specs.InterfaceOpenings.{interface, interface_forms, interface_refused, interface_ignored}
@@ -132,7 +133,7 @@ pub addresses :
     × (prefix_of (codes "10.1.2.3/33") ≡ None)
     × (prefix_of (codes "10.1.2.3/8/8") ≡ None)
     × (prefix_of (codes "10.1.2.3") ≡ None)
-unfolding mask_length
+unfolding mask_len
 addresses = (refl, refl, refl, refl, refl, refl, refl, refl, refl, refl, refl, refl, refl)
 
 -- the number of an area is written as a number, or as a dotted word of that value

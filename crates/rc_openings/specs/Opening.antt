@@ -7,7 +7,7 @@ use Rattle.rc_openings.specs.declared.opening.Glance.{Glance}
 use Rattle.rc_openings.specs.declared.opening.Glance.TheVariants.{Begins, Differs, Unclear}
 use Rattle.rc_openings.specs.declared.opening.Opening.{Opening}
 use Rattle.rc_openings.specs.declared.opening.Verdict.{Verdict}
-use Rattle.rc_openings.specs.declared.opening.Verdict.TheVariants.{Form, Later, Refused, Ignored}
+use Rattle.rc_openings.specs.declared.opening.Verdict.TheVariants.{Form, Refused, Ignored}
 use Rattle.rc_openings.specs.Words.{words_of, is_blank}
 
 -- the words of an opening, and what it says of a line that begins with them
@@ -22,10 +22,6 @@ row_of o = record { words = words_of o.text.now; verdict = o.verdict }
 -- the words with which a form begins
 abbrev pub form : List ℕ → FormKind → Row
 form text kind = record { words = words_of text; verdict = Form kind }
-
--- the same of a form that is not read yet
-abbrev pub later : List ℕ → FormKind → Row
-later text kind = record { words = words_of text; verdict = Later kind }
 
 abbrev pub refused : List ℕ → Row
 refused text = record { words = words_of text; verdict = Refused }
@@ -80,10 +76,8 @@ unfoldable pub decisive_row : List Row → List (List ℕ) → Option Row
 decisive_row [] line = None
 decisive_row (row ∷ rows) line = if begins_with line row.words then Some (longer row (decisive_row rows line)) else decisive_row rows line
 
--- a form, whether it is read already or not
 abbrev pub is_form_verdict : Verdict → Bool
 is_form_verdict (Form f) = true
-is_form_verdict (Later f) = true
 is_form_verdict Refused = false
 is_form_verdict Ignored = false
 

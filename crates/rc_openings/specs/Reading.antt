@@ -80,11 +80,9 @@ pub data Decision : Type 0 where
   Refused : (refusal : LineRefusal) → Decision
   OfForm : (form : FormKind) → (behind : List (List ℕ)) → Decision
 
--- a form that is not read yet is refused like what is not modelled
 abbrev pub verdict_on : List (List ℕ) → Verdict → Decision
 verdict_on behind verdict.Ignored = Passed
 verdict_on behind verdict.Refused = Refused Unsupported
-verdict_on behind (verdict.Later f) = Refused Unsupported
 verdict_on behind (verdict.Form f) = OfForm f behind
 
 -- the decision of the opening that decides, if there is one

@@ -1,9 +1,9 @@
 -- What a word says as a value.
-use Rattle.std.specs.Prelude.{ℕ, zero, suc, ◌+◌, ◌-◌, ◌*◌, ◌==◌, Bool, false, nat_lt, nat_le, ◌&&◌, if◌then◌else◌, List, [], ◌∷◌, length, Option, Some, None}
+use Rattle.std.specs.Prelude.{ℕ, ◌+◌, ◌-◌, ◌*◌, ◌==◌, Bool, false, nat_lt, nat_le, ◌&&◌, if◌then◌else◌, List, [], ◌∷◌, length, Option, Some, None}
 use Rattle.std.specs.List.{slice_split}
 use Rattle.std.specs.Option.{option_and_then, option_or}
 use Rattle.std.specs.Char.{is_ascii_alphabetic, is_ascii_digit}
-use Rattle.rc_base.specs.Addr.{mask}
+use Rattle.rc_base.specs.Addr.{mask_len}
 use Rattle.rc_base.specs.Name.{is_name}
 use Rattle.rc_base.specs.Prefix.{Cidr, prefix_at}
 
@@ -44,18 +44,9 @@ address_of_parts _ = None
 abbrev pub address_of : List ℕ → Option ℕ
 address_of word = address_of_parts (slice_split (λ b. b == 46) word)
 
--- the greatest length up to n whose mask this is
-abbrev pub length_up_to : ℕ → ℕ → Option ℕ
-length_up_to zero m = if mask 0 == m then Some 0 else None
-length_up_to (suc n) m = if mask (suc n) == m then Some (suc n) else length_up_to n m
-
--- the length of a mask whose ones are a front
-unfoldable pub mask_length : ℕ → Option ℕ
-mask_length m = length_up_to 32 m
-
 -- the length of the mask that a word is
 abbrev pub mask_length_of : List ℕ → Option ℕ
-mask_length_of word = option_and_then mask_length (address_of word)
+mask_length_of word = option_and_then mask_len (address_of word)
 
 abbrev pub prefix_from : Option ℕ → Option ℕ → Option Cidr
 prefix_from (Some a) (Some len) = Some (prefix_at a len)
@@ -73,6 +64,7 @@ prefix_of word = prefix_of_parts (slice_split (λ b. b == 47) word)
 abbrev pub area_of : List ℕ → Option ℕ
 area_of word = option_or (number_of word) (address_of word)
 
+-- whether a word begins with a letter
 abbrev pub begins_with_letter : List ℕ → Bool
 begins_with_letter [] = false
 begins_with_letter (b ∷ bs) = is_ascii_alphabetic b

@@ -105,7 +105,6 @@ impl Block {
             Some(opening) => match opening.verdict {
                 Verdict::Ignored => Decision::Passed,
                 Verdict::Refused => Decision::Refused(LineRefusal::Unsupported),
-                Verdict::Later(_) => Decision::Refused(LineRefusal::Unsupported),
                 Verdict::Form(form) => Decision::Form(form, opening.behind(own)),
             },
         }

@@ -29,7 +29,7 @@ pub use form::{Form, Grammar};
 pub use opening::{Opening, Verdict};
 pub use reading::{LineError, LineRefusal, judged, unopened};
 pub use values::{
-    before_mark, number_in, prefix_under, word_addr, word_area, word_interface, word_mask,
-    word_prefix, word_u32,
+    before_mark, begins_with_letter, number_in, prefix_under, word_addr, word_area, word_interface,
+    word_mask, word_prefix, word_u32,
 };
 pub use words::Words;

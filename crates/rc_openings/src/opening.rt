@@ -11,9 +11,6 @@ use crate::{Form, Words};
 pub enum Verdict {
     /// The line is of this form.
     Form(Form),
-    /// The line is of a form that is not read yet: it is refused like `Refused`, and a form like `Form` where lines
-    /// out of place are told from unknown ones.
-    Later(Form),
     /// The line means what is not modelled.
     Refused,
     /// The line is passed over.
@@ -105,11 +102,11 @@ impl Opening {
         rest
     }
 
-    /// Whether it begins a form, one that is read already or not.
+    /// Whether it begins a form.
     pub(crate) fn is_form(&self) -> bool
         ensures { result ≡ is_form_verdict self.now.verdict }
     {
-        matches!(self.verdict, Verdict::Form(_) | Verdict::Later(_))
+        matches!(self.verdict, Verdict::Form(_))
     }
 
     /// What a line with this text tells of it at a glance: the quick test that settles most openings.

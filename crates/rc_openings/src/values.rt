@@ -1,10 +1,9 @@
 //! The values that words write.
 ghost use Rattle.std.specs.Prelude.{◌≡◌, ◌==◌, ◌≤◌, [], ◌∷◌, Some, None, IfSome, MatchOption};
 ghost use Rattle.std.specs.List.{slice_split, position};
-ghost use Rattle.rc_base.specs.Addr.{mask};
-ghost use Rattle.rc_openings.specs.Values.{digits_from, at_most, digits_up_to, number_of, number_within, octet, address_of, mask_length, mask_length_of, prefix_from, prefix_of, area_of, begins_with_letter, interface_of};
+ghost use Rattle.rc_openings.specs.Values.{digits_from, at_most, digits_up_to, number_of, number_within, octet, address_of, mask_length_of, prefix_from, prefix_of, area_of, begins_with_letter, interface_of};
 
-use rc_base::{Addr, Name, Prefix, mask_of};
+use rc_base::{Addr, Name, Prefix, len_of};
 
 /// The number of these digits, where it is at most the limit.
 fn digits_value(digits: &[u8], limit: u32) -> Option<u32>
@@ -117,36 +116,13 @@ pub fn word_addr(word: &[u8]) -> Option<Addr>
     }
 }
 
-fn has_length(addr: Addr, len: u8) -> bool
-    requires { len ≤ 32 }
-    ensures { result ≡ (mask len == addr) }
-{
-    mask_of(len).bits() == addr.bits()
-}
-
-/// The length of a mask, where its ones are a front.
-#[tactic(auto, unfolding(crate::specs::Values::mask_length))]
-fn length_of(addr: Addr) -> Option<u8>
-    ensures short { IfSome result (λ n. n ≤ 32) }
-    ensures value { result ≡ mask_length addr }
-{
-    let mut len = 32;
-    while !has_length(addr, len) {
-        if len == 0 {
-            return None;
-        }
-        len -= 1;
-    }
-    Some(len)
-}
-
 /// The length, from 0 to 32, of the mask that a word is: an address whose ones are a front.
 pub fn word_mask(word: &[u8]) -> Option<u8>
     ensures short { IfSome result (λ n. n ≤ 32) }
     ensures value { result ≡ mask_length_of word.now }
 {
     match word_addr(word) {
-        Some(addr) => length_of(addr),
+        Some(addr) => len_of(addr),
         None => None,
     }
 }
@@ -200,7 +176,8 @@ pub fn word_area(word: &[u8]) -> Option<u32>
     }
 }
 
-fn begins_alphabetic(word: &[u8]) -> bool
+/// Whether a word begins with a letter.
+pub fn begins_with_letter(word: &[u8]) -> bool
     ensures { result ≡ begins_with_letter word.now }
 {
     match word {
@@ -214,7 +191,7 @@ pub fn word_interface(word: &[u8]) -> Option<Name>
     ensures { result ≡ interface_of word.now }
 {
     match Name::new(word) {
-        Some(name) if begins_alphabetic(word) => Some(name),
+        Some(name) if begins_with_letter(word) => Some(name),
         _ => None,
     }
 }

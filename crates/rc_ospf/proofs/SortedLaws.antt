@@ -9,14 +9,14 @@ use Rattle.std.proofs.lemmas.Bool.Decides.{nat_tests}
 use Rattle.std.proofs.lemmas.Grind.{common_steps}
 use Rattle.std.specs.declared.cmp.Ordering.TheVariants.{Less, Equal, Greater}
 use Rattle.rc_base.specs.Lists.{in_order}
-use Rattle.rc_base.specs.Prefix.{Cidr, prefix_cmp}
+use Rattle.rc_base.specs.Prefix.{Cidr, prefix_cmp, default_prefix, is_default}
 use Rattle.rc_base.proofs.OrderedLaws.{in_order-sorted, prefix_cmp_total}
 use Rattle.rc_route.specs.Tables.{IsTable}
 use Rattle.rc_route.specs.declared.route.Route.{Route}
 use Rattle.rc_route.specs.declared.route.Source.TheVariants.{Ospf, OspfIa}
 use Rattle.rc_ospf.specs.Areas.{OspfRouter, is_own, summaries_of, inter}
 use Rattle.rc_ospf.specs.Offered.{Offered}
-use Rattle.rc_ospf.specs.Routes.{advert_prefix, offers_at, offered_row, offered_rows, default_prefix, default_row, is_default, with_default, route_over, route_to, internal_route, internal_routes}
+use Rattle.rc_ospf.specs.Routes.{advert_prefix, offers_at, offered_row, offered_rows, default_row, with_default, route_over, route_to, internal_route, internal_routes}
 use Rattle.rc_ospf.specs.Ways.{Way, best_way}
 use Rattle.rc_ospf.proofs.FitLaws.{all_of}
 use Rattle.rc_ospf.specs.declared.grouping.Row.{Row}

@@ -11,7 +11,7 @@ use Rattle.rc_ospf.specs.ByPrefix.{destination_of}
 use Rattle.rc_ospf.specs.Members.{known, reach_of, areas_known, is_border_at, SummariseAlike}
 use Rattle.rc_ospf.specs.Offered.{Offered}
 use Rattle.rc_ospf.specs.RouterAreas.{is_outside}
-use Rattle.rc_ospf.specs.Routes.{is_default}
+use Rattle.rc_base.specs.Prefix.{is_default}
 use Rattle.rc_ospf.specs.declared.boundary.Target.{Target}
 use Rattle.rc_ospf.specs.declared.destination.Destination.{Destination}
 use Rattle.rc_ospf.specs.declared.grouping.Row.{Row}

@@ -2,12 +2,12 @@
 use Rattle.std.specs.Prelude.{ℕ, ◌+◌, ◌==◌, Bool, true, false, ◌&&◌, if◌then◌else◌, List, [], ◌∷◌, ◌++◌, Option, Some, None}
 use Rattle.std.specs.List.{filter_map}
 use Rattle.std.specs.Option.{option_map, option_map_or}
-use Rattle.rc_base.specs.Prefix.{Cidr}
+use Rattle.rc_base.specs.Prefix.{Cidr, is_default}
 use Rattle.rc_route.specs.declared.route.Hop.{Hop}
 use Rattle.rc_route.specs.declared.route.Route.{Route}
 use Rattle.rc_ospf.specs.Areas.{OspfRouter, is_own, summaries_of}
 use Rattle.rc_ospf.specs.Offered.{Offered}
-use Rattle.rc_ospf.specs.Routes.{is_default, route_to}
+use Rattle.rc_ospf.specs.Routes.{route_to}
 use Rattle.rc_ospf.specs.Walks.{LeastWalks, Reach}
 use Rattle.rc_ospf.specs.Ways.{Way, way_over}
 use Rattle.rc_ospf.specs.declared.destination.Destination.{Destination}

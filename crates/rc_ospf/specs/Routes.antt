@@ -3,7 +3,7 @@ use Rattle.std.specs.Prelude.{ℕ, ◌^◌, ◌<◌, Bool, false, if◌then◌el
 use Rattle.std.specs.List.{filter_map, flat_map, list_any}
 use Rattle.std.specs.Option.{option_map, option_or}
 use Rattle.rc_base.specs.Lists.{in_order}
-use Rattle.rc_base.specs.Prefix.{Cidr, prefix_cmp, same_prefix}
+use Rattle.rc_base.specs.Prefix.{Cidr, prefix_cmp, same_prefix, default_prefix, is_default}
 use Rattle.rc_config.specs.declared.network.Network.{Network}
 use Rattle.rc_route.specs.Hops.{hop_cmp}
 use Rattle.rc_route.specs.declared.route.Route.{Route}
@@ -32,13 +32,6 @@ offered_row p (o ∷ offers) = Some (record { prefix = p; offers = o ∷ offers 
 -- each prefix that is advertised, by address, then length, with its offers in the order of the adverts
 unfoldable pub offered_rows : List Advert → List Row
 offered_rows adverts = filter_map (λ p. offered_row p (offers_at p adverts)) (in_order prefix_cmp (map advert_prefix adverts))
-
--- 0.0.0.0/0
-abbrev pub default_prefix : Cidr
-default_prefix = record { network = 0; len = 0 }
-
-abbrev pub is_default : Cidr → Bool
-is_default p = same_prefix p default_prefix
 
 abbrev pub default_row : Row
 default_row = record { prefix = default_prefix; offers = [] }

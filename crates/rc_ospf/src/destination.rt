@@ -9,7 +9,7 @@ use crate::member::{Member, StubAreas};
 use crate::shares::{Makes, made_by};
 use crate::summaries::{Summaries, summaries_of, to_be_asked};
 use crate::{Offer, Row};
-use rc_base::{Addr, Items, Prefix};
+use rc_base::{Items, Prefix};
 use std::alloc::{AllocError, Global};
 use std::thread::Threads;
 
@@ -31,26 +31,12 @@ impl Drop for Destination {
     }
 }
 
-/// 0.0.0.0/0
-fn default_prefix() -> Prefix
-    ensures { result ≡ spec.default_prefix }
-{
-    Prefix::new(Addr::new(0), 0).unwrap()
-}
-
-/// Whether a prefix is 0.0.0.0/0.
-fn is_default(prefix: &Prefix) -> bool
-    ensures { result ≡ spec.is_default prefix.now }
-{
-    *prefix == default_prefix()
-}
-
 /// The row of 0.0.0.0/0, without an offer.
 fn default_row(alloc: Global) -> Row
     ensures { result ≡ spec.default_row }
 {
     Row {
-        prefix: default_prefix(),
+        prefix: Prefix::default_route(),
         offers: Items::new(alloc),
     }
 }
@@ -60,7 +46,7 @@ fn starts_with_default(rows: &[Row]) -> bool
     ensures { result ≡ spec.starts_with_default rows.now }
 {
     match rows {
-        [first, ..] => is_default(&first.prefix),
+        [first, ..] => first.prefix.is_default(),
         _ => false,
     }
 }
@@ -74,7 +60,7 @@ fn destination_of(alloc: Global, members: &[Member], row: &Row) -> Result<Destin
         alloc,
         members,
         StubAreas::Kept,
-        is_default(&row.prefix),
+        row.prefix.is_default(),
         row.offers.as_slice(),
     )?;
     Ok(Destination {

@@ -9,7 +9,8 @@ ghost use Rattle.rc_bdd.specs.Work.{IsCause};
 ghost use Rattle.rc_bdd.specs.declared.work.SetError.TheVariants.{Full};
 ghost use Rattle.rc_config.specs.Lawful.{IsLawful, IsPosition};
 ghost use Rattle.rc_config.specs.Members.{positions};
-ghost use Rattle.rc_edges.specs.Query.{IsReaching, all_kinds, query_nodes, reaching};
+ghost use Rattle.rc_base.specs.Endings.{all_kinds};
+ghost use Rattle.rc_edges.specs.Query.{IsReaching, query_nodes, reaching};
 ghost use Rattle.rc_nodes.specs.Seats.{IsSeatOf, Keeps, SeatKnows};
 ghost use Rattle.rc_places.specs.Places.{number_of};
 ghost use Rattle.rc_topology.specs.Ports.{links_of};
@@ -144,6 +145,7 @@ pub fn reach<R: Threads + Sync + AllocGlobal, M: May + Send + Sync, G: Gate>(
     ensures keeps { Keeps seat result.0 }
     ensures set { IfOk result.1 (λ r. SeatKnows result.0 r.index (tree (reaching plane.now place ends))) }
     ensures reaches { IfOk result.1 (λ r. (t : Tree) → SeatKnows result.0 r.index t → IsReduced t × ((h : Header) → IsHeader h → (holds t h ≡ true) ↔ IsReaching plane.now h place ends)) }
+    ensures cause { IfErr result.1 (IsCause nodes.now result.0) }
     ensures full { IfErr result.1 (λ e. e ≡ Full → nodes.now.capacity < distinct_count same_tree nodes.now.may) }
 {
     // Each of its tables is in order.

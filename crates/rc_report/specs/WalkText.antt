@@ -1,7 +1,6 @@
 -- A walk, as text.
 use Rattle.std.specs.Prelude.{List, ℕ, ◌++◌, codes, flat_map}
-use Rattle.rc_base.specs.declared.ending.Kind.{Kind}
-use Rattle.rc_base.specs.declared.ending.Kind.TheVariants.{DeniedIn, Accepted, NoRoute, NullRouted, DeniedOut, Unreachable, Exits, Delivered}
+use Rattle.rc_base.specs.Endings.{kind_word}
 use Rattle.rc_base.specs.declared.position.Pos.{Pos}
 use Rattle.rc_base.specs.declared.position.Pos.TheVariants.{Own, Entering}
 use Rattle.rc_config.specs.declared.network.Network.{Network}
@@ -10,23 +9,13 @@ use Rattle.rc_walk.specs.declared.walk.Stop.{Stop}
 use Rattle.rc_walk.specs.declared.walk.Stop.TheVariants.{At, Loop}
 use Rattle.rc_walk.specs.declared.walk.Walk.{Walk}
 
-abbrev pub kind_text : Kind → List ℕ
-kind_text DeniedIn = codes "denied-in"
-kind_text Accepted = codes "accepted"
-kind_text NoRoute = codes "no-route"
-kind_text NullRouted = codes "null-routed"
-kind_text DeniedOut = codes "denied-out"
-kind_text Unreachable = codes "unreachable"
-kind_text Exits = codes "exits"
-kind_text Delivered = codes "delivered"
-
 -- a router that sends a packet by itself, or the interface by which the packet enters it
 unfoldable pub position_line : Network → Pos → List ℕ
 position_line net (Own r) = codes "at " ++ router_name net r ++ codes " self\n"
 position_line net (Entering i) = codes "at " ++ router_name net i.router ++ codes " " ++ interface_name net i ++ codes "\n"
 
 unfoldable pub stop_line : Stop → List ℕ
-stop_line (At kind) = codes "end " ++ kind_text kind ++ codes "\n"
+stop_line (At kind) = codes "end " ++ kind_word kind ++ codes "\n"
 stop_line Loop = codes "end loop\n"
 
 -- a line for each position, then how the walk stops

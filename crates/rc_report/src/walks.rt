@@ -2,29 +2,14 @@
 ghost use Rattle.std.specs.Prelude.{◌≡◌, flat_map};
 ghost use Rattle.rc_outside.specs.Put.{IsPut};
 ghost use Rattle.rc_report.specs.Parts.{part_text};
-ghost use Rattle.rc_report.specs.WalkText.{kind_text, position_line, stop_line, walk_text};
+ghost use Rattle.rc_report.specs.WalkText.{position_line, stop_line, walk_text};
 
 use crate::names::{interface_name, router_name};
 use crate::{Buffer, Part, SinkFault, put_line};
-use rc_base::{Kind, Pos};
+use rc_base::Pos;
 use rc_config::Network;
 use rc_outside::Sink;
 use rc_walk::{Stop, Walk};
-
-fn kind_text(kind: Kind) -> &'static [u8]
-    ensures { result.now ≡ kind_text kind }
-{
-    match kind {
-        Kind::DeniedIn => b"denied-in",
-        Kind::Accepted => b"accepted",
-        Kind::NoRoute => b"no-route",
-        Kind::NullRouted => b"null-routed",
-        Kind::DeniedOut => b"denied-out",
-        Kind::Unreachable => b"unreachable",
-        Kind::Exits => b"exits",
-        Kind::Delivered => b"delivered",
-    }
-}
 
 /// What stands in the line of a position.
 #[tactic(auto, unfolding(crate::specs::WalkText::position_line))]
@@ -57,7 +42,7 @@ fn stop_parts(stop: Stop) -> [Part<'static>; 3]
     match stop {
         Stop::At(kind) => [
             Part::Text(b"end "),
-            Part::Text(kind_text(kind)),
+            Part::Text(kind.word().as_bytes()),
             Part::Text(b"\n"),
         ],
         Stop::Loop => [Part::Text(b"end loop\n"), Part::Text(b""), Part::Text(b"")],

@@ -18,7 +18,8 @@ use Rattle.rc_rib.specs.Next.{next_router, next_state}
 use Rattle.rc_rib.specs.declared.made.Made.{Made}
 use Rattle.rc_route.specs.Tables.{IsRouterState, IsStateOf}
 use Rattle.rc_rounds.specs.Rounds.{empty_state}
-use Rattle.rc_rounds.specs.Shares.{share_start, IsMade, IsShare, IsStretch}
+use Rattle.rc_outside.specs.Shares.{share_start}
+use Rattle.rc_rounds.specs.Shares.{IsMade, IsShare, IsStretch}
 
 pub share_start-up : (n w a b : ℕ) → 0 < w → a ≤ b → share_start n w a ≤ share_start n w b
 share_start-up n w a b pos le =

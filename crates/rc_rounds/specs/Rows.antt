@@ -1,7 +1,6 @@
 -- Worked cases of the definitions, each by computation.
 use Rattle.std.specs.Prelude.{◌≡◌, refl}
 use Rattle.rc_rounds.specs.Rounds.{checkpoint}
-use Rattle.rc_rounds.specs.Shares.{share_start}
 
 -- the first round has the empty state as its checkpoint
 pub first_checkpoint : checkpoint 1 ≡ 0
@@ -22,11 +21,3 @@ checkpoint_later = refl
 
 pub checkpoint_far : checkpoint 1000 ≡ 512
 checkpoint_far = refl
-
--- 5 routers and 2 workers: two routers and three
-pub share_begins : share_start 5 2 1 ≡ 2
-share_begins = refl
-
--- more workers than routers: some have none
-pub share_is_empty : share_start 1 4 2 ≡ share_start 1 4 1
-share_is_empty = refl

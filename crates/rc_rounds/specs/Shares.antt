@@ -1,17 +1,14 @@
--- Where the shares of a round's workers begin, and what they make.
-use Rattle.std.specs.Prelude.{◌≡◌, ℕ, ◌+◌, ◌*◌, ◌/◌, List, [], ◌∷◌}
+-- What the workers of a round make.
+use Rattle.std.specs.Prelude.{◌≡◌, ℕ, ◌+◌, List, [], ◌∷◌}
 use Rattle.rc_bgp.specs.Changes.{CoversChange}
 use Rattle.rc_bgp.specs.Known.{paths_of}
 use Rattle.rc_config.specs.declared.network.Network.{Network}
+use Rattle.rc_outside.specs.Shares.{share_start}
 use Rattle.rc_ospf.specs.declared.model.Internal.{Internal}
 use Rattle.rc_route.specs.Tables.{IsRouterState}
 use Rattle.rc_route.specs.declared.state.RouterState.{RouterState}
 use Rattle.rc_rib.specs.Next.{next_router}
 use Rattle.rc_rib.specs.declared.made.Made.{Made}
-
--- worker w of W has the n routers from n w / W up to n (w + 1) / W, rounded down
-abbrev pub share_start : ℕ → ℕ → ℕ → ℕ
-share_start n workers w = n * w / workers
 
 -- this is what a router knows after a round in which all read the old state, in order, and all is told that changed in its best paths
 pub record IsMade (net : Network) (internal : Internal) (old : List RouterState) (r : ℕ) (m : Made) : Type 0 where

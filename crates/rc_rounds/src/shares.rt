@@ -9,7 +9,8 @@ ghost use Rattle.std.specs.Thread.{IsSync};
 ghost use Rattle.rc_rib.specs.Inputs.{AreInputs};
 ghost use Rattle.rc_rib.specs.Next.{next_state};
 ghost use Rattle.rc_rounds.specs.Parts.{AreRead, IsReady};
-ghost use Rattle.rc_rounds.specs.Shares.{IsMade, IsShare, IsStretch, share_start};
+ghost use Rattle.rc_outside.specs.Shares.{share_start};
+ghost use Rattle.rc_rounds.specs.Shares.{IsMade, IsShare, IsStretch};
 
 use crate::parts::Setting;
 use rc_base::RouterId;

@@ -1,7 +1,8 @@
 //! A small network whose set doesn't fit into the small table of nodes in which it is tried first.
 //!
 //! Two lists on its way deny what has some bit 1 in both addresses, the first one the eight lowest bits and the second one nine
-//! others. Each has some hundreds of nodes, and both together more than 131,072.
+//! others. Each has some hundreds of nodes, and both together more than 131,072. The router at the way's end is the first in order, so of two
+//! workers the first one's share fails: the second one passes nevertheless, and not once more when the set is made again.
 use crate::answers::{Host, NamedText, ended_at};
 use rc_analyse::Status;
 use rc_outside::Gate;
@@ -52,7 +53,7 @@ access-list 101 permit ip any any
     ),
     (
         "c.cfg",
-        "hostname R3
+        "hostname R0
 interface GigabitEthernet0/0
  ip address 10.3.0.3 255.255.255.0
 ",

@@ -4,44 +4,6 @@ ghost use Rattle.rc_words.specs.Endings as spec;
 
 use rc_base::{Ends, Kind};
 
-/// All endings, in their order.
-const ENDINGS: [Kind; 8] = [
-    Kind::DeniedIn,
-    Kind::Accepted,
-    Kind::NoRoute,
-    Kind::NullRouted,
-    Kind::DeniedOut,
-    Kind::Unreachable,
-    Kind::Exits,
-    Kind::Delivered,
-];
-
-/// The word for an ending.
-fn ending_word(kind: Kind) -> &'static str
-    ensures { result.now ≡ spec.ending_word kind }
-{
-    match kind {
-        Kind::DeniedIn => "denied-in",
-        Kind::Accepted => "accepted",
-        Kind::NoRoute => "no-route",
-        Kind::NullRouted => "null-routed",
-        Kind::DeniedOut => "denied-out",
-        Kind::Unreachable => "unreachable",
-        Kind::Exits => "exits",
-        Kind::Delivered => "delivered",
-    }
-}
-
-/// The ending of a word.
-fn ending_named(text: &str) -> Option<Kind>
-    ensures { result ≡ spec.ending_named text.now }
-{
-    ENDINGS
-        .iter()
-        .copied()
-        .find(|kind| ending_word(*kind) == text)
-}
-
 /// No ending.
 fn no_endings() -> Ends
     ensures { result ≡ spec.no_endings }
@@ -92,7 +54,7 @@ pub(crate) fn endings_in(text: Option<&str>) -> Option<Ends>
 {
     match text {
         None => Some(arrivals()),
-        Some(text) => match ending_named(text) {
+        Some(text) => match Kind::named(text) {
             None => None,
             Some(kind) => Some(only(kind)),
         },

@@ -1,6 +1,6 @@
 use Rattle.std.proofs.Common.{◌++◌, List, take}
 use Rattle.rc_edges.specs.Made.{IsMade}
-use Rattle.rc_edges.specs.Query.{all_kinds}
+use Rattle.rc_base.specs.Endings.{all_kinds}
 use Rattle.rc_edges.specs.Stops.{AreKnown, asked_of}
 use Rattle.rc_nodes.specs.Seats.{Keeps}
 use Rattle.rc_trees.specs.Trees.{Tree}

@@ -1,7 +1,7 @@
 use Rattle.std.proofs.Common.{rules, ◌+◌, ◌-◌, ◌/◌, ℕ, IfOk, IfErr}
 use Rattle.std.proofs.lemmas.Result.{IfOk-weaker}
 use Rattle.rc_bdd.specs.Work.{IsCause}
-use Rattle.rc_jobs.specs.Shares.{share_start}
+use Rattle.rc_outside.specs.Shares.{share_start}
 use Rattle.rc_jobs.proofs.ShareLaws.{cause_kept}
 use Rattle.rc_jobs.proofs.workers.+fn-work-join+arg2+fn-work-join+arg3+work.Goals as goal
 

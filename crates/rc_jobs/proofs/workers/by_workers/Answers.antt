@@ -1,5 +1,5 @@
 use Rattle.std.proofs.Common.{IfOk, subst, arith}
-use Rattle.rc_jobs.specs.Shares.{share_start}
+use Rattle.rc_outside.specs.Shares.{share_start}
 use Rattle.rc_jobs.proofs.ShareLaws.{start-first, start-last}
 use Rattle.rc_jobs.proofs.workers.by_workers.Goals as goal
 

@@ -1,5 +1,5 @@
 use Rattle.rc_nodes.specs.Seats.{IsSeatOf, Keeps}
-use Rattle.rc_jobs.specs.Shares.{share_start}
+use Rattle.rc_outside.specs.Shares.{share_start}
 use Rattle.rc_jobs.proofs.workers.in_turn.Given as goal
 
 abbrev pub invariant-loop-worker : goal.invariant-loop-worker

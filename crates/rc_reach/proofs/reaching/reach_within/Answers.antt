@@ -4,7 +4,8 @@ use Rattle.std.specs.List.{list_any}
 use Rattle.rc_base.specs.Positions.{is_among}
 use Rattle.rc_config.specs.Members.{positions}
 use Rattle.rc_edges.proofs.PrepareLaws.{may_prepare}
-use Rattle.rc_edges.specs.Query.{all_kinds, reaching}
+use Rattle.rc_base.specs.Endings.{all_kinds}
+use Rattle.rc_edges.specs.Query.{reaching}
 use Rattle.rc_bdd.specs.Work.{IsCause}
 use Rattle.rc_jobs.specs.Flows.{IsPrepared, KnowsEdges, KnowsFlows, real_endings}
 use Rattle.rc_nodes.specs.Seats.{SeatView, IsSeatOf, SeatKnows}
