@@ -2,7 +2,11 @@
 use Rattle.std.specs.Prelude.{◌≡◌, refl, ℕ, true, false, List, [], ◌∷◌, length}
 use Rattle.rc_base.specs.Prefix.{prefix_at}
 use Rattle.rc_base.specs.declared.header.Header.{Header}
+use Rattle.rc_config.specs.declared.access_list.AccessListLine.{AccessListLine}
+use Rattle.rc_config.specs.declared.access_list.Action.TheVariants.{Permit}
+use Rattle.rc_config.specs.declared.access_list.AddressTest.{AddressTest}
 use Rattle.rc_config.specs.declared.access_list.PortTest.TheVariants.{Below, Above, Within}
+use Rattle.rc_config.specs.declared.access_list.ProtocolTest.TheVariants as protocol
 use Rattle.rc_fib.specs.declared.entry.Entry.{Entry}
 use Rattle.rc_route.specs.declared.route.Hop.TheVariants.{Null}
 use Rattle.rc_trees.specs.Trees.{never, always}
@@ -11,7 +15,7 @@ use Rattle.rc_trees.specs.Combine as trees
 use Rattle.rc_trees.specs.Recipes.{nodes, tree}
 use Rattle.rc_trees.specs.Recipes as recipe
 use Rattle.rc_trees.specs.Fields.{masked, under}
-use Rattle.rc_sets.specs.AccessLists.{port_set}
+use Rattle.rc_sets.specs.AccessLists.{line_set, port_set}
 use Rattle.rc_sets.specs.Regions.{region, hop_set}
 
 -- ---- ports at their edges
@@ -40,6 +44,17 @@ the_upper_half = refl
 one_port : length (nodes (port_set 103 (Within 80 80))) ≡ 16
 unfolding nodes under trees.minus
 one_port = refl
+
+-- ---- the nodes of a line, by which it is told when a table is full
+
+abbrev odd : AddressTest
+odd = record { addr = 1; wildcard = 4294967294 }
+
+-- Each address test has one node, the protocol eight, each port test one: twelve. Protocol and source make one more, the source's; with the
+-- source port the source's and the protocol's are made anew, nine; with the destination its own; and with its port all but this one, eleven.
+five_tests : length (nodes (line_set (record { sequence = 10; action = Permit; protocol = protocol.Is 6; source = odd; source_port = Above 32767; destination = odd; destination_port = Above 32767 }))) ≡ 34
+unfolding line_set nodes masked under trees.minus
+five_tests = refl
 
 -- ---- hops: a default, 10.0.0.0/8 to another hop, and 10.1.0.0/16 to the default's again
 
