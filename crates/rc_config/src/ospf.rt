@@ -185,7 +185,7 @@ pub enum OspfLine {
     ReferenceBandwidth(u32),
     /// `area N stub`, or `area N stub no-summary`.
     Stub(StubArea),
-    /// `redistribute connected`, or `redistribute static`, with its options.
+    /// `redistribute connected`, `redistribute static` or `redistribute bgp N`, with its options.
     Redistribute(Redistribution),
     /// `default-information originate`, with its options.
     DefaultInformation(DefaultInformation),

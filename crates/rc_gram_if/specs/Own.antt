@@ -3,7 +3,7 @@ use Rattle.rc_config.specs.declared.command.Command.{Command}
 use Rattle.rc_config.specs.declared.command.Command.TheVariants.{Passed, Remark, Hostname, Interface, Address, Shutdown, Bandwidth, StaticRoute, AccessListOpened, AccessListLine, AccessGroup, PrefixLine, CommunityLine, MapOpened, MapLine, InterfaceOspf, OspfOpened, OspfLine, BgpOpened, BgpLine}
 use Rattle.rc_config.specs.Lawful.{IsInRange}
 
--- values are in range, and no list, route map or OSPF process is opened or gets a line
+-- values are in range, and no list, route map, OSPF process or BGP process is opened or gets a line
 abbrev pub IsOwn : Command → Type 0
 IsOwn (AccessListOpened list kind) = ⊥
 IsOwn (AccessListLine list kind line) = ⊥
