@@ -113,3 +113,17 @@ fn workers_meet_at_the_gate(rt: HostRuntime) -> Result<(), Fail> {
     check_meets(&rt, "routes d --workers 2", 1)?;
     check_meets(&rt, "reach d --from R1 --workers 2", 100_001)
 }
+
+/// Asserts that there is no meeting before anybody comes, nor where the second worker comes when the first has waited in vain.
+fn check_does_not_meet(rt: &impl Host, gate: &MeetGate) {
+    assert!(rt; !gate.met());
+    gate.pass(1, 0);
+    gate.pass(1, 1);
+    assert!(rt; !gate.met());
+}
+
+/// The first worker waits for its 200,000,000 turns, which take a second or some.
+#[test]
+fn one_behind_the_other_is_no_meeting(rt: HostRuntime) {
+    check_does_not_meet(&rt, &MeetGate::new(1));
+}

@@ -56,9 +56,9 @@ fn bytes_that_are_refused(rt: HostRuntime) -> Result<(), Fail> {
     check_all_bytes(&rt, &BYTES)
 }
 
-/// A host name, so many lines of comment, and an end.
-fn comments(alloc: Global, lines: u32, end: &[u8]) -> Result<MemFolder, AllocError> {
-    let mut bytes = Vec::from_slice(alloc, b"hostname R1\n")?;
+/// A first line, so many lines of comment, and an end.
+fn comments(alloc: Global, first: &[u8], lines: u32, end: &[u8]) -> Result<MemFolder, AllocError> {
+    let mut bytes = Vec::from_slice(alloc, first)?;
     for _ in 0..lines {
         bytes.extend_from_slice(b"!\n")?;
     }
@@ -66,20 +66,20 @@ fn comments(alloc: Global, lines: u32, end: &[u8]) -> Result<MemFolder, AllocErr
     folder_of_bytes(alloc, bytes.as_slice())
 }
 
+/// A file of as many bytes as may be is taken, and one of more is refused, whatever its first line is.
 #[test]
 fn a_file_at_the_limit(rt: HostRuntime) -> Result<(), Fail> {
-    let most = comments(rt.alloc(), 524_282, b"")?;
+    let too_long = (Status::Refused, "refused a.cfg:0: 11\n", 2, 0);
+    let most = comments(rt.alloc(), b"hostname R1\n", 524_282, b"")?;
     check_end(
         &rt,
         most,
         &(Status::Done, "outcome fixed 1\nrouter R1\n", 2, 0),
     )?;
-    let too_long = comments(rt.alloc(), 524_282, b"!")?;
-    check_end(
-        &rt,
-        too_long,
-        &(Status::Refused, "refused a.cfg:0: 11\n", 2, 0),
-    )
+    let more = comments(rt.alloc(), b"hostname R1\n", 524_282, b"!")?;
+    check_end(&rt, more, &too_long)?;
+    let unknown = comments(rt.alloc(), b"frobnicate\n", 524_283, b"")?;
+    check_end(&rt, unknown, &too_long)
 }
 
 /// A folder of so many files, where the call of this number fails.
