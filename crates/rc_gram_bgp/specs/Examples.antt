@@ -1,6 +1,5 @@
 -- Lines of BGP with what they say, by computation.
-use Rattle.std.specs.Prelude.{◌≡◌, refl, ℕ, Bool, true, false, List, Option, Some, None, Ok, Err, codes}
-use Rattle.rc_base.specs.Addr.{mask_len}
+use Rattle.std.specs.Prelude.{◌≡◌, refl, ℕ, Bool, true, false, List, [], Option, Some, None, Ok, Err, codes}
 use Rattle.rc_base.specs.Prefix.{prefix_at}
 use Rattle.rc_openings.specs.GlobalOpenings.{global, global_forms, global_refused, global_ignored}
 use Rattle.rc_openings.specs.BgpOpenings.{bgp, bgp_forms, bgp_refused, bgp_ignored}
@@ -21,6 +20,7 @@ use Rattle.rc_config.specs.declared.interface.Direction.TheVariants.{In, Out}
 use Rattle.rc_config.specs.declared.route_map.Mention.{Mention}
 use Rattle.rc_config.specs.declared.router_text.RouterText.{RouterText}
 use Rattle.rc_gram_bgp.specs.Reading.{says}
+use Rattle.rc_gram_bgp.specs.Redistributions.{kinds_in_front}
 use Rattle.rc_gram_bgp.specs.Rows.{Answer}
 
 -- the seventh line of a file says this where it has no indent, in a file with no process
@@ -236,6 +236,40 @@ from process kinds r = RedistributeOspf (record { process = process; kinds = kin
 abbrev of_kinds : Bool → Bool → Bool → OspfKinds
 of_kinds internal first second = record { internal = internal; external_1 = first; external_2 = second }
 
+-- the words in front name these kinds, and these words stand behind them
+abbrev Reads : List ℕ → OspfKinds → List ℕ → Type 0
+Reads text named left = kinds_in_front (words_of text) ≡ (named, words_of left)
+
+-- no word, one kind alone, several, the same again; and a number is one kind's only behind `external`, and there only the first
+pub read_in_front :
+    Reads [] (of_kinds false false false) []
+    × Reads (codes "internal") (of_kinds true false false) []
+    × Reads (codes "external") (of_kinds false true true) []
+    × Reads (codes "external 1") (of_kinds false true false) []
+    × Reads (codes "external 2") (of_kinds false false true) []
+    × Reads (codes "internal internal") (of_kinds true false false) []
+    × Reads (codes "internal external") (of_kinds true true true) []
+    × Reads (codes "external internal") (of_kinds true true true) []
+    × Reads (codes "external external") (of_kinds false true true) []
+    × Reads (codes "external 1 external 1") (of_kinds false true false) []
+    × Reads (codes "external 2 external 2") (of_kinds false false true) []
+    × Reads (codes "external 1 external 2") (of_kinds false true true) []
+    × Reads (codes "external 2 external 1 internal") (of_kinds true true true) []
+    × Reads (codes "external 1 external") (of_kinds false true true) []
+    × Reads (codes "external external 1") (of_kinds false true true) []
+    × Reads (codes "external external 2") (of_kinds false true true) []
+    × Reads (codes "external 1 2") (of_kinds false true false) (codes "2")
+    × Reads (codes "external 2 1") (of_kinds false false true) (codes "1")
+    × Reads (codes "external 1 1") (of_kinds false true false) (codes "1")
+    × Reads (codes "external internal 1") (of_kinds true true true) (codes "1")
+    × Reads (codes "external 3 internal") (of_kinds false true true) (codes "3 internal")
+    × Reads (codes "internal 2") (of_kinds true false false) (codes "2")
+    × Reads (codes "1") (of_kinds false false false) (codes "1")
+    × Reads (codes "2 external") (of_kinds false false false) (codes "2 external")
+    × Reads (codes "metric 5 internal") (of_kinds false false false) (codes "metric 5 internal")
+unfolding words_of
+read_in_front = (refl, refl, refl, refl, refl, refl, refl, refl, refl, refl, refl, refl, refl, refl, refl, refl, refl, refl, refl, refl, refl, refl, refl, refl, refl)
+
 -- the kinds behind `match`: one or more, in any order and more than once; `external` is both types
 pub kinds :
     Is (codes " redistribute ospf 1") (from 1 (of_kinds true false false) (by None None))
@@ -247,15 +281,21 @@ pub kinds :
     × Is (codes " redistribute ospf 1 match external 2 internal") (from 1 (of_kinds true false true) (by None None))
     × Is (codes " redistribute ospf 1 match external internal internal") (from 1 (of_kinds true true true) (by None None))
     × Is (codes " redistribute ospf 1 match external external 1") (from 1 (of_kinds false true true) (by None None))
+    × Is (codes " redistribute ospf 1 match internal internal") (from 1 (of_kinds true false false) (by None None))
+    × Is (codes " redistribute ospf 1 match external 1 external 1") (from 1 (of_kinds false true false) (by None None))
+    × Is (codes " redistribute ospf 1 match external 2 external") (from 1 (of_kinds false true true) (by None None))
     × Says (codes " redistribute ospf 1 match") (Err BadValue)
     × Says (codes " redistribute ospf 1 match metric 5") (Err BadValue)
     × Says (codes " redistribute ospf 1 match 1") (Err BadValue)
+    × Says (codes " redistribute ospf 1 match 2 external") (Err BadValue)
     × Says (codes " redistribute ospf 1 match internal 1") (Err BadValue)
+    × Says (codes " redistribute ospf 1 match external internal 1") (Err BadValue)
     × Says (codes " redistribute ospf 1 match external 3") (Err BadValue)
     × Says (codes " redistribute ospf 1 match external 1 2") (Err BadValue)
+    × Says (codes " redistribute ospf 1 match external 2 2") (Err BadValue)
     × Says (codes " redistribute ospf 1 match nssa-external") (Err BadValue)
 unfolding decided decisive_row bgp bgp_forms bgp_refused bgp_ignored words_of
-kinds = (refl, refl, refl, refl, refl, refl, refl, refl, refl, refl, refl, refl, refl, refl, refl, refl)
+kinds = (refl, refl, refl, refl, refl, refl, refl, refl, refl, refl, refl, refl, refl, refl, refl, refl, refl, refl, refl, refl, refl, refl)
 
 -- the options of `redistribute ospf` stand in one order
 pub from_ospf :

@@ -1,6 +1,6 @@
 -- What stands behind `redistribute` and its source (RFC 4271 s.9.4): what a line says by its words, where it fits its row.
 use Rattle.std.specs.Prelude.{◌≡◌, ℕ, ◌&&◌, ◌||◌, Bool, true, false, List, [], ◌∷◌, Option, Some, None, if◌then◌else◌, codes}
-use Rattle.std.specs.Option.{option_map, option_or, unwrap_or}
+use Rattle.std.specs.Option.{option_map, option_or}
 use Rattle.std.specs.Str.{bytes_eq}
 use Rattle.rc_config.specs.declared.bgp.BgpRedistribution.{BgpRedistribution}
 use Rattle.rc_config.specs.declared.bgp.OspfKinds.{OspfKinds}
@@ -10,7 +10,6 @@ use Rattle.rc_openings.specs.Values.{number_of}
 use Rattle.rc_openings.specs.Words.{words_left}
 use Rattle.rc_openings.specs.declared.words.Words.{Words}
 use Rattle.rc_gram_bgp.specs.NeighborLines.{mention_of}
-use Rattle.rc_gram_bgp.specs.declared.redistributions.KindsRead.{KindsRead}
 
 -- no option
 abbrev pub without_options : BgpRedistribution
@@ -59,32 +58,38 @@ no_kinds = record { internal = false; external_1 = false; external_2 = false }
 abbrev pub internal_kinds : OspfKinds
 internal_kinds = record { internal = true; external_1 = false; external_2 = false }
 
-abbrev pub with_internal : OspfKinds → OspfKinds
-with_internal k = record k { internal = true }
+-- the external ones of a type, and those of both
+abbrev pub type_1_kinds : OspfKinds
+type_1_kinds = record { internal = false; external_1 = true; external_2 = false }
 
--- the external ones of a type, or of both
-abbrev pub with_external : OspfKinds → Bool → Bool → OspfKinds
-with_external k first second = record k { external_1 = k.external_1 || first; external_2 = k.external_2 || second }
+abbrev pub type_2_kinds : OspfKinds
+type_2_kinds = record { internal = false; external_1 = false; external_2 = true }
 
--- the kinds so far, where `external` without a type counts as both
-abbrev pub settled : KindsRead → OspfKinds
-settled s = if s.awaits_type then with_external s.kinds true true else s.kinds
+abbrev pub external_kinds : OspfKinds
+external_kinds = record { internal = false; external_1 = true; external_2 = true }
 
--- what is read with one word more: `internal`, `external`, or the type `1` or `2` behind `external`
-abbrev pub with_word : KindsRead → List ℕ → Option KindsRead
-with_word s w =
-    if s.awaits_type && bytes_eq w (codes "1") then Some (record { kinds = with_external s.kinds true false; awaits_type = false })
-    else (if s.awaits_type && bytes_eq w (codes "2") then Some (record { kinds = with_external s.kinds false true; awaits_type = false })
-    else (if bytes_eq w (codes "internal") then Some (record { kinds = with_internal (settled s); awaits_type = false })
-    else (if bytes_eq w (codes "external") then Some (record { kinds = settled s; awaits_type = true }) else None)))
+-- those of the one and those of the other
+abbrev pub joined : OspfKinds → OspfKinds → OspfKinds
+joined k l = record { internal = k.internal || l.internal; external_1 = k.external_1 || l.external_1; external_2 = k.external_2 || l.external_2 }
 
--- the kinds that the words in front name, behind those read before, and the words that are left
-abbrev pub kinds_from : KindsRead → List (List ℕ) → OspfKinds × List (List ℕ)
-kinds_from s [] = (settled s, [])
-kinds_from s (w ∷ rest) = unwrap_or (option_map (λ t. kinds_from t rest) (with_word s w)) (settled s, w ∷ rest)
+-- kinds beside those that the words behind name
+abbrev pub beside : OspfKinds → OspfKinds × List (List ℕ) → OspfKinds × List (List ℕ)
+beside k p = (joined k p.0, p.1)
 
-abbrev pub none_read : KindsRead
-none_read = record { kinds = no_kinds; awaits_type = false }
+-- The kinds that the words in front name, in any order and more than once, and the words behind them: `internal`, `external 1`,
+-- `external 2`, and `external` without a type behind it for both.
+abbrev pub kinds_in_front : List (List ℕ) → OspfKinds × List (List ℕ)
+kinds_in_front [] = (no_kinds, [])
+kinds_in_front (w ∷ []) =
+    if bytes_eq w (codes "internal") then (internal_kinds, [])
+    else (if bytes_eq w (codes "external") then (external_kinds, [])
+    else (no_kinds, w ∷ []))
+kinds_in_front (w ∷ x ∷ rest) =
+    if bytes_eq w (codes "internal") then beside internal_kinds (kinds_in_front (x ∷ rest))
+    else (if bytes_eq w (codes "external") && bytes_eq x (codes "1") then beside type_1_kinds (kinds_in_front rest)
+    else (if bytes_eq w (codes "external") && bytes_eq x (codes "2") then beside type_2_kinds (kinds_in_front rest)
+    else (if bytes_eq w (codes "external") then beside external_kinds (kinds_in_front (x ∷ rest))
+    else (no_kinds, w ∷ x ∷ rest))))
 
 abbrev pub has_kind : OspfKinds → Bool
 has_kind k = k.internal || k.external_1 || k.external_2
@@ -95,7 +100,7 @@ some_kinds (k, rest) = if has_kind k then Some (k, rest) else None
 -- `[match KINDS]` in front, with one kind or more, and the words behind it
 abbrev pub matched : List (List ℕ) → Option (OspfKinds × List (List ℕ))
 matched [] = Some (internal_kinds, [])
-matched (w ∷ ws) = if bytes_eq w (codes "match") then some_kinds (kinds_from none_read ws) else Some (internal_kinds, w ∷ ws)
+matched (w ∷ ws) = if bytes_eq w (codes "match") then some_kinds (kinds_in_front ws) else Some (internal_kinds, w ∷ ws)
 
 -- the code found this, with a cursor over the words behind
 abbrev pub IsMatched : Option (OspfKinds × List (List ℕ)) → Option (OspfKinds × Words) → Type 0

@@ -1,5 +1,5 @@
 //! What stands behind `redistribute` and its source. A line that fits no row is none.
-ghost use Rattle.std.specs.Prelude.{◌≡◌};
+ghost use Rattle.std.specs.Prelude.{◌≡◌, ◌<◌, IfSome, MatchOption, length};
 ghost use Rattle.rc_openings.specs.Words.{words_left};
 ghost use Rattle.rc_gram_bgp.specs.Redistributions as rows;
 
@@ -155,96 +155,89 @@ fn internal_kinds() -> OspfKinds
     }
 }
 
-fn with_internal(kinds: OspfKinds) -> OspfKinds
-    ensures { result ≡ rows.with_internal kinds }
+/// The external ones of type 1.
+fn type_1_kinds() -> OspfKinds
+    ensures { result ≡ rows.type_1_kinds }
 {
     OspfKinds {
-        internal: true,
-        ..kinds
+        internal: false,
+        external_1: true,
+        external_2: false,
     }
 }
 
-/// With the external ones of a type, or of both.
-fn with_external(kinds: OspfKinds, first: bool, second: bool) -> OspfKinds
-    ensures { result ≡ rows.with_external kinds first second }
+/// The external ones of type 2.
+fn type_2_kinds() -> OspfKinds
+    ensures { result ≡ rows.type_2_kinds }
 {
     OspfKinds {
-        external_1: kinds.external_1 || first,
-        external_2: kinds.external_2 || second,
-        ..kinds
+        internal: false,
+        external_1: false,
+        external_2: true,
     }
 }
 
-/// The kinds that are read so far.
-#[derive(Clone, Copy)]
-pub struct KindsRead {
-    kinds: OspfKinds,
-    /// Whether `external` stands in front, behind which its type may.
-    awaits_type: bool,
+/// The external ones of both types.
+fn external_kinds() -> OspfKinds
+    ensures { result ≡ rows.external_kinds }
+{
+    OspfKinds {
+        internal: false,
+        external_1: true,
+        external_2: true,
+    }
 }
 
-impl KindsRead {
-    /// The kinds, where `external` without a type counts as both.
-    fn settled(self) -> OspfKinds
-        ensures { result ≡ rows.settled self }
-    {
-        if self.awaits_type {
-            with_external(self.kinds, true, true)
-        } else {
-            self.kinds
-        }
+/// The kinds of both.
+fn joined(kinds: OspfKinds, more: OspfKinds) -> OspfKinds
+    ensures { result ≡ rows.joined kinds more }
+{
+    OspfKinds {
+        internal: kinds.internal || more.internal,
+        external_1: kinds.external_1 || more.external_1,
+        external_2: kinds.external_2 || more.external_2,
     }
+}
 
-    /// What is read with one word more.
-    fn with_word(self, word: &[u8]) -> Option<KindsRead>
-        ensures { result ≡ rows.with_word self word.now }
-    {
-        if self.awaits_type && word == b"1".as_slice() {
-            return Some(KindsRead {
-                kinds: with_external(self.kinds, true, false),
-                awaits_type: false,
-            });
-        }
-        if self.awaits_type && word == b"2".as_slice() {
-            return Some(KindsRead {
-                kinds: with_external(self.kinds, false, true),
-                awaits_type: false,
-            });
-        }
-        if word == b"internal".as_slice() {
-            return Some(KindsRead {
-                kinds: with_internal(self.settled()),
-                awaits_type: false,
-            });
-        }
-        if word == b"external".as_slice() {
-            return Some(KindsRead {
-                kinds: self.settled(),
-                awaits_type: true,
-            });
-        }
-        None
+/// The kinds that the first word names, `external` with the type behind it, and the words that are left.
+fn first_kinds<'a>(words: Words<'a>) -> Option<(OspfKinds, Words<'a>)>
+    ensures kinds { MatchOption result (rows.kinds_in_front (words_left words.entry) ≡ (rows.no_kinds, words_left words.entry)) (λ p. rows.kinds_in_front (words_left words.entry) ≡ rows.beside p.0 (rows.kinds_in_front (words_left p.1))) }
+    ensures shorter { IfSome result (λ p. length (words_left p.1) < length (words_left words.entry)) }
+{
+    let mut behind = words;
+    let Some(word) = behind.next_word() else {
+        return None;
+    };
+    if word == b"internal".as_slice() {
+        return Some((internal_kinds(), behind));
     }
+    if word != b"external".as_slice() {
+        return None;
+    }
+    let mut last = behind;
+    let Some(of_type) = last.next_word() else {
+        return Some((external_kinds(), behind));
+    };
+    if of_type == b"1".as_slice() {
+        return Some((type_1_kinds(), last));
+    }
+    if of_type == b"2".as_slice() {
+        return Some((type_2_kinds(), last));
+    }
+    Some((external_kinds(), behind))
 }
 
 /// The kinds that the words in front name, and the words behind them.
-fn kinds_from<'a>(words: Words<'a>) -> (OspfKinds, Words<'a>)
-    ensures { rows.kinds_from rows.none_read (words_left words.entry) ≡ (result.0, words_left result.1) }
+fn kinds_in_front<'a>(words: Words<'a>) -> (OspfKinds, Words<'a>)
+    ensures { rows.kinds_in_front (words_left words.entry) ≡ (result.0, words_left result.1) }
 {
-    let mut read = KindsRead {
-        kinds: no_kinds(),
-        awaits_type: false,
-    };
+    let mut kinds = no_kinds();
     let mut rest = words;
-    let mut behind = words;
-    while let Some(word) = behind.next_word() {
-        match read.with_word(word) {
-            Some(more) => read = more,
-            None => return (read.settled(), rest),
-        }
+    while let Some((more, behind)) = first_kinds(rest) {
+        kinds = joined(kinds, more);
         rest = behind;
     }
-    (read.settled(), behind)
+    (kinds, rest)
 }
 
 fn has_kind(kinds: OspfKinds) -> bool
@@ -255,9 +248,9 @@ fn has_kind(kinds: OspfKinds) -> bool
 
 /// The kinds that the words in front name, one or more, and the words behind them.
 fn some_kinds<'a>(words: Words<'a>) -> Option<(OspfKinds, Words<'a>)>
-    ensures { rows.IsMatched (rows.some_kinds (rows.kinds_from rows.none_read (words_left words.entry))) result }
+    ensures { rows.IsMatched (rows.some_kinds (rows.kinds_in_front (words_left words.entry))) result }
 {
-    let (kinds, rest) = kinds_from(words);
+    let (kinds, rest) = kinds_in_front(words);
     if has_kind(kinds) {
         Some((kinds, rest))
     } else {
