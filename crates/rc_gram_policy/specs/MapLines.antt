@@ -19,7 +19,7 @@ use Rattle.rc_config.specs.declared.map_line.SetLine.{SetLine}
 use Rattle.rc_config.specs.declared.map_line.SetLine.TheVariants as set
 use Rattle.rc_config.specs.declared.sets.MetricType.TheVariants.{Type1, Type2}
 use Rattle.rc_gram_policy.specs.declared.map_opening.OpenedEntry.{OpenedEntry}
-use Rattle.rc_gram_policy.specs.Parts.{values_from, values_of}
+use Rattle.rc_gram_policy.specs.Parts.{values_in_front, values_of}
 use Rattle.rc_gram_policy.specs.Values.{community_of, as_number_of}
 
 abbrev pub entry_of : Option (List ℕ) → Option Action → Option ℕ → Option OpenedEntry
@@ -66,7 +66,7 @@ change_by (n ∷ ns, rest) = option_map (λ additive. set.Communities (community
 
 -- `COMM.. [additive]`
 abbrev pub community_change : List (List ℕ) → Option SetLine
-community_change words = change_by (values_from community_of [] words)
+community_change words = change_by (values_in_front community_of words)
 
 abbrev pub if_few : List ℕ → Option (List ℕ)
 if_few numbers = if nat_le (length numbers) 10 then Some numbers else None

@@ -1,9 +1,9 @@
 //! The numbers of AS that are put before a path.
-ghost use Rattle.std.specs.Prelude.{◌≡◌, ◌≤◌, [], All, IfOk, IfSome, length};
+ghost use Rattle.std.specs.Prelude.{◌≡◌, ◌≤◌, All, IfOk, IfSome, length};
 ghost use Rattle.rc_openings.specs.Words.{words_left};
 ghost use Rattle.rc_config.specs.Sets.{IsPrepended};
 ghost use Rattle.rc_gram_policy.specs.MapLines.{prepended};
-ghost use Rattle.rc_gram_policy.specs.Parts.{values_from};
+ghost use Rattle.rc_gram_policy.specs.Parts.{values_in_front};
 ghost use Rattle.rc_gram_policy.specs.Values.{as_number_of};
 
 use crate::values::word_as;
@@ -13,7 +13,7 @@ use std::alloc::{AllocError, Global};
 
 /// The numbers of AS that the words in front are, and the words behind them.
 fn numbers_from<'a>(alloc: Global, words: Words<'a>) -> Result<(Items<u32>, Words<'a>), AllocError>
-    ensures numbers { IfOk result (λ p. values_from as_number_of [] (words_left words.entry) ≡ (p.0, words_left p.1)) }
+    ensures numbers { IfOk result (λ p. values_in_front as_number_of (words_left words.entry) ≡ (p.0, words_left p.1)) }
     ensures each { IfOk result (λ p. All (λ n. 1 ≤ n) p.0) }
 {
     let mut numbers = Items::new(alloc);

@@ -1,7 +1,7 @@
 //! Several communities.
-ghost use Rattle.std.specs.Prelude.{◌≡◌, [], IfOk};
+ghost use Rattle.std.specs.Prelude.{◌≡◌, IfOk};
 ghost use Rattle.rc_openings.specs.Words.{words_left};
-ghost use Rattle.rc_gram_policy.specs.Parts.{values_from};
+ghost use Rattle.rc_gram_policy.specs.Parts.{values_in_front};
 ghost use Rattle.rc_gram_policy.specs.Values.{community_of};
 
 use crate::values::word_community;
@@ -14,7 +14,7 @@ pub(crate) fn read_communities<'a>(
     alloc: Global,
     words: Words<'a>,
 ) -> Result<(Items<u32>, Words<'a>), AllocError>
-    ensures { IfOk result (λ p. values_from community_of [] (words_left words.entry) ≡ (p.0, words_left p.1)) }
+    ensures { IfOk result (λ p. values_in_front community_of (words_left words.entry) ≡ (p.0, words_left p.1)) }
 {
     let mut numbers = Items::new(alloc);
     let mut rest = words;

@@ -1,8 +1,8 @@
 //! Several names.
-ghost use Rattle.std.specs.Prelude.{◌≡◌, ◌≤◌, [], IfOk, IfSome, length};
+ghost use Rattle.std.specs.Prelude.{◌≡◌, ◌≤◌, IfOk, IfSome, length};
 ghost use Rattle.rc_base.specs.Name.{name_of};
 ghost use Rattle.rc_openings.specs.Words.{words_left};
-ghost use Rattle.rc_gram_policy.specs.Parts.{values_from, values_of};
+ghost use Rattle.rc_gram_policy.specs.Parts.{values_in_front, values_of};
 
 use rc_base::{Items, Name};
 use rc_openings::Words;
@@ -10,7 +10,7 @@ use std::alloc::{AllocError, Global};
 
 /// The names that the words in front are, and the words behind them.
 fn names_from<'a>(alloc: Global, words: Words<'a>) -> Result<(Items<Name>, Words<'a>), AllocError>
-    ensures { IfOk result (λ p. values_from name_of [] (words_left words.entry) ≡ (p.0, words_left p.1)) }
+    ensures { IfOk result (λ p. values_in_front name_of (words_left words.entry) ≡ (p.0, words_left p.1)) }
 {
     let mut names = Items::new(alloc);
     let mut rest = words;

@@ -1,13 +1,14 @@
-use Rattle.std.proofs.Common.{◌≡◌, ◌≤◌, [], All, length}
+use Rattle.std.proofs.Common.{◌≡◌, ◌≤◌, All, length}
 use Rattle.rc_openings.specs.Words.{words_left}
-use Rattle.rc_gram_policy.specs.Parts.{values_from}
+use Rattle.rc_gram_policy.specs.Parts.{values_in_front}
 use Rattle.rc_gram_policy.specs.Values.{as_number_of}
+use Rattle.rc_gram_policy.proofs.Front.{all_followed}
 use Rattle.rc_gram_policy.proofs.as_path.numbers_from.Given as goal
 
--- what is left gives the same numbers, and each so far is from 1 on
+-- the numbers so far, and then those of what is left, and each so far is from 1 on
 abbrev pub invariant-loop-word : goal.invariant-loop-word
 invariant-loop-word l = record {
-  same : values_from as_number_of l.numbers (words_left l.behind) ≡ values_from as_number_of [] (words_left l.fn.words);
+  same : all_followed l.numbers (values_in_front as_number_of (words_left l.behind)) ≡ values_in_front as_number_of (words_left l.fn.words);
   kept : words_left l.rest ≡ words_left l.behind;
   each : All (λ n. 1 ≤ n) l.numbers;
 }
