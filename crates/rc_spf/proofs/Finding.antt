@@ -4,7 +4,8 @@ use Rattle.std.proofs.lemmas.List.Elements.{Contains-push, Contains-append_left,
 use Rattle.std.proofs.lemmas.List.{take_more, take_all}
 use Rattle.rc_spf.specs.declared.graph.Edge.{Edge}
 use Rattle.rc_spf.specs.declared.graph.First.{First}
-use Rattle.rc_spf.specs.Steps.{IsTight, IsFound, first_of}
+use Rattle.rc_spf.specs.Steps.{IsTight, IsFound, first_of, HasNoRepeats}
+use Rattle.rc_spf.proofs.Repeats.{repeats_none}
 
 -- an element of the front with one more: of the front, or the one more
 pub contains_more : {X : Type 0} (xs : List X) (i : ℕ) (d x : X) → i < length xs →
@@ -69,13 +70,14 @@ found_none root node cost costs firsts = record {
   direct = λ e (k, lt, _) _ _. absurd (omega arith);
   onward = λ e (k, lt, _) _ _ _. absurd (omega arith);
   only = λ h (k, lt, _). absurd (omega arith);
+  once = repeats_none;
 }
 
 -- a turn of the loop over the edges, at an edge that ends no such walk
 pub found_skip : (edges : List Edge) (i : ℕ) (d : Edge) (root node cost : ℕ) (costs : List (Option ℕ)) (firsts : List First) (found : List ℕ) →
     i < length edges → IsFound (take i edges) root node cost costs firsts found → (IsTight costs node cost (get_or edges i d) → ⊥) →
     IsFound (take (i + 1) edges) root node cost costs firsts found
-found_skip edges i d root node cost costs firsts found lt inv loose = record { direct = direct; onward = onward; only = only }
+found_skip edges i d root node cost costs firsts found lt inv loose = record { direct = direct; onward = onward; only = only; once = inv.once }
   where
     Before : Edge → Type 0
     Before e = Contains (take (i + 1) edges) e → IsTight costs node cost e → Contains (take i edges) e
@@ -100,9 +102,9 @@ found_skip edges i d root node cost costs firsts found lt inv loose = record { d
 pub found_take : (edges : List Edge) (i : ℕ) (d : Edge) (root node cost : ℕ) (costs : List (Option ℕ)) (firsts : List First) (found mid new : List ℕ) →
     i < length edges → IsFound (take i edges) root node cost costs firsts found → IsTight costs node cost (get_or edges i d) →
     ((h : ℕ) → Contains mid h ↔ (Contains found h ⊎ ((get_or edges i d).from ≡ root) × ((get_or edges i d).hop ≡ h))) →
-    HasHops mid new firsts (get_or edges i d).from →
+    HasHops mid new firsts (get_or edges i d).from → (HasNoRepeats found → HasNoRepeats mid) → (HasNoRepeats mid → HasNoRepeats new) →
     IsFound (take (i + 1) edges) root node cost costs firsts new
-found_take edges i d root node cost costs firsts found mid new lt inv tight' own hops = record { direct = direct; onward = onward; only = only }
+found_take edges i d root node cost costs firsts found mid new lt inv tight' own hops still then = record { direct = direct; onward = onward; only = only; once = then (still inv.once) }
   where
     edge : Edge
     edge = get_or edges i d

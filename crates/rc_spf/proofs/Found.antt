@@ -1,5 +1,5 @@
 -- The search at its start and at its end.
-use Rattle.std.proofs.Common.{◌≡◌, ℕ, zero, suc, ◌+◌, ◌*◌, ◌<◌, ◌≤◌, ◌↔◌, inl, inr, Bool, false, not, cond, List, [], ◌∷◌, length, get_or, set, replicate, Option, Some, None, MatchOption, All, sym, ◌∙◌, ap, subst, arith, refl, Contains}
+use Rattle.std.proofs.Common.{◌≡◌, ℕ, zero, suc, ◌+◌, ◌*◌, ◌<◌, ◌≤◌, ◌↔◌, inl, inr, Bool, false, not, cond, List, [], ◌∷◌, length, get_or, set, replicate, Option, Some, None, MatchOption, sym, ◌∙◌, ap, subst, arith, refl, Contains}
 use Rattle.std.proofs.lemmas.List.{get_or-set_same, length-set, length-replicate}
 use Rattle.std.proofs.lemmas.List.Folds.{sum_by-replicate}
 use Rattle.rc_spf.specs.declared.graph.Edge.{Edge}
@@ -8,6 +8,7 @@ use Rattle.rc_spf.specs.Walks.{IsWalk, walk_cost, first_hop, IsLeastWalk, IsLeas
 use Rattle.std.proofs.lemmas.List.Elements.{All-contains}
 use Rattle.rc_spf.specs.Steps.{HasCost, NoneNearest, first_of, AreBounded}
 use Rattle.rc_spf.proofs.WalkLaws.{IsClosed, walk_lower}
+use Rattle.rc_spf.proofs.Repeats.{repeats_none}
 use Rattle.rc_spf.proofs.Search.{IsSettled, open_count, IsFit, IsSearch, one_cost, one_of}
 
 abbrev no_cost : Option ℕ
@@ -45,6 +46,7 @@ search_start edges root nodes most lt = record {
   before = λ a b x y is. absurd (none_settled nodes a is);
   has_cost = λ k is. absurd (none_settled nodes k is);
   firsts_settled = λ n h (k, lt, is). absurd (omega arith);
+  once = repeats_none;
   sound = λ n h (k, lt, is). absurd (omega arith);
   direct = λ e has is. absurd (none_settled nodes e.to is);
   onward = λ e x h has is. absurd (none_settled nodes e.to is);

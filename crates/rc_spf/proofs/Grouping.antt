@@ -114,6 +114,7 @@ found_of_group groups edges nodes root u x d costs firsts found lu g f = record 
   direct = λ e has tight from. f.direct e ((g.members u d e lu).1 (has, tight.to_node)) tight from;
   onward = λ e has tight h first. f.onward e ((g.members u d e lu).1 (has, tight.to_node)) tight h first;
   only = only;
+  once = f.once;
 }
   where
     only : (h : ℕ) → Contains found h → (e : Edge) × Contains edges e × IsTight costs u x e × ((e.from ≡ root) × (e.hop ≡ h) ⊎ Contains firsts (first_of e.from h))

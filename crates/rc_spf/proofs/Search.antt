@@ -6,8 +6,9 @@ use Rattle.std.proofs.lemmas.List.Sums.{sum_by-set}
 use Rattle.rc_spf.specs.declared.graph.Edge.{Edge}
 use Rattle.rc_spf.specs.declared.graph.First.{First}
 use Rattle.rc_spf.specs.Walks.{IsWalk, walk_cost}
-use Rattle.rc_spf.specs.Steps.{HasCost, IsNearest, IsRelaxed, IsFound, first_of}
+use Rattle.rc_spf.specs.Steps.{HasCost, IsNearest, IsRelaxed, IsFound, first_of, HasNoRepeats}
 use Rattle.rc_spf.proofs.WalkLaws.{walk_push, cost_push}
+use Rattle.rc_spf.proofs.Repeats.{repeats_more}
 
 abbrev pub IsSettled : List Bool → ℕ → Type 0
 IsSettled settled k = get_or settled k false ≡ true
@@ -40,6 +41,7 @@ pub record IsSearch (edges : List Edge) (root nodes most : ℕ) (costs : List (O
   pub before : (a b x y : ℕ) → IsSettled settled a → IsOpen settled b → HasCost costs a x → HasCost costs b y → x ≤ y
   pub has_cost : (k : ℕ) → IsSettled settled k → (x : ℕ) × HasCost costs k x
   pub firsts_settled : (n h : ℕ) → Contains firsts (first_of n h) → IsSettled settled n
+  pub once : HasNoRepeats firsts
   pub sound : (n h : ℕ) → Contains firsts (first_of n h) → (e : Edge) × (walk : List Edge) × IsWalk edges root (e ∷ walk) n × HasCost costs n (walk_cost (e ∷ walk)) × (e.hop ≡ h)
   pub direct : (e : Edge) → Contains edges e → IsSettled settled e.to → e.from ≡ root → HasCost costs e.to e.cost → Contains firsts (first_of e.to e.hop)
   pub onward : (e : Edge) (x h : ℕ) → Contains edges e → IsSettled settled e.to → HasCost costs e.from x → HasCost costs e.to (x + e.cost) →
@@ -127,6 +129,7 @@ search_step edges root nodes most u x costs costs' settled firsts found fit s ne
   before = before;
   has_cost = has_cost;
   firsts_settled = firsts_settled;
+  once = repeats_more firsts u found s.once (λ h has. not_both settled u (s.firsts_settled u h has) near.is_open) f.once;
   sound = sound;
   direct = direct;
   onward = onward;

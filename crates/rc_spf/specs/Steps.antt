@@ -1,7 +1,7 @@
 -- What the parts of the search promise.
-use Rattle.std.specs.Prelude.{◌≡◌, ℕ, ◌+◌, ◌*◌, ◌≤◌, ◌<◌, ◌⊎◌, ◌↔◌, Bool, true, false, cond, List, Option, Some, None, Contains, All, length, Vec, take, drop, ◌-◌, [], replicate, slice_set, vec_len, MatchOption}
+use Rattle.std.specs.Prelude.{◌≡◌, ◌≢◌, ℕ, ◌+◌, ◌*◌, ◌≤◌, ◌<◌, ◌⊎◌, ◌↔◌, Bool, true, false, cond, List, Option, Some, None, Contains, All, length, Vec, take, drop, ◌-◌, [], replicate, slice_set, vec_len, MatchOption}
 use Rattle.std.specs.declared.alloc.Global.{Global}
-use Rattle.std.specs.List.{slice_index_or}
+use Rattle.std.specs.List.{slice_index_or, AllPairs}
 use Rattle.rc_spf.specs.declared.graph.Edge.{Edge}
 use Rattle.rc_spf.specs.declared.graph.First.{First}
 use Rattle.rc_spf.specs.declared.graph.Graph.{Graph}
@@ -48,12 +48,17 @@ pub record IsRelaxed (edges : List Edge) (node cost : ℕ) (old new : List (Opti
 abbrev pub first_of : ℕ → ℕ → First
 first_of n h = record { node = n; hop = h }
 
--- the hops by which walks of that cost to the node begin, from the first hops of the nodes before it
+-- nothing stands twice in the list
+abbrev pub HasNoRepeats : {X : Type 0} → List X → Type 0
+HasNoRepeats xs = AllPairs (λ x y. x ≢ y) xs
+
+-- the hops by which walks of that cost to the node begin, from the first hops of the nodes before it, each once
 pub record IsFound (edges : List Edge) (root node cost : ℕ) (costs : List (Option ℕ)) (firsts : List First) (found : List ℕ) : Type 0 where
   pub direct : (e : Edge) → Contains edges e → IsTight costs node cost e → e.from ≡ root → Contains found e.hop
   pub onward : (e : Edge) → Contains edges e → IsTight costs node cost e → (h : ℕ) → Contains firsts (first_of e.from h) → Contains found h
   pub only : (h : ℕ) → Contains found h → (e : Edge) × Contains edges e × IsTight costs node cost e
       × ((e.from ≡ root) × (e.hop ≡ h) ⊎ Contains firsts (first_of e.from h))
+  pub once : HasNoRepeats found
 
 -- the node at one end of an edge
 abbrev pub end_node : Bool → Edge → ℕ
@@ -91,18 +96,30 @@ HasNoFirsts n firsts = (h : ℕ) → Contains firsts (first_of n h) → ⊥
 pub record AreBounded (costs : List (Option ℕ)) (edges : List Edge) (nodes : ℕ) : Type 0 where
   pub bound : (most : ℕ) → All (λ (e : Edge). e.cost ≤ most) edges → (n c : ℕ) → HasCost costs n c → c ≤ nodes * most
 
+-- each of so many nodes has a span, and its first hops stand within it
+abbrev pub HasSpans : ℕ → Tree → Type 0
+HasSpans nodes tree = AreSpans tree.spans.items tree.firsts.items × (length tree.spans.items ≡ nodes)
+
 -- what is known of the walks from a root before the search: the root alone is reached
 pub record IsStart (nodes root : ℕ) (tree : Tree) : Type 0 where
   pub costs : tree.costs.items ≡ slice_set (replicate nodes None) root (Some 0)
   pub firsts : tree.firsts.items ≡ []
-  pub spans : AreSpans tree.spans.items tree.firsts.items
-  pub len : length tree.spans.items ≡ nodes
+  pub spans : HasSpans nodes tree
+
+-- by node the cost of a least walk to it, and none where no walk leads there
+abbrev pub AreLeastCosts : Graph → ℕ → List (Option ℕ) → Type 0
+AreLeastCosts graph root costs = (n : ℕ) → MatchOption (slice_index_or costs n None)
+    ((walk : List Edge) → IsWalk graph.edges.items root walk n → ⊥) (λ c. IsLeastCost graph.edges.items root n c)
+
+-- just each node with each hop by which a least walk to it begins
+abbrev pub AreFirstHops : Graph → ℕ → List First → Type 0
+AreFirstHops graph root firsts = (n h : ℕ) → Contains firsts (first_of n h) ↔ IsFirstHop graph.edges.items root n h
 
 -- the least walks from a root
 pub record IsTree (graph : Graph) (root : ℕ) (tree : Tree) : Type 0 where
   pub nodes : vec_len tree.costs ≡ graph.nodes
-  pub cost : (n : ℕ) → MatchOption (slice_index_or tree.costs.items n None)
-      ((walk : List Edge) → IsWalk graph.edges.items root walk n → ⊥) (λ c. IsLeastCost graph.edges.items root n c)
-  pub spans : AreSpans tree.spans.items tree.firsts.items × (length tree.spans.items ≡ graph.nodes)
+  pub cost : AreLeastCosts graph root tree.costs.items
+  pub spans : HasSpans graph.nodes tree
   pub small : AreBounded tree.costs.items graph.edges.items graph.nodes
-  pub hops : (n h : ℕ) → Contains tree.firsts.items (first_of n h) ↔ IsFirstHop graph.edges.items root n h
+  pub hops : AreFirstHops graph root tree.firsts.items
+  pub once : HasNoRepeats tree.firsts.items

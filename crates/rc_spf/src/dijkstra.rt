@@ -1,12 +1,9 @@
 //! The search: the nearest node that is not settled is settled, and the edges out of it are followed (RFC 2328, section
 //! 16.1, steps 1 to 5). At any moment each node that was reached and is not settled waits in the queue at its cost.
-ghost use Rattle.std.specs.Prelude.{◌≡◌, ℕ, ◌+◌, ◌*◌, ◌^◌, ◌<◌, ◌≤◌, ◌↔◌, length, None, IsTrue, IfOk, MatchOption, All, Contains, vec_len, List, replicate, false};
-ghost use Rattle.std.specs.List.{slice_index_or};
+ghost use Rattle.std.specs.Prelude.{◌≡◌, ℕ, ◌+◌, ◌*◌, ◌^◌, ◌<◌, ◌≤◌, ◌↔◌, length, IsTrue, IfOk, MatchOption, All, vec_len, replicate, false};
 ghost use Rattle.std.specs.BinaryHeap.{heap_items};
-ghost use Rattle.rc_spf.specs.declared.graph.Edge.{Edge};
 ghost use Rattle.rc_spf.specs.Waiting.{waiting, IsQueue, IsNext, IsStillQueue};
-ghost use Rattle.rc_spf.specs.Walks.{IsWalk, IsLeastCost, IsFirstHop};
-ghost use Rattle.rc_spf.specs.Steps.{NoneNearest, IsImproved, IsRelaxed, first_of, AreBounded, AreGroups, AreSpans, IsStart, IsTree};
+ghost use Rattle.rc_spf.specs.Steps.{NoneNearest, IsImproved, IsRelaxed, HasNoRepeats, AreBounded, AreGroups, HasSpans, AreLeastCosts, AreFirstHops, IsStart, IsTree};
 
 use crate::groups::groups_of;
 use crate::hops::{find_hops, record_span};
@@ -177,7 +174,7 @@ impl Search {
 }
 
 /// The least walks from a root, by the groups of the graph's edges: the least cost to each node, and the first hops of all
-/// least walks.
+/// least walks, each once.
 ///
 /// Costs are at least 1, and so small that no walk through all nodes reaches 2^32. No cost in the tree is more than that of
 /// so many edges of the greatest cost as there are nodes. It errs only where memory runs out.
@@ -192,17 +189,18 @@ pub fn tree_by(
     requires costs { All (λ e. (1 ≤ e.cost) × (e.cost * graph.now.nodes < 2 ^ 32)) graph.now.edges.items }
     requires groups { AreGroups graph.now groups.now }
     ensures nodes { IfOk result (λ t. vec_len t.costs ≡ graph.now.nodes) }
-    ensures cost { IfOk result (λ t. (n : ℕ) → MatchOption (slice_index_or t.costs.items n None) ((walk : List Edge) → IsWalk graph.now.edges.items root walk n → ⊥) (λ c. IsLeastCost graph.now.edges.items root n c)) }
-    ensures spans { IfOk result (λ t. AreSpans t.spans.items t.firsts.items × (length t.spans.items ≡ graph.now.nodes)) }
+    ensures cost { IfOk result (λ t. AreLeastCosts graph.now root t.costs.items) }
+    ensures spans { IfOk result (λ t. HasSpans graph.now.nodes t) }
     ensures small { IfOk result (λ t. AreBounded t.costs.items graph.now.edges.items graph.now.nodes) }
-    ensures hops { IfOk result (λ t. (n h : ℕ) → Contains t.firsts.items (first_of n h) ↔ IsFirstHop graph.now.edges.items root n h) }
+    ensures hops { IfOk result (λ t. AreFirstHops graph.now root t.firsts.items) }
+    ensures once { IfOk result (λ t. HasNoRepeats t.firsts.items) }
 {
     let mut search = Search::new(alloc, graph.nodes, root)?;
     search.run(graph, groups, root)?;
     Ok(search.into_tree())
 }
 
-/// The least walks from a root: the least cost to each node, and the first hops of all least walks.
+/// The least walks from a root: the least cost to each node, and the first hops of all least walks, each once.
 ///
 /// Costs are at least 1, and so small that no walk through all nodes reaches 2^32. It errs only where memory runs out. Who
 /// asks for many roots of one graph makes its groups once and calls `tree_by`.
@@ -211,10 +209,11 @@ pub fn tree(alloc: Global, graph: &Graph, root: usize) -> Result<Tree, AllocErro
     requires ends { All (λ e. (e.from < graph.now.nodes) × (e.to < graph.now.nodes)) graph.now.edges.items }
     requires costs { All (λ e. (1 ≤ e.cost) × (e.cost * graph.now.nodes < 2 ^ 32)) graph.now.edges.items }
     ensures nodes { IfOk result (λ t. vec_len t.costs ≡ graph.now.nodes) }
-    ensures cost { IfOk result (λ t. (n : ℕ) → MatchOption (slice_index_or t.costs.items n None) ((walk : List Edge) → IsWalk graph.now.edges.items root walk n → ⊥) (λ c. IsLeastCost graph.now.edges.items root n c)) }
-    ensures spans { IfOk result (λ t. AreSpans t.spans.items t.firsts.items × (length t.spans.items ≡ graph.now.nodes)) }
+    ensures cost { IfOk result (λ t. AreLeastCosts graph.now root t.costs.items) }
+    ensures spans { IfOk result (λ t. HasSpans graph.now.nodes t) }
     ensures small { IfOk result (λ t. AreBounded t.costs.items graph.now.edges.items graph.now.nodes) }
-    ensures hops { IfOk result (λ t. (n h : ℕ) → Contains t.firsts.items (first_of n h) ↔ IsFirstHop graph.now.edges.items root n h) }
+    ensures hops { IfOk result (λ t. AreFirstHops graph.now root t.firsts.items) }
+    ensures once { IfOk result (λ t. HasNoRepeats t.firsts.items) }
 {
     let groups = groups_of(alloc, graph)?;
     tree_by(alloc, graph, &groups, root)

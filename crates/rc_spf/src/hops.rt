@@ -1,6 +1,6 @@
 //! The first hops of least walks. A node's stand together: from where to where is its span.
 ghost use Rattle.std.specs.Prelude.{◌≡◌, ℕ, ◌<◌, ◌↔◌, ◌⊎◌, ◌++◌, map, length, IsTrue, IfOk, All, Contains};
-ghost use Rattle.rc_spf.specs.Steps.{IsTight, IsFound, first_of, AreSpans, HasFirstsOf, HasNoFirsts};
+ghost use Rattle.rc_spf.specs.Steps.{IsTight, IsFound, first_of, AreSpans, HasFirstsOf, HasNoFirsts, HasNoRepeats};
 
 use crate::{Edge, First, Tree};
 use std::alloc::AllocError;
@@ -16,9 +16,10 @@ fn is_tight(tree: &Tree, node: usize, cost: u32, edge: Edge) -> bool
     }
 }
 
-/// Adds a hop, unless it is there.
+/// Adds a hop, unless it is there. So none stands there twice.
 fn add(found: &mut Vec<usize>, hop: usize) -> Result<(), AllocError>
-    ensures { IfOk result (λ u. (h : ℕ) → Contains found.new.items h ↔ (Contains found.old.items h ⊎ (h ≡ hop))) }
+    ensures hops { IfOk result (λ u. (h : ℕ) → Contains found.new.items h ↔ (Contains found.old.items h ⊎ (h ≡ hop))) }
+    ensures once { IfOk result (λ u. HasNoRepeats found.old.items → HasNoRepeats found.new.items) }
 {
     if !found.contains(&hop) {
         found.push(hop)?;
@@ -28,7 +29,8 @@ fn add(found: &mut Vec<usize>, hop: usize) -> Result<(), AllocError>
 
 /// Adds the first hops that are among these of a node.
 fn add_firsts(firsts: &[First], from: usize, found: &mut Vec<usize>) -> Result<(), AllocError>
-    ensures { IfOk result (λ u. (h : ℕ) → Contains found.new.items h ↔ (Contains found.old.items h ⊎ Contains firsts.now (first_of from h))) }
+    ensures hops { IfOk result (λ u. (h : ℕ) → Contains found.new.items h ↔ (Contains found.old.items h ⊎ Contains firsts.now (first_of from h))) }
+    ensures once { IfOk result (λ u. HasNoRepeats found.old.items → HasNoRepeats found.new.items) }
 {
     for first in firsts {
         if first.node == from {
@@ -52,13 +54,14 @@ pub fn firsts_at<'a>(firsts: &'a [First], spans: &[(usize, usize)], node: usize)
 fn add_hops(tree: &Tree, from: usize, found: &mut Vec<usize>) -> Result<(), AllocError>
     requires spans { AreSpans tree.now.spans.items tree.now.firsts.items }
     requires from { from < length tree.now.spans.items }
-    ensures { IfOk result (λ u. (h : ℕ) → Contains found.new.items h ↔ (Contains found.old.items h ⊎ Contains tree.now.firsts.items (first_of from h))) }
+    ensures hops { IfOk result (λ u. (h : ℕ) → Contains found.new.items h ↔ (Contains found.old.items h ⊎ Contains tree.now.firsts.items (first_of from h))) }
+    ensures once { IfOk result (λ u. HasNoRepeats found.old.items → HasNoRepeats found.new.items) }
 {
     add_firsts(firsts_at(&tree.firsts, &tree.spans, from), from, found)
 }
 
-/// Finds the hops by which walks of that cost to a node begin, from the edges that lead there. What was found before is cleared
-/// away, so that one list serves all nodes.
+/// Finds the hops by which walks of that cost to a node begin, each once, from the edges that lead there. What was found before
+/// is cleared away, so that one list serves all nodes.
 pub(crate) fn find_hops(
     found: &mut Vec<usize>,
     edges: &[Edge],

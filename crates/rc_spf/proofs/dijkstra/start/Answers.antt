@@ -8,6 +8,5 @@ returns c =
     record {
       costs = ap (λ (k : List (Option ℕ)). set k c.args.root (Some 0)) (c.in_ok-costs.ensures.items_if_clones_equal (search rules));
       firsts = c.new.ensures.items;
-      spans = spans_start _ _ _ zeros c.new.ensures.items;
-      len = spans_len _ _ zeros;
+      spans = (spans_start _ _ _ zeros c.new.ensures.items, spans_len _ _ zeros);
     }

@@ -16,3 +16,6 @@ returns-clause-small c = (subst (IsTree c.args.graph.now c.args.root) (sym c.int
 
 pub returns-clause-hops : goal.returns-clause-hops
 returns-clause-hops c = (subst (IsTree c.args.graph.now c.args.root) (sym c.into_tree.ensures) c.in_ok-run.ensures).hops
+
+pub returns-clause-once : goal.returns-clause-once
+returns-clause-once c = (subst (IsTree c.args.graph.now c.args.root) (sym c.into_tree.ensures) c.in_ok-run.ensures).once

@@ -8,9 +8,14 @@ loop-edge-preserved c = elim c.if-is_tight.branch [
   | then-is_tight+in_ok-add_hops w ↦ rw w.found-is (found_take _ _ _ _ _ _ _ _ _ w.if-edge-root.found.items w.add_hops.new.found.items
       c.loop-edge-test.true c.loop-edge.invariant (w.if-is_tight.ensures.0 refl)
       (elim w.if-edge-root.branch [
-        | then-edge-root+in_ok-add w' ↦ rw w'.found-is (own_added _ _ _ _ _ w'.if-edge-root.true w'.in_ok-add.ensures)
+        | then-edge-root+in_ok-add w' ↦ rw w'.found-is (own_added _ _ _ _ _ w'.if-edge-root.true w'.in_ok-add.ensures.hops)
         | else-edge-root w' ↦ rw w'.found-is (own_skipped _ _ _ _ w'.if-edge-root.false)
       ])
-      w.in_ok-add_hops.ensures)
+      w.in_ok-add_hops.ensures.hops
+      (elim w.if-edge-root.branch [
+        | then-edge-root+in_ok-add w' ↦ rw w'.found-is w'.in_ok-add.ensures.once
+        | else-edge-root w' ↦ rw w'.found-is (λ once. once)
+      ])
+      w.in_ok-add_hops.ensures.once)
   | else-is_tight w ↦ rw w.found-is (found_skip _ _ _ _ _ _ _ _ _ c.loop-edge-test.true c.loop-edge.invariant (λ tight. let e : false ≡ true = w.if-is_tight.ensures.1 tight in cc))
 ]

@@ -11,8 +11,8 @@ pub loop-node-init : goal.loop-node-init
 loop-node-init c = (
   start_of _ _ _ _ _ _ _ c.requires.root c.requires.tree.costs c.requires.settled c.requires.tree.firsts,
   c.requires.queue,
-  c.requires.tree.spans,
-  c.requires.tree.len,
+  c.requires.tree.spans.0,
+  c.requires.tree.spans.1,
 )
 
 pub find_hops-requires-clause-ends : goal.find_hops-requires-clause-ends
@@ -93,4 +93,5 @@ returns c =
       spans = (c.loop-node.invariant.2, c.loop-node.invariant.3);
       small = done_small _ _ _ _ _ _ _ c.loop-node.invariant.0;
       hops = done_hops _ _ _ _ _ c.loop-node.self.settled.items _ fit done;
+      once = c.loop-node.invariant.0.once;
     }
