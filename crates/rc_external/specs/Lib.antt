@@ -5,5 +5,6 @@ pub mod Externals
 pub mod Ways
 pub mod Routes
 pub mod ByPrefix
+pub mod BoundaryIndex
 pub mod OriginationRows
 pub mod RouteRows

@@ -7,6 +7,7 @@
 #![tactic(auto)]
 
 mod as_external;
+mod boundary_index;
 mod cost;
 mod grouping;
 mod origination;

@@ -1,8 +1,9 @@
 //! What an AS boundary router sends of a route of its table (RFC 2328 s.12.4.4).
-ghost use Rattle.std.specs.Prelude.{◌≡◌, ◌≤◌, Some, IfOk, option_map};
+ghost use Rattle.std.specs.Prelude.{◌≡◌, ◌≤◌, Some, None, IfOk, IfErr, option_map, slice_get};
 ghost use Rattle.std.specs.List.{find};
 ghost use Rattle.std.specs.Option.{option_copied};
-ghost use Rattle.rc_base.specs.Prefix.{is_default, same_prefix};
+ghost use Rattle.rc_base.specs.Prefix.{same_prefix};
+ghost use Rattle.rc_route.specs.Tables.{IsPathList};
 ghost use Rattle.rc_external.specs.AsExternal.{sent_metric};
 ghost use Rattle.rc_external.specs.Origination as spec;
 
@@ -101,15 +102,29 @@ fn type_of(line: &Redistribution) -> MetricType
     line.metric_type.unwrap_or(MetricType::Type2)
 }
 
+/// The place of the best path to a prefix by bisection, or that where it would stand.
+fn place_of(prefix: &Prefix, paths: &[BgpPath]) -> Result<usize, usize>
+    requires { IsPathList paths.now }
+    ensures found { IfOk result (λ place. slice_get paths.now place ≡ find (λ b. same_prefix prefix.now b.prefix) paths.now) }
+    ensures absent { IfErr result (λ place. None ≡ find (λ b. same_prefix prefix.now b.prefix) paths.now) }
+{
+    paths.binary_search_by_key(prefix, |path| path.prefix)
+}
+
 /// The best path to a prefix.
 fn path_to<'a>(prefix: &Prefix, paths: &'a [BgpPath]) -> Option<&'a BgpPath>
+    requires { IsPathList paths.now }
     ensures { option_copied result ≡ find (λ b. same_prefix prefix.now b.prefix) paths.now }
 {
-    paths.iter().find(|path| *prefix == path.prefix)
+    match place_of(prefix, paths) {
+        Ok(place) => paths.get(place),
+        Err(_) => None,
+    }
 }
 
 /// The best path to the prefix of a route that it gave.
 fn path_for<'a>(source: Source, prefix: &Prefix, paths: &'a [BgpPath]) -> Option<&'a BgpPath>
+    requires { IsPathList paths.now }
     ensures { option_copied result ≡ spec.path_for source prefix.now paths.now }
 {
     match source {
@@ -156,6 +171,7 @@ fn attrs_with(
 
 /// What the route map of a line sees of a route.
 fn attrs_of(paths: &[BgpPath], line: &Redistribution, route: &Route) -> Result<Attrs, AllocError>
+    requires { IsPathList paths.now }
     ensures { IfOk result (λ attrs. attrs ≡ spec.attrs_of paths.now line.now route.now) }
 {
     let path = path_for(route.source, &route.prefix, paths);
@@ -211,6 +227,7 @@ fn redistributed_by(
     route: &Route,
     line: &Redistribution,
 ) -> Result<Option<External>, AllocError>
+    requires { IsPathList paths.now }
     ensures { IfOk result (λ sent. sent ≡ spec.redistributed_by router file.now paths.now route.now line.now) }
 {
     if !passes(line, &route.prefix) {
@@ -239,6 +256,7 @@ pub(crate) fn redistributed(
     paths: &[BgpPath],
     route: &Route,
 ) -> Result<Option<External>, AllocError>
+    requires { IsPathList paths.now }
     ensures { IfOk result (λ sent. sent ≡ spec.redistributed router file.now process.now paths.now route.now) }
 {
     let found = line_for(file, process, route.source);

@@ -4,6 +4,7 @@ ghost use Rattle.rc_route.specs.Tables.{IsTable};
 ghost use Rattle.rc_external.specs.Externals.{IsByPrefix};
 ghost use Rattle.rc_external.specs.Routes as spec;
 
+use crate::boundary_index::BoundaryIndex;
 use crate::way::best_way;
 use crate::{ExternalRow, ExternalWay, Externals};
 use rc_base::{Items, Prefix, RouterId};
@@ -39,7 +40,7 @@ fn route_over(alloc: Global, prefix: Prefix, way: &ExternalWay) -> Result<Route,
 #[tactic(auto, using(crate::proofs::WayLaws::best_way_is))]
 fn route_to(
     alloc: Global,
-    paths: &[Boundary],
+    paths: &BoundaryIndex<'_>,
     row: &ExternalRow,
 ) -> Result<Option<Route>, AllocError>
     ensures { IfOk result (λ route. route ≡ spec.route_to paths.now row.now) }
@@ -51,7 +52,11 @@ fn route_to(
 }
 
 /// The routes to the prefixes of some rows.
-fn routes_over(alloc: Global, paths: &[Boundary], rows: &[ExternalRow]) -> Result<Table, AllocError>
+fn routes_over(
+    alloc: Global,
+    paths: &BoundaryIndex<'_>,
+    rows: &[ExternalRow],
+) -> Result<Table, AllocError>
     ensures { IfOk result (λ routes. routes ≡ spec.routes_over paths.now rows.now) }
 {
     let mut routes = Items::new(alloc);
@@ -87,5 +92,6 @@ pub fn external(
     ensures value { IfOk result (λ routes. routes ≡ spec.external_routes internal.now externals.now router) }
     ensures in_order { IfOk result IsTable }
 {
-    routes_over(alloc, boundaries_of(internal, router), externals.as_slice())
+    let paths = BoundaryIndex::of(alloc, boundaries_of(internal, router))?;
+    routes_over(alloc, &paths, externals.as_slice())
 }

@@ -1,7 +1,8 @@
 //! What all AS boundary routers of a network send from a state.
-ghost use Rattle.std.specs.Prelude.{◌≡◌, ◌++◌, [], IfOk, OnOk, slice_get};
+ghost use Rattle.std.specs.Prelude.{◌≡◌, ◌++◌, [], All, IfOk, OnOk, slice_get};
 ghost use Rattle.std.specs.List.{filter_map, flat_map};
 ghost use Rattle.std.specs.Option.{option_and_then, option_copied, option_map_or, option_to_list};
+ghost use Rattle.rc_route.specs.Tables.{IsPathList, IsRouterState};
 ghost use Rattle.rc_external.specs.Externals.{externals as externals_of, IsByPrefix};
 ghost use Rattle.rc_external.specs.Origination as spec;
 
@@ -42,6 +43,7 @@ fn add_redistributed(
     process: &OspfProcess,
     known: &RouterState,
 ) -> Result<(), AllocError>
+    requires { IsPathList known.now.paths }
     ensures { OnOk result (all.new ≡ all.old ++ filter_map (spec.redistributed router file.now process.now known.now.paths) known.now.table) }
 {
     // For the proof: that of a push wants each enum within the element named in the function.
@@ -64,6 +66,7 @@ fn add_sent(
     process: &OspfProcess,
     known: &RouterState,
 ) -> Result<(), AllocError>
+    requires { IsPathList known.now.paths }
     ensures { OnOk result (all.new ≡ all.old ++ spec.sent_by router file.now known.now process.now) }
 {
     add_default(
@@ -83,6 +86,7 @@ fn add_of_file(
     file: &RouterText,
     known: &RouterState,
 ) -> Result<(), AllocError>
+    requires { IsPathList known.now.paths }
     ensures { OnOk result (all.new ≡ all.old ++ spec.sent_by_file router file.now known.now) }
 {
     match &file.ospf {
@@ -106,6 +110,7 @@ fn add_from_state(
     file: &RouterText,
     state: &State,
 ) -> Result<(), AllocError>
+    requires { All IsRouterState state.now }
     ensures { OnOk result (all.new ≡ all.old ++ option_map_or (spec.sent_by_file router file.now) (slice_get state.now router) []) }
 {
     let known = known_at(state, router);
@@ -123,6 +128,7 @@ fn add_router(
     state: &State,
     router: RouterId,
 ) -> Result<(), AllocError>
+    requires { All IsRouterState state.now }
     ensures { OnOk result (all.new ≡ all.old ++ spec.sent_by_router net.now state.now router) }
 {
     let found = net.router_at(router);
@@ -134,6 +140,7 @@ fn add_router(
 
 /// All that the routers of a network send from a state.
 fn all_sent(alloc: Global, net: &Network, state: &State) -> Result<Items<External>, AllocError>
+    requires { All IsRouterState state.now }
     ensures { IfOk result (λ all. all ≡ spec.all_sent net.now state.now) }
 {
     let mut all = Items::new(alloc);
@@ -144,8 +151,10 @@ fn all_sent(alloc: Global, net: &Network, state: &State) -> Result<Items<Externa
 }
 
 /// What all AS boundary routers of a network send from a state, by prefix: the routes that they redistribute, and the default route.
-/// It is computed once a round, for all readers. It errs only where memory runs out.
+/// Each table and each list of best paths of the state is in order. It is computed once a round, for all readers. It errs only where
+/// memory runs out.
 pub fn externals(alloc: Global, net: &Network, previous: &State) -> Result<Externals, AllocError>
+    requires { All IsRouterState previous.now }
     ensures value { IfOk result (λ rows. rows ≡ externals_of net.now previous.now) }
     ensures in_order { IfOk result IsByPrefix }
 {

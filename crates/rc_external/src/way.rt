@@ -1,14 +1,12 @@
 //! Ways to a prefix outside of the AS.
 ghost use Rattle.std.specs.Prelude.{◌≡◌, None, IfOk};
 ghost use Rattle.std.specs.List.{fold};
-ghost use Rattle.std.specs.Option.{option_copied};
 ghost use Rattle.rc_external.specs.ByPrefix.{then_way, with_way};
-ghost use Rattle.rc_external.specs.Ways as ways;
 
+use crate::boundary_index::BoundaryIndex;
 use crate::cost::cost_over;
 use crate::{External, ExternalCost, compare_costs};
-use rc_base::RouterId;
-use rc_ospf::{Boundary, add_hops};
+use rc_ospf::add_hops;
 use rc_route::Hops;
 use std::alloc::{AllocError, Global};
 use std::cmp::Ordering;
@@ -56,24 +54,17 @@ fn add_way(
     }
 }
 
-/// The path to a router, where there is one.
-fn path_to(paths: &[Boundary], router: RouterId) -> Option<&Boundary>
-    ensures { option_copied result ≡ ways.path_to paths.now router }
-{
-    paths.iter().find(|path| path.router() == router)
-}
-
 /// The best way to what is sent for a prefix.
 pub(crate) fn best_way(
     alloc: Global,
-    paths: &[Boundary],
+    paths: &BoundaryIndex<'_>,
     externals: &[External],
 ) -> Result<Option<ExternalWay>, AllocError>
     ensures { IfOk result (λ best. best ≡ fold (then_way paths.now) None externals.now) }
 {
     let mut best = None;
     for external in externals {
-        if let Some(path) = path_to(paths, external.boundary()) {
+        if let Some(path) = paths.path_to(external.boundary()) {
             let cost = cost_over(external, path.cost());
             best = Some(add_way(alloc, best, cost, path.hops())?);
         }

@@ -2,6 +2,9 @@ use Rattle.std.proofs.lemmas.Bool.{ltb-true}
 use Rattle.rc_rounds.proofs.ProgressLaws.{last_is_next}
 use Rattle.rc_rounds.proofs.progress.Progress.next.Goals as goal
 
+pub externals-requires : goal.externals-requires
+externals-requires g c = c.requires.made.in_order.each
+
 pub is_settled-requires : goal.is_settled-requires
 is_settled-requires g c = record {
   setting = c.requires.setting;
