@@ -14,7 +14,8 @@ use Rattle.rc_base.specs.declared.header.Header.{Header}
 use Rattle.rc_openings.specs.Values.{address_of}
 use Rattle.rc_base.specs.declared.ending.Ends.{Ends}
 use Rattle.rc_words.specs.App.{netcheck_app}
-use Rattle.rc_words.specs.Endings.{ending_named, endings_of, only}
+use Rattle.rc_base.specs.Endings.{kind_named}
+use Rattle.rc_words.specs.Endings.{endings_of, only}
 use Rattle.rc_words.specs.Plain.{CommandName, routes, trace, reach, sample, command_word, from, dst, src, proto, sport, dport, examples, rounds, workers, nodes, limit_options}
 use Rattle.rc_words.specs.Request.{address_at, place_of, place_at, limits_at, header_at, ends_at, trace_at, reach_at, request_at, is_read, texts_are_read, AreInRange, IsHeaderInRange, IsAskInRange}
 use Rattle.rc_words.specs.declared.request.Ask.TheVariants.{Routes, Trace, Reach, Sample}
@@ -142,7 +143,7 @@ no_place : (rows : List Row) → place_at (codes "from") rows ≡ None → trace
 no_place rows e = rw e (then_none _ (first_of (codes "DIR") rows) (λ x. refl))
 
 trace_unread : (rows : List Row) → first_of (codes "end") rows ≡ None → texts_are_read (Some (codes "trace", rows)) ≡ false → trace_at rows ≡ None
-trace_unread rows no_end whole_unread = let e : (is_read place_of (first_of (codes "from") rows) && is_read address_of (first_of (codes "dst") rows) && is_read address_of (first_of (codes "src") rows)) ≡ false = last_read _ (is_read ending_named (first_of (codes "end") rows)) (ap (is_read ending_named) no_end) whole_unread in elim (and_split (is_read place_of (first_of (codes "from") rows) && is_read address_of (first_of (codes "dst") rows)) (is_read address_of (first_of (codes "src") rows)) e) [
+trace_unread rows no_end whole_unread = let e : (is_read place_of (first_of (codes "from") rows) && is_read address_of (first_of (codes "dst") rows) && is_read address_of (first_of (codes "src") rows)) ≡ false = last_read _ (is_read kind_named (first_of (codes "end") rows)) (ap (is_read kind_named) no_end) whole_unread in elim (and_split (is_read place_of (first_of (codes "from") rows) && is_read address_of (first_of (codes "dst") rows)) (is_read address_of (first_of (codes "src") rows)) e) [
   | inl both_unread ↦ elim (and_split (is_read place_of (first_of (codes "from") rows)) (is_read address_of (first_of (codes "dst") rows)) both_unread) [
     | inl place_unread ↦ no_place rows (unread_none place_of (first_of (codes "from") rows) place_unread)
     | inr dst_unread ↦ no_header rows (no_dst rows (unread_none address_of (first_of (codes "dst") rows) dst_unread))
@@ -174,21 +175,21 @@ no_place_to_reach rows e = rw e (then_none _ (first_of (codes "DIR") rows) (λ x
 no_ends : (rows : List Row) → ends_at rows ≡ None → reach_at rows ≡ None
 no_ends rows e = rw e (then_none _ (first_of (codes "DIR") rows) (λ x. then_none _ (place_at (codes "from") rows) (λ y. refl)))
 
-ends_read : (o : Option Text) → is_read ending_named o ≡ true → (ends : Ends) × (endings_of o ≡ Some ends)
+ends_read : (o : Option Text) → is_read kind_named o ≡ true → (ends : Ends) × (endings_of o ≡ Some ends)
 ends_read None e = (_, refl)
-ends_read (Some t) e = let (k, is) = some_of (ending_named t) e in (only k, ap (option_map only) is)
+ends_read (Some t) e = let (k, is) = some_of (kind_named t) e in (only k, ap (option_map only) is)
 
-ends_unread : (o : Option Text) → is_read ending_named o ≡ false → endings_of o ≡ None
+ends_unread : (o : Option Text) → is_read kind_named o ≡ false → endings_of o ≡ None
 ends_unread None e = absurd (true≢false e)
-ends_unread (Some t) e = elim (ending_named t) as (λ x. is_some x ≡ false → option_map only x ≡ None) [ None ↦ λ _. refl | Some x ↦ λ f. absurd (true≢false f) ] e
+ends_unread (Some t) e = elim (kind_named t) as (λ x. is_some x ≡ false → option_map only x ≡ None) [ None ↦ λ _. refl | Some x ↦ λ f. absurd (true≢false f) ] e
 
 -- no address is an option of `reach`
 reach_unread : (rows : List Row) → first_of (codes "dst") rows ≡ None → first_of (codes "src") rows ≡ None → texts_are_read (Some (codes "reach", rows)) ≡ false → reach_at rows ≡ None
 reach_unread rows no_dst no_src e =
-    let fewer : (is_read place_of (first_of (codes "from") rows) && true && true && is_read ending_named (first_of (codes "end") rows)) ≡ false = rw (no_dst, no_src) at e in
-    by (is_read place_of (first_of (codes "from") rows)) refl (is_read ending_named (first_of (codes "end") rows)) refl fewer
+    let fewer : (is_read place_of (first_of (codes "from") rows) && true && true && is_read kind_named (first_of (codes "end") rows)) ≡ false = rw (no_dst, no_src) at e in
+    by (is_read place_of (first_of (codes "from") rows)) refl (is_read kind_named (first_of (codes "end") rows)) refl fewer
   where
-    by : (a : Bool) → is_read place_of (first_of (codes "from") rows) ≡ a → (b : Bool) → is_read ending_named (first_of (codes "end") rows) ≡ b → (a && true && true && b) ≡ false → reach_at rows ≡ None
+    by : (a : Bool) → is_read place_of (first_of (codes "from") rows) ≡ a → (b : Bool) → is_read kind_named (first_of (codes "end") rows) ≡ b → (a && true && true && b) ≡ false → reach_at rows ≡ None
     by false p b q f = no_place_to_reach rows (unread_none place_of (first_of (codes "from") rows) p)
     by true p false q f = no_ends rows (ends_unread (first_of (codes "end") rows) q)
     by true p true q f = absurd (true≢false f)

@@ -11,7 +11,8 @@ use Rattle.rc_base.specs.declared.header.Header.{Header}
 use Rattle.rc_openings.specs.Values.{address_of}
 use Rattle.rc_base.specs.declared.ending.Ends.{Ends}
 use Rattle.rc_words.specs.App.{netcheck_app}
-use Rattle.rc_words.specs.Endings.{ending_named, endings_of}
+use Rattle.rc_base.specs.Endings.{kind_named}
+use Rattle.rc_words.specs.Endings.{endings_of}
 use Rattle.rc_words.specs.declared.request.Ask.{Ask}
 use Rattle.rc_words.specs.declared.request.Ask.TheVariants.{Routes, Trace, Reach, Sample}
 use Rattle.rc_words.specs.declared.request.Limits.{Limits}
@@ -111,7 +112,7 @@ is_read read found = option_map_or (λ text. is_some (read text)) found true
 abbrev pub texts_are_read : Option (Text × List Row) → Bool
 texts_are_read None = true
 texts_are_read (Some (name, rows)) = is_read place_of (first_of (codes "from") rows) && is_read address_of (first_of (codes "dst") rows) && is_read address_of (first_of (codes "src") rows)
-    && is_read ending_named (first_of (codes "end") rows)
+    && is_read kind_named (first_of (codes "end") rows)
 
 -- every number that bounds a run is in its option's range
 pub record AreInRange (limits : Limits) : Type 0 where
