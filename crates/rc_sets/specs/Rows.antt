@@ -53,7 +53,7 @@ odd = record { addr = 1; wildcard = 4294967294 }
 -- Each address test has one node, the protocol eight, each port test one: twelve. Protocol and source make one more, the source's; with the
 -- source port the source's and the protocol's are made anew, nine; with the destination its own; and with its port all but this one, eleven.
 five_tests : length (nodes (line_set (record { sequence = 10; action = Permit; protocol = protocol.Is 6; source = odd; source_port = Above 32767; destination = odd; destination_port = Above 32767 }))) ≡ 34
-unfolding line_set nodes masked under trees.minus
+unfolding line_set nodes masked under trees.and trees.minus
 five_tests = refl
 
 -- ---- hops: a default, 10.0.0.0/8 to another hop, and 10.1.0.0/16 to the default's again
