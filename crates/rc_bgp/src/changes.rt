@@ -5,7 +5,7 @@ use rc_route::BgpPath;
 /// For each router, in order, the prefixes whose best path may differ from the one a round earlier.
 pub type Changes = Items<Items<Prefix>>;
 
-/// A router's best paths after a state, and the prefixes whose best path is another than before.
+/// A router's best paths after a state, and the prefixes whose best path may be another than before.
 #[derive(Drop)]
 pub struct Renewed {
     pub paths: Items<BgpPath>,

@@ -51,6 +51,7 @@ impl External {
         self.boundary
     }
 
+    /// The prefix that it is sent for.
     pub fn prefix(&self) -> Prefix
         ensures { result ≡ self.now.prefix }
     {
@@ -65,6 +66,7 @@ impl External {
         self.metric
     }
 
+    /// The type of its metric (RFC 2328 s.16.4).
     pub fn metric_type(&self) -> MetricType
         ensures { result ≡ self.now.metric_type }
     {

@@ -2,7 +2,7 @@
 use rc_base::{Items, Prefix};
 use rc_route::RouterState;
 
-/// What a router knows after a round, and the prefixes whose best path is another than before.
+/// What a router knows after a round, and the prefixes whose best path may be another than before.
 #[derive(Drop)]
 pub struct Made {
     pub state: RouterState,

@@ -343,7 +343,7 @@ pub(crate) fn unchanged<'a>(
 }
 
 /// What a router knows after a round in which all routers read these inputs: its table, and its best BGP paths; and the prefixes
-/// at which these are others than before.
+/// at which these may be others than before.
 ///
 /// Its connected routes, its static routes that its previous table makes active, and its routes by BGP and by OSPF; for each prefix
 /// the least administrative distance wins, and at one distance the source that stands first. A router that reads no more than its
