@@ -90,3 +90,10 @@ later_next c (node v l h) r =
 pub left_next : (o : Option Cube) (t : Tree) → IsReduced t → (c : Cube) (cs : List Cube) → left o t ≡ c ∷ cs → left (Some c) t ≡ cs
 left_next None t r c cs e = let n = subst (IsNext t) e (cubes_next t r) in n.0
 left_next (Some d) t r c cs e = let n = subst (IsNext t) e (later_next d t r) in n.0
+
+left_behind : (t : Tree) → IsReduced t → (o : Option Cube) (front back : List Cube) (c : Cube) → left o t ≡ front ++ c ∷ back → left (Some c) t ≡ back
+left_behind t r o [] back c e = left_next o t r c back e
+left_behind t r o (d ∷ front) back c e = left_behind t r (Some d) front back c (left_next o t r d (front ++ c ∷ back) e)
+
+pub behind_in_list : (t : Tree) (front back : List Cube) (c : Cube) → IsReduced t → cubes t ≡ front ++ c ∷ back → left (Some c) t ≡ back
+behind_in_list t front back c r e = left_behind t r None front back c e

@@ -33,7 +33,8 @@ cubes never = []
 cubes always = all ∷ []
 cubes (node v l h) = map (with_test v false) (cubes l) ++ map (with_test v true) (cubes h)
 
--- those behind a cube: it goes to the high side where its bit is 1, else to the low side, and the high side's are behind
+-- Those behind a cube: of a cube of the tree they are the ones that stand behind it in the list (`what_is_left_stands_behind`). It goes to the
+-- high side where its bit is 1, else to the low side, and the high side's are behind.
 abbrev pub later : Cube → Tree → List Cube
 later c never = []
 later c always = []

@@ -1,8 +1,9 @@
 //! What the cubes of a tree say of headers.
-ghost use Rattle.std.specs.Prelude.{◌≡◌, true, false};
+ghost use Rattle.std.specs.Prelude.{◌≡◌, ◌++◌, ◌∷◌, List, Some, true, false};
 ghost use Rattle.std.specs.List.{AllByRecursion};
 ghost use Rattle.rc_base.specs.declared.header.Header.{Header};
-ghost use Rattle.rc_cubes.specs.Cubes.{IsInNone, IsInOne, IsTight, cubes};
+ghost use Rattle.rc_cubes.specs.Cubes.{IsInNone, IsInOne, IsTight, cubes, left};
+ghost use Rattle.rc_cubes.specs.declared.cube.Cube.{Cube};
 ghost use Rattle.rc_trees.specs.Headers.{bit};
 ghost use Rattle.rc_trees.specs.Trees.{Tree, IsReduced, holds};
 
@@ -15,4 +16,9 @@ pub fn cubes_part_the_set()
 /// The value of each cube of a tree has 0 in each bit that the cube doesn't test.
 pub fn free_bits_are_zero()
     ensures { (t : Tree) → IsReduced t → AllByRecursion IsTight (cubes t) }
+{}
+
+/// What is left behind a cube of a tree is what stands behind it in the list of the tree's cubes.
+pub fn what_is_left_stands_behind()
+    ensures { (t : Tree) (front back : List Cube) (c : Cube) → IsReduced t → cubes t ≡ front ++ c ∷ back → left (Some c) t ≡ back }
 {}

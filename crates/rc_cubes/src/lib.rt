@@ -10,4 +10,4 @@ mod laws;
 
 pub use cube::Cube;
 pub use cubes_of::Cubes;
-pub use laws::{cubes_part_the_set, free_bits_are_zero};
+pub use laws::{cubes_part_the_set, free_bits_are_zero, what_is_left_stands_behind};
