@@ -122,7 +122,7 @@ fn check_does_not_meet(rt: &impl Host, gate: &MeetGate) {
     assert!(rt; !gate.met());
 }
 
-/// The first worker waits for its 200,000,000 turns, which take a second or some.
+/// The first worker takes all its 200,000,000 turns: a second or two, and some twenty seconds where nothing is optimised (`rt try`).
 #[test]
 fn one_behind_the_other_is_no_meeting(rt: HostRuntime) {
     check_does_not_meet(&rt, &MeetGate::new(1));
