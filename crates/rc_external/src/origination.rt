@@ -2,7 +2,7 @@
 ghost use Rattle.std.specs.Prelude.{◌≡◌, ◌≤◌, Some, None, IfOk, IfErr, option_map, slice_get};
 ghost use Rattle.std.specs.List.{find};
 ghost use Rattle.std.specs.Option.{option_copied};
-ghost use Rattle.rc_base.specs.Prefix.{same_prefix};
+ghost use Rattle.rc_base.specs.Prefix.{is_default, same_prefix};
 ghost use Rattle.rc_route.specs.Tables.{IsPathList};
 ghost use Rattle.rc_external.specs.AsExternal.{sent_metric};
 ghost use Rattle.rc_external.specs.Origination as spec;

@@ -1,5 +1,6 @@
 -- Lines of BGP with what they say, by computation.
 use Rattle.std.specs.Prelude.{◌≡◌, refl, ℕ, Bool, true, false, List, [], Option, Some, None, Ok, Err, codes}
+use Rattle.rc_base.specs.Addr.{mask_len}
 use Rattle.rc_base.specs.Prefix.{prefix_at}
 use Rattle.rc_openings.specs.GlobalOpenings.{global, global_forms, global_refused, global_ignored}
 use Rattle.rc_openings.specs.BgpOpenings.{bgp, bgp_forms, bgp_refused, bgp_ignored}
