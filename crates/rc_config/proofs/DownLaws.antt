@@ -49,7 +49,7 @@ before-is front (b ∷ rest) p e = by ((b == 46) && is_number rest) refl (before
         (rest, ap (λ f. f ++ b ∷ rest) (same_value front p e) ∙ ap (λ c. p ++ c ∷ rest) (eqb-true b 46 parts.0), parts.1)
     by false is later e = (let found = later e in (found.0, sym (append_assoc front (b ∷ []) rest) ∙ found.1, found.2))
 
-parent-is : (name p : List ℕ) → parent_of name ≡ Some p → IsSubinterface name p
+pub parent-is : (name p : List ℕ) → parent_of name ≡ Some p → IsSubinterface name p
 parent-is name p e = option_and_then_some name_of (before_number [] name) p e (λ x found is.
     let named_so = cond_some (is_name x) x p is in
     let made = before-is [] name p (found ∙ ap Some named_so.1) in
@@ -61,7 +61,7 @@ one_parent name p h =
     ap (λ n. option_and_then name_of (before_number [] n)) h.behind ∙ ap (option_and_then name_of) (before-found [] p h.number h.digits) ∙ ap (λ b. cond b (Some p) None) h.named
 
 -- by a point and a digit at least
-parent-shorter : (name p : List ℕ) → IsSubinterface name p → length p < length name
+pub parent-shorter : (name p : List ℕ) → IsSubinterface name p → length p < length name
 parent-shorter name p h = let long = ap length h.behind ∙ length-append p (46 ∷ h.number) in omega arith
 
 abbrev or_parent : ℕ → Entries → Bool → Option (List ℕ) → Bool

@@ -16,6 +16,7 @@ use Rattle.rc_config.specs.declared.interface.Direction.{Direction}
 use Rattle.rc_config.specs.declared.interface.Direction.TheVariants.{In, Out}
 use Rattle.rc_config.specs.declared.interface.IfAddr.{IfAddr}
 use Rattle.rc_config.specs.declared.interface.Interface.{Interface as Block}
+use Rattle.rc_config.specs.declared.ospf.OspfArea.{OspfArea}
 use Rattle.rc_config.specs.declared.ospf.OspfLine.{OspfLine as OspfRow}
 use Rattle.rc_config.specs.declared.ospf.OspfLine.TheVariants.{RouterId, Network, PassiveDefault, Passive, ReferenceBandwidth, Stub, Redistribute, DefaultInformation}
 use Rattle.rc_config.specs.declared.ospf.OspfProcess.{OspfProcess}
@@ -31,7 +32,7 @@ use Rattle.rc_config.specs.AccessList.{IsLawfulAccessList, IsLawfulLine}
 use Rattle.rc_config.specs.Interface.{fresh, with_address, with_group}
 use Rattle.rc_config.specs.Lawful.{IsLawfulInterface, HasLawfulInterfaces, HasLawfulRoutes, HasLawfulLists, HasLawfulOspf, HasLawfulBgp, IsDistance, IsInRange, FitsFile}
 use Rattle.rc_config.specs.Lists.{access_list_named, prefix_list_named, with_access_list_line, with_prefix_line}
-use Rattle.rc_config.specs.Ospf.{area_of, is_same_source, no_settings, with_redistribution, with_setting, with_line as with_ospf_line, IsLawfulOspf, IsLawfulOspfLine, IsLawfulProcess, IsLawfulSetting, IsOspfNumber, IsRedistribution, IsStubArea}
+use Rattle.rc_config.specs.Ospf.{area_of, is_same_source, no_settings, process_of, with_redistribution, with_setting, with_line as with_ospf_line, IsLawfulOspf, IsLawfulOspfLine, IsLawfulProcess, IsLawfulSetting, IsOspfNumber, IsRedistribution, IsStubArea}
 use Rattle.rc_config.specs.PrefixList.{IsLawfulLine as IsLawfulPrefixLine, IsLawfulList as IsLawfulPrefixList}
 use Rattle.rc_config.specs.RouteMap.{IsLawfulMap}
 use Rattle.rc_config.specs.declared.access_list.AccessListLine.{AccessListLine as AccessListRow}
@@ -65,7 +66,7 @@ module _ {V : Type 0} (P : List ℕ → V → Type 0) where
       by false q rest = rest
 
 unset-lawful : IsLawfulOspf no_settings
-unset-lawful = record { cost = tt; hello = tt; dead = tt; area = tt }
+unset-lawful = record { cost = tt; hello = tt; dead = tt; areas = All-nil (λ (a : OspfArea). IsOspfNumber a.process) }
 
 fresh-lawful : (name : List ℕ) → IsLawfulInterface name fresh
 fresh-lawful name = record { has_type = λ some. absurd (some refl); masks = All-nil (λ (a : IfAddr). IsMaskLen a.len); bandwidth = tt; ospf = unset-lawful }
@@ -101,11 +102,16 @@ group-lawful name i list In h = record { has_type = h.has_type; masks = h.masks;
 group-lawful name i list Out h = record { has_type = h.has_type; masks = h.masks; bandwidth = h.bandwidth; ospf = h.ospf }
 
 set-lawful : (s : OspfSettings) (setting : OspfSetting) → IsLawfulOspf s → IsLawfulSetting setting → IsLawfulOspf (with_setting s setting)
-set-lawful s (Cost n) h k = record { cost = k; hello = h.hello; dead = h.dead; area = h.area }
-set-lawful s (HelloInterval n) h k = record { cost = h.cost; hello = k; dead = h.dead; area = h.area }
-set-lawful s (DeadInterval n) h k = record { cost = h.cost; hello = h.hello; dead = k; area = h.area }
-set-lawful s (NetworkType type) h k = record { cost = h.cost; hello = h.hello; dead = h.dead; area = h.area }
-set-lawful s (Area area) h k = record { cost = h.cost; hello = h.hello; dead = h.dead; area = k }
+set-lawful s (Cost n) h k = record { cost = k; hello = h.hello; dead = h.dead; areas = h.areas }
+set-lawful s (HelloInterval n) h k = record { cost = h.cost; hello = k; dead = h.dead; areas = h.areas }
+set-lawful s (DeadInterval n) h k = record { cost = h.cost; hello = h.hello; dead = k; areas = h.areas }
+set-lawful s (NetworkType type) h k = record { cost = h.cost; hello = h.hello; dead = h.dead; areas = h.areas }
+set-lawful s (Area area) h k = record {
+  cost = h.cost;
+  hello = h.hello;
+  dead = h.dead;
+  areas = placed-All process_of (λ (a : OspfArea). IsOspfNumber a.process) area s.areas k h.areas;
+}
 
 after-lawful : (r : RouterText) (c : Command) → HasLawfulInterfaces r → IsInRange c → HasLawfulInterfaces (after r c)
 after-lawful r Passed h k = h

@@ -3,6 +3,10 @@ mod IndexLaws
 mod LawfulLaws
 pub mod OrderLaws
 pub mod DownLaws
+pub mod IfTypeLaws
 pub mod ByNumberLaws
 pub mod AccessListLaws
 pub mod PolicyLaws
+mod SaidLaws
+mod ProcessLineLaws
+pub mod LastLineLaws

@@ -53,7 +53,7 @@ opened-lawful None n action within h = fresh-lawful n action within
 opened-lawful (Some e) n action within h = record { number = h.number; prepended = h.prepended }
 
 -- an entry that is opened keeps its number, and replaces the one that was taken out
-opened-number : (o : Option MapEntry) (n : ℕ) (action : Action) → ((e : MapEntry) → o ≡ Some e → e.number ≡ n) → (unwrap_or o (fresh_entry n action)).number ≡ n
+pub opened-number : (o : Option MapEntry) (n : ℕ) (action : Action) → ((e : MapEntry) → o ≡ Some e → e.number ≡ n) → (unwrap_or o (fresh_entry n action)).number ≡ n
 opened-number None n action found = refl
 opened-number (Some e) n action found = found e refl
 
@@ -87,7 +87,7 @@ entry-lawful : (e : MapEntry) (line : MapLine) → IsLawfulEntry e → IsLawfulM
 entry-lawful e (Match kind names line) h k = mentioned-lawful e kind (mentions names line) h
 entry-lawful e (Set line) h k = record { number = h.number; prepended = set-lawful e.sets line h.prepended k }
 
-entry-number : (e : MapEntry) (line : MapLine) → (entry_with e line).number ≡ e.number
+pub entry-number : (e : MapEntry) (line : MapLine) → (entry_with e line).number ≡ e.number
 entry-number e (Match AccessList names line) = refl
 entry-number e (Match PrefixList names line) = refl
 entry-number e (Match CommunityList names line) = refl

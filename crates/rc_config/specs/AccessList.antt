@@ -16,7 +16,7 @@ use Rattle.rc_config.specs.declared.access_list.ProtocolTest.TheVariants as prot
 abbrev pub any_address : AddressTest
 any_address = record { addr = 0; wildcard = 2 ^ 32 - 1 }
 
--- `host A` compares each
+-- `host A` compares each bit
 abbrev pub host_address : ℕ → AddressTest
 host_address a = record { addr = a; wildcard = 0 }
 
@@ -32,11 +32,11 @@ no_lines kind = record { kind = kind; lines = [] }
 abbrev pub sequence_of : AccessListLine → ℕ
 sequence_of l = l.sequence
 
--- the list with one more line, by its number
+-- the list with one more line by its number, where it replaces the line of that number
 abbrev pub with_line : AccessList → AccessListLine → AccessList
 with_line f l = record f { lines = placed sequence_of l f.lines }
 
--- a line has this number
+-- a line of the list has this number
 abbrev pub has_sequence : List AccessListLine → ℕ → Bool
 has_sequence lines n = has_number sequence_of n lines
 
@@ -79,7 +79,7 @@ pub record IsLawfulLine (kind : AccessListKind) (l : AccessListLine) : Type 0 wh
   pub destination_port : IsPortTest l.destination_port
   pub no_ports : has_ports l.protocol ≡ false → (l.source_port ≡ port.Any) × (l.destination_port ≡ port.Any)
 
--- lines in order, each lawful
+-- lines by rising number, each lawful for the list's kind
 pub record IsLawfulAccessList (f : AccessList) : Type 0 where
   pub in_order : AreLinesInOrder f.lines
   pub lines : All (IsLawfulLine f.kind) f.lines

@@ -7,7 +7,7 @@ use Rattle.std.specs.Option.{option_map}
 use Rattle.std.specs.Ordering.{nat_cmp}
 
 module _ {A : Type 0} (number : A → ℕ) where
-  -- each number is lower than all later ones
+  -- things by strictly rising number
   abbrev pub IsByNumber : List A → Type 0
   IsByNumber xs = AllPairs (λ x y. number x < number y) xs
 
@@ -16,19 +16,19 @@ module _ {A : Type 0} (number : A → ℕ) where
   placed x [] = x ∷ []
   placed x (y ∷ ys) = if nat_lt (number x) (number y) then x ∷ y ∷ ys else if number x == number y then x ∷ ys else y ∷ placed x ys
 
-  -- the one of this number
+  -- the thing of this number
   abbrev pub with_number : ℕ → List A → Option A
   with_number n xs = find (λ x. number x == n) xs
 
-  -- all but the one of this number
+  -- all things but the one of this number
   abbrev pub without_number : ℕ → List A → List A
   without_number n xs = filter (λ x. not (number x == n)) xs
 
-  -- one has this number
+  -- one of the things has this number
   abbrev pub has_number : ℕ → List A → Bool
   has_number n xs = list_any (λ x. number x == n) xs
 
-  -- the number of the last
+  -- the number of the last thing
   abbrev pub last_number : List A → Option ℕ
   last_number xs = option_map number (slice_get xs (length xs - 1))
 

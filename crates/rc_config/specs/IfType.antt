@@ -1,8 +1,10 @@
 -- The types of interfaces that may have addresses, and their nominal bandwidths.
-use Rattle.std.specs.Prelude.{ℕ, List, [], ◌∷◌, Option, codes}
+use Rattle.std.specs.Prelude.{ℕ, suc, zero, List, [], ◌∷◌, length, Option, codes}
 use Rattle.std.specs.List.{before_first, find}
 use Rattle.std.specs.Char.{is_ascii_digit}
+use Rattle.std.specs.Option.{option_map_or}
 use Rattle.rc_base.specs.Name.{same_name}
+use Rattle.rc_config.specs.Down.{parent_of}
 use Rattle.rc_config.specs.declared.if_type.IfType.{IfType}
 use Rattle.rc_config.specs.declared.if_type.IfType.TheVariants.{Ethernet, FastEthernet, GigabitEthernet, TenGigabitEthernet, Serial, Loopback, Vlan, PortChannel}
 
@@ -36,6 +38,17 @@ all_types = Ethernet ∷ FastEthernet ∷ GigabitEthernet ∷ TenGigabitEthernet
 abbrev pub front_of : List ℕ → List ℕ
 front_of name = before_first is_ascii_digit name
 
--- the type of the interfaces of this name, where it is one of those that may have addresses
+-- the name above so many parents, or above as many as there are
+abbrev pub main_within : ℕ → List ℕ → List ℕ
+main_within zero name = name
+main_within (suc parents) name = option_map_or (main_within parents) (parent_of name) name
+
+-- the name of the main interface: that of a subinterface `X.n` is that of X, and a name that is no subinterface's is its own. A parent's name
+-- is shorter, so there are no more above one than it has bytes.
+abbrev pub main_name : List ℕ → List ℕ
+main_name name = main_within (length name) name
+
+-- the type of the interfaces of this name, where it is one of those that may have addresses: the front of the main interface's name says it, so
+-- a subinterface has its parent's (`type_of_subinterface`)
 unfoldable pub type_of : List ℕ → Option IfType
-type_of name = find (λ t. same_name (type_word t) (front_of name)) all_types
+type_of name = find (λ t. same_name (type_word t) (front_of (main_name name))) all_types

@@ -25,7 +25,7 @@ with_group i list Out = record i { access_group_out = Some list }
 abbrev pub with_ospf : Interface → OspfSetting → Interface
 with_ospf i setting = record i { ospf = with_setting i.ospf setting }
 
--- the list of a direction, where a line names one
+-- the access list of an interface in a direction, where a line names one
 abbrev pub group_of : Interface → Direction → Option (List ℕ)
 group_of i In = i.access_group_in
 group_of i Out = i.access_group_out

@@ -135,13 +135,14 @@ pub record IsLawful (net : Network) : Type 0 where
   pub named : All (λ e. IsNamed e.0 e.1) net.routers
   pub each : All (λ e. IsLawfulFile e.1) net.routers
 
--- ids and positions of the network
+-- the index of a router of the network
 abbrev pub IsRouter : Network → ℕ → Type 0
 IsRouter net r = r < length net.routers
 
 abbrev pub IsInterface : Network → IfId → Type 0
 IsInterface net i = IsRouter net i.router × (i.index < length (interfaces_of net i.router))
 
+-- a router of the network, or an interface of one
 abbrev pub IsPosition : Network → Pos → Type 0
 IsPosition net (Own r) = IsRouter net r
 IsPosition net (Entering i) = IsInterface net i

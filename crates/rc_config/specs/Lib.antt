@@ -29,3 +29,5 @@ pub mod CommunityList
 pub mod Lists
 pub mod PolicyRows
 pub mod ModelRows
+pub mod LastLine
+pub mod LastLineRows

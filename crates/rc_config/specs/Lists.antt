@@ -13,6 +13,7 @@ use Rattle.rc_config.specs.declared.lists.Lists.{Lists}
 use Rattle.rc_config.specs.declared.prefix_list.PrefixLine.{PrefixLine}
 use Rattle.rc_config.specs.declared.prefix_list.PrefixList.{PrefixList}
 
+-- no list of any kind
 abbrev pub no_lists : Lists
 no_lists = record { access_lists = []; prefix_lists = []; community_lists = [] }
 

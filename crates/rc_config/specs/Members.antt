@@ -16,7 +16,7 @@ use Rattle.rc_config.specs.Named.{index_of}
 abbrev pub router_ids : Network → List ℕ
 router_ids net = range_with_len 0 (length net.routers)
 
--- the model of a router
+-- the router at an index of a network
 abbrev pub router_at : Network → ℕ → Option RouterText
 router_at net r = option_map (λ e. e.1) (slice_get net.routers r)
 
@@ -28,7 +28,7 @@ interfaces_of net r = option_map_or (λ (text : RouterText). text.interfaces) (r
 abbrev pub interface_ids : Network → ℕ → List IfId
 interface_ids net r = map (λ n. record { router = r; index = n }) (range_with_len 0 (length (interfaces_of net r)))
 
--- the name of an interface and what its block says
+-- the interface at an index of a router: its name and what its block says
 abbrev pub interface_at : Network → IfId → Option (List ℕ × Interface)
 interface_at net i = slice_get (interfaces_of net i.router) i.index
 

@@ -197,7 +197,7 @@ pub connected_prefix : prefix_at 167772161 8 ≡ record { network = 167772160; l
 connected_prefix = refl
 
 -- nothing is set at an interface without `ip ospf` lines
-pub nothing_set : no_settings ≡ record { cost = None; hello = None; dead = None; network = None; area = None }
+pub nothing_set : no_settings ≡ record { cost = None; hello = None; dead = None; network = None; areas = [] }
 nothing_set = refl
 
 -- ---- static routes stand as written, and declare no interface

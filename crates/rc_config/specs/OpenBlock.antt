@@ -4,7 +4,7 @@ use Rattle.rc_openings.specs.declared.block.Block.TheVariants as block
 use Rattle.rc_config.specs.declared.context.OpenBlock.{OpenBlock}
 use Rattle.rc_config.specs.declared.context.OpenBlock.TheVariants as at
 
--- the kind of the open block
+-- the kind of the block that is open at a line
 abbrev pub block_at : OpenBlock → Block
 block_at at.Closed = block.Closed
 block_at at.Global = block.Global

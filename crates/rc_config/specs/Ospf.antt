@@ -14,19 +14,23 @@ use Rattle.rc_config.specs.declared.ospf.RedistributedSource.TheVariants.{Connec
 use Rattle.rc_config.specs.declared.ospf.Redistribution.{Redistribution}
 use Rattle.rc_config.specs.declared.ospf.StubArea.{StubArea}
 
--- nothing is set
+-- an interface of which no `ip ospf` line says anything
 abbrev pub no_settings : OspfSettings
-no_settings = record { cost = None; hello = None; dead = None; network = None; area = None }
+no_settings = record { cost = None; hello = None; dead = None; network = None; areas = [] }
 
--- what is set after one more line: it counts in place of an earlier one of its kind
+-- the number of the process by which an area stands
+abbrev pub process_of : OspfArea → ℕ
+process_of a = a.process
+
+-- what is set after one more line: it counts in place of an earlier one of its kind, and an area in place of one of the same process
 abbrev pub with_setting : OspfSettings → OspfSetting → OspfSettings
 with_setting s (Cost n) = record s { cost = Some n }
 with_setting s (HelloInterval n) = record s { hello = Some n }
 with_setting s (DeadInterval n) = record s { dead = Some n }
 with_setting s (NetworkType type) = record s { network = Some type }
-with_setting s (Area area) = record s { area = Some area }
+with_setting s (Area area) = record s { areas = placed process_of area s.areas }
 
--- a process with no line in its block: the bandwidth of cost 1 is 100 Mbit/s
+-- an OSPF process with no line in its block: the bandwidth of cost 1 is 100 Mbit/s
 abbrev pub no_lines : ℕ → OspfProcess
 no_lines process = record {
   process = process;
@@ -93,7 +97,7 @@ pub record IsLawfulOspf (s : OspfSettings) : Type 0 where
   pub cost : IfSome s.cost IsOspfNumber
   pub hello : IfSome s.hello IsOspfNumber
   pub dead : IfSome s.dead IsOspfNumber
-  pub area : IfSome s.area (λ (a : OspfArea). IsOspfNumber a.process)
+  pub areas : All (λ (a : OspfArea). IsOspfNumber a.process) s.areas
 
 abbrev pub IsLawfulSetting : OspfSetting → Type 0
 IsLawfulSetting (Cost n) = IsOspfNumber n

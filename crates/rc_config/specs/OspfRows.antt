@@ -1,9 +1,10 @@
 -- Worked cases of what a configuration says of OSPF, each by computation.
-use Rattle.std.specs.Prelude.{◌≡◌, ℕ, ◌-◌, ◌^◌, true, false, List, [], ◌∷◌, Option, Some, None, fold, option_map, codes, refl}
+use Rattle.std.specs.Prelude.{◌≡◌, ℕ, true, false, List, [], ◌∷◌, Option, Some, None, fold, map, option_map, codes, refl}
 use Rattle.rc_config.specs.declared.command.Command.{Command}
 use Rattle.rc_config.specs.declared.command.Command.TheVariants.{Hostname, Interface, Shutdown, InterfaceOspf, OspfOpened}
 use Rattle.rc_config.specs.declared.command.Command.TheVariants as command
 use Rattle.rc_config.specs.declared.ospf.NetworkType.TheVariants.{Broadcast, PointToPoint}
+use Rattle.rc_config.specs.declared.ospf.OspfArea.{OspfArea}
 use Rattle.rc_config.specs.declared.ospf.OspfLine.{OspfLine}
 use Rattle.rc_config.specs.declared.ospf.OspfLine.TheVariants.{RouterId, Network, PassiveDefault, Passive, ReferenceBandwidth, Stub, Redistribute, DefaultInformation}
 use Rattle.rc_config.specs.declared.ospf.OspfNetwork.{OspfNetwork}
@@ -128,7 +129,27 @@ pub settings : interface_named (file (Interface port 1 ∷ InterfaceOspf port (C
     ≡ record fresh { ospf = record no_settings { cost = Some 6; hello = Some 3; network = Some PointToPoint } }
 settings = refl
 
--- an area is that of one process, and the later line counts also where it names another
-pub later_area : interface_named (file (Interface port 1 ∷ InterfaceOspf port (Area (record { process = 1; area = 0 })) ∷ InterfaceOspf port (Area (record { process = 2; area = 3 })) ∷ InterfaceOspf port (DeadInterval 20) ∷ [])) port
-    ≡ record fresh { ospf = record no_settings { dead = Some 20; area = Some (record { process = 2; area = 3 }) } }
-later_area = refl
+-- an area is that of one process: a line of another process neither sets nor erases it, whichever of them stands first
+abbrev in_area : ℕ → ℕ → OspfArea
+in_area process area = record { process = process; area = area }
+
+abbrev areas : List OspfArea → List OspfArea
+areas lines = (interface_named (file (Interface port 1 ∷ map (λ a. InterfaceOspf port (Area a)) lines)) port).ospf.areas
+
+pub other_process_later : areas (in_area 1 0 ∷ in_area 2 5 ∷ []) ≡ in_area 1 0 ∷ in_area 2 5 ∷ []
+other_process_later = refl
+
+pub other_process_before : areas (in_area 2 5 ∷ in_area 1 0 ∷ []) ≡ in_area 1 0 ∷ in_area 2 5 ∷ []
+other_process_before = refl
+
+-- of two lines of one process the later counts, also with one of another process between them
+pub same_process_later : areas (in_area 1 0 ∷ in_area 1 3 ∷ []) ≡ in_area 1 3 ∷ []
+same_process_later = refl
+
+pub same_process_between : areas (in_area 1 0 ∷ in_area 2 5 ∷ in_area 1 3 ∷ []) ≡ in_area 1 3 ∷ in_area 2 5 ∷ []
+same_process_between = refl
+
+-- other lines leave an area, and an area leaves what they set
+pub area_and_others : interface_named (file (Interface port 1 ∷ InterfaceOspf port (Area (in_area 1 0)) ∷ InterfaceOspf port (DeadInterval 20) ∷ InterfaceOspf port (Area (in_area 2 5)) ∷ [])) port
+    ≡ record fresh { ospf = record no_settings { dead = Some 20; areas = in_area 1 0 ∷ in_area 2 5 ∷ [] } }
+area_and_others = refl

@@ -2,10 +2,11 @@
 use Rattle.std.specs.Prelude.{◌≡◌, ℕ, ◌-◌, List, ◌++◌, length, replicate, take, Bool, true, ◌&&◌, nat_le, nat_lt, if◌then◌else◌, Option, Some, None}
 use Rattle.std.proofs.Common.{ap, ◌∙◌}
 
+-- a list of one to ten ports
 abbrev pub are_ports : List ℕ → Bool
 are_ports list = nat_lt 0 (length list) && nat_le (length list) 10
 
--- the ports that a list is
+-- the ports that a list is, where they are one to ten
 abbrev pub ports_of : List ℕ → Option (List ℕ)
 ports_of list = if are_ports list then Some list else None
 

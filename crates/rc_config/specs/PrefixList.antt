@@ -12,11 +12,11 @@ sequence_of l = l.sequence
 abbrev pub no_lines : PrefixList
 no_lines = record { lines = [] }
 
--- the list with one more line, by its number
+-- the list with one more line by its number, where it replaces the line of that number
 abbrev pub with_line : PrefixList → PrefixLine → PrefixList
 with_line p l = record { lines = placed sequence_of l p.lines }
 
--- a line has this number
+-- a line of the list has this number
 abbrev pub has_sequence : List PrefixLine → ℕ → Bool
 has_sequence lines n = has_number sequence_of n lines
 
@@ -32,7 +32,7 @@ AreLinesInOrder lines = IsByNumber sequence_of lines
 abbrev pub IsBound : ℕ → ℕ → Type 0
 IsBound len bound = (len < bound) × (bound ≤ 32)
 
--- both bounds are over the length of the line's prefix, and the lower isn't above the upper
+-- both bounds are over the length of the line's prefix, at most 32, and the lower isn't above the upper
 pub record IsLawfulLine (l : PrefixLine) : Type 0 where
   pub lower : IfSome l.ge (IsBound l.prefix.len)
   pub upper : IfSome l.le (IsBound l.prefix.len)

@@ -43,11 +43,11 @@ entry_with e (Set set) = record e { sets = with_set e.sets set }
 abbrev pub entry_opened : List MapEntry → ℕ → Action → MapEntry
 entry_opened entries n action = record (unwrap_or (with_number number_of n entries) (fresh_entry n action)) { action = action }
 
--- the map in which the entry of a number is opened
+-- the map in which the entry of a number is opened: anew, or again with its lines and the later action
 abbrev pub opened : RouteMap → ℕ → Action → RouteMap
 opened m n action = record { entries = placed number_of (entry_opened m.entries n action) m.entries }
 
--- the map in which the entry of a number has one more line
+-- the map in which the entry of a number has one more line, as it was where there is no such entry
 abbrev pub with_line : RouteMap → ℕ → MapLine → RouteMap
 with_line m n line = option_map_or (λ e. record { entries = placed number_of (entry_with e line) m.entries }) (with_number number_of n m.entries) m
 
@@ -61,7 +61,7 @@ pub record IsLawfulMap (m : RouteMap) : Type 0 where
   pub in_order : IsByNumber number_of m.entries
   pub entries : All IsLawfulEntry m.entries
 
--- a line of a map: a `match` line has a name
+-- a lawful line of a map: a `match` line has a name, and what a `set` line sets is in range
 abbrev pub IsLawfulMapLine : MapLine → Type 0
 IsLawfulMapLine (Match kind names line) = 1 ≤ length names
 IsLawfulMapLine (Set set) = IsLawfulSet set

@@ -1,7 +1,8 @@
 -- Worked cases of the definitions, each by computation.
-use Rattle.std.specs.Prelude.{◌≡◌, ℕ, ◌+◌, ◌*◌, true, false, List, [], ◌∷◌, fold, Some, None, codes, refl}
+use Rattle.std.specs.Prelude.{◌≡◌, ℕ, ◌+◌, ◌*◌, true, false, List, [], ◌∷◌, fold, map, Option, Some, None, codes, refl}
 use Rattle.rc_config.specs.declared.command.Command.{Command}
 use Rattle.rc_config.specs.declared.command.Command.TheVariants.{Passed, Hostname, Interface, Address, Shutdown, Bandwidth, StaticRoute}
+use Rattle.rc_config.specs.declared.if_type.IfType.{IfType}
 use Rattle.rc_config.specs.declared.if_type.IfType.TheVariants as types
 use Rattle.rc_config.specs.declared.interface.Interface.{Interface as Block}
 use Rattle.rc_config.specs.declared.network.Network.{Network}
@@ -87,6 +88,24 @@ front_is_type = refl
 pub type_of_parent : type_of (codes "GigabitEthernet0/1.20") ≡ Some types.GigabitEthernet
 unfolding type_of
 type_of_parent = refl
+
+-- also where the parent's name has no digit, whatever stands above it
+abbrev all_of : Option IfType → List (List ℕ) → Type 0
+all_of type names = map type_of names ≡ map (λ _. type) names
+
+pub no_digit_in_parent : all_of (Some types.Vlan) (codes "Vlan.5" ∷ codes "Vlan.5.6" ∷ codes "Vlan.0" ∷ [])
+unfolding type_of
+no_digit_in_parent = refl
+
+pub types_of_parents : map type_of (codes "Serial.1.2" ∷ codes "Port-channel.3" ∷ codes "GigabitEthernet0/1.7" ∷ codes "Serial0/0/0:0.16.1" ∷ [])
+    ≡ Some types.Serial ∷ Some types.PortChannel ∷ Some types.GigabitEthernet ∷ Some types.Serial ∷ []
+unfolding type_of
+types_of_parents = refl
+
+-- but a point makes no subinterface where no number follows it, or more than a number
+pub no_subinterface : all_of None (codes "Loopback.x" ∷ codes "Vlan." ∷ codes "Vlan.5x" ∷ codes "Vlan..5" ∷ codes "Vlan.5/1" ∷ codes "Vlan.5/1.7" ∷ codes ".5" ∷ codes "Tunnel.5" ∷ [])
+unfolding type_of
+no_subinterface = refl
 
 pub hyphen_counts : type_of (codes "Port-channel7") ≡ Some types.PortChannel
 unfolding type_of

@@ -12,7 +12,7 @@ abbrev pub metric_type_number : ExternalType → ℕ
 metric_type_number Type1 = 1
 metric_type_number Type2 = 2
 
--- nothing is set
+-- an entry that sets nothing
 abbrev pub no_sets : Sets
 no_sets = record { local_preference = None; metric = None; metric_type = None; weight = None; origin = None; communities = Keep; prepended = [] }
 

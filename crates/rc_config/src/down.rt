@@ -34,7 +34,7 @@ fn before_number(text: &[u8]) -> Option<&[u8]>
 }
 
 /// The name of which a name is a subinterface.
-fn parent_of(name: &Name) -> Option<Name>
+pub(crate) fn parent_of(name: &Name) -> Option<Name>
     ensures { result ≡ parent_of name.now }
 {
     let front = before_number(name.as_bytes());

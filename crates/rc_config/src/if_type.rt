@@ -1,8 +1,9 @@
 //! The types of interfaces that may have addresses.
 ghost use Rattle.std.specs.Prelude.{◌≡◌, position};
 ghost use Rattle.std.specs.Char.{is_ascii_digit};
-ghost use Rattle.rc_config.specs.IfType.{all_types, front_of, nominal_bandwidth, type_of, type_word};
+ghost use Rattle.rc_config.specs.IfType.{all_types, front_of, main_name, main_within, nominal_bandwidth, type_of, type_word};
 
+use crate::down::parent_of;
 use rc_base::Name;
 
 /// A type of interfaces that may have addresses. An interface of any other type is taken, and has none.
@@ -87,13 +88,35 @@ fn front(text: &[u8]) -> &[u8]
     }
 }
 
+/// The name above so many parents, or above as many as there are.
+fn main_within(parents: usize, name: &Name) -> Name
+    ensures { result ≡ main_within parents name.now }
+{
+    if parents == 0 {
+        return *name;
+    }
+    let parent = parent_of(name);
+    match parent {
+        Some(parent) => main_within(parents - 1, &parent),
+        None => *name,
+    }
+}
+
+/// The name of the main interface: that of a subinterface is its parent's.
+fn main_name(name: &Name) -> Name
+    ensures { result ≡ main_name name.now }
+{
+    main_within(name.as_bytes().len(), name)
+}
+
 /// The type of the interfaces of this name, or `None` exactly where it is none of the types that have addresses. The
-/// type is the front of the name up to its first digit, so that a subinterface has its parent's.
+/// type is the front of the name of the main interface up to its first digit, so that a subinterface has its parent's.
 #[tactic(auto, unfolding(crate::specs::IfType::type_of))]
 pub fn type_of_name(name: &Name) -> Option<IfType>
     ensures { result ≡ type_of name.now }
 {
-    let front = front(name.as_bytes());
+    let main = main_name(name);
+    let front = front(main.as_bytes());
     for kind in all() {
         if kind.word() == front {
             return Some(*kind);

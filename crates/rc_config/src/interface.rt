@@ -106,7 +106,7 @@ impl Interface {
             bandwidth: None,
             access_group_in: None,
             access_group_out: None,
-            ospf: OspfSettings::new(),
+            ospf: OspfSettings::new(alloc),
         }
     }
 

@@ -22,8 +22,15 @@ pub struct OspfArea {
     pub area: u32,
 }
 
+impl Numbered for OspfArea {
+    ghost number = { λ a. a.process };
+
+    fn number(&self) -> u32 {
+        self.process
+    }
+}
+
 /// What the `ip ospf` lines in the block of an interface set, each by its last line.
-#[derive(Clone, Copy)]
 pub struct OspfSettings {
     /// The cost of sending out of the interface (RFC 2328 s.9), from 1 to 65535.
     pub cost: Option<u16>,
@@ -33,8 +40,22 @@ pub struct OspfSettings {
     pub dead: Option<u16>,
     /// The network type.
     pub network: Option<NetworkType>,
-    /// The area to which the line itself puts the interface.
-    pub area: Option<OspfArea>,
+    /// The areas to which the lines themselves put the interface, at most one for each process, by the number of the process.
+    /// The router need not have these processes.
+    pub areas: ByNumber<OspfArea>,
+}
+
+/// By a function of its own, so that what holds an interface drops it by one call.
+impl Drop for OspfSettings {
+    fn drop(self) {
+        let OspfSettings {
+            cost: _,
+            hello: _,
+            dead: _,
+            network: _,
+            areas: _,
+        } = self;
+    }
 }
 
 /// What one `ip ospf` line in the block of an interface says.
@@ -53,8 +74,8 @@ pub enum OspfSetting {
 }
 
 impl OspfSettings {
-    /// Nothing is set.
-    pub fn new() -> OspfSettings
+    /// Nothing is set. It takes no memory.
+    pub fn new(alloc: Global) -> OspfSettings
         ensures { result ≡ spec.no_settings }
     {
         OspfSettings {
@@ -62,21 +83,25 @@ impl OspfSettings {
             hello: None,
             dead: None,
             network: None,
-            area: None,
+            areas: ByNumber::new(alloc),
         }
     }
 
-    /// Puts one more line, which counts in place of an earlier one of the same kind.
-    pub(crate) fn put_setting(&mut self, setting: OspfSetting)
-        ensures { self.new ≡ spec.with_setting self.old setting }
+    /// Puts one more line, which counts in place of an earlier one of the same kind, and an area in place of one of the same
+    /// process.
+    pub(crate) fn put_setting(&mut self, setting: OspfSetting) -> Result<(), AllocError>
+        ensures { OnOk result (self.new ≡ spec.with_setting self.old setting) }
     {
         match setting {
             OspfSetting::Cost(cost) => self.cost = Some(cost),
             OspfSetting::HelloInterval(seconds) => self.hello = Some(seconds),
             OspfSetting::DeadInterval(seconds) => self.dead = Some(seconds),
             OspfSetting::NetworkType(network) => self.network = Some(network),
-            OspfSetting::Area(area) => self.area = Some(area),
+            OspfSetting::Area(area) => {
+                self.areas.insert(area)?;
+            }
         }
+        Ok(())
     }
 }
 

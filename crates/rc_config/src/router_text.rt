@@ -292,10 +292,10 @@ fn put_setting(
     ensures { OnOk result (blocks.new ≡ with_value blocks.old name (ospf_put (unwrap_or (named blocks.old name) fresh) setting)) }
 {
     let index = opened_at(blocks, name)?;
-    if let Some(block) = blocks.at_mut(index) {
-        block.ospf.put_setting(setting);
+    match blocks.at_mut(index) {
+        Some(block) => block.ospf.put_setting(setting),
+        None => Ok(()),
     }
-    Ok(())
 }
 
 /// `ip access-list standard` and `ip access-list extended`

@@ -17,7 +17,7 @@ pub enum MetricType {
     Type2,
 }
 
-/// Type 1 before type 2, which is the derived order too.
+/// Types of external metrics, type 1 before type 2, which is the derived order too.
 pub fn compare_metric_types(a: MetricType, b: MetricType) -> Ordering
     ensures { result ≡ nat_cmp (metric_type_number a) (metric_type_number b) }
 {

@@ -15,9 +15,9 @@ use Rattle.rc_config.specs.declared.router_text.RouterText.{RouterText}
 use Rattle.rc_topology.specs.Topology.{Topology}
 use Rattle.rc_ospf.specs.Adjacency.{is_adjacent, step_over, adjacencies}
 use Rattle.rc_ospf.specs.Edges.{IsFitStep}
-use Rattle.rc_ospf.specs.Interfaces.{area_of, ospf_interface, interface_on, interface_at, interfaces_of, interfaces_at, ospf_interfaces}
+use Rattle.rc_ospf_interfaces.specs.Interfaces.{area_of, ospf_interface, interface_on, interface_at, interfaces_of, interfaces_at, ospf_interfaces}
 use Rattle.rc_ospf.specs.declared.adjacency.Step.{Step}
-use Rattle.rc_ospf.specs.declared.interface.OspfInterface.{OspfInterface}
+use Rattle.rc_ospf_interfaces.specs.declared.interface.OspfInterface.{OspfInterface}
 
 record IsFit (n : ℕ) (i : OspfInterface) : Type 0 where
   pub router : i.id.router < n

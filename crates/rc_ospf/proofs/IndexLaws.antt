@@ -7,7 +7,7 @@ use Rattle.rc_base.specs.Prefix.{Cidr, same_prefix}
 use Rattle.rc_base.specs.Groups.{grouped, value_of}
 use Rattle.rc_base.proofs.GroupLaws.{found_grouped}
 use Rattle.rc_topology.specs.Topology.{Topology}
-use Rattle.rc_ospf.specs.declared.interface.OspfInterface.{OspfInterface}
+use Rattle.rc_ospf_interfaces.specs.declared.interface.OspfInterface.{OspfInterface}
 use Rattle.rc_ospf.specs.Adjacency.{is_adjacent, step_over, adjacencies}
 use Rattle.rc_ospf.specs.Grouping.{prefix_of, with_interface, members, steps_from}
 

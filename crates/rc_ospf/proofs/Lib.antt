@@ -7,7 +7,6 @@ mod Bridge
 mod KeptLaws
 mod AreaLaws
 mod ReachLaws
-mod RangeLaws
 mod ListLaws
 mod FitLaws
 mod MemberLaws

@@ -9,7 +9,7 @@ use Rattle.rc_route.specs.declared.route.Hop.{Hop}
 use Rattle.rc_route.specs.declared.route.Hop.TheVariants.{Via}
 use Rattle.rc_config.specs.declared.ospf.NetworkType.{NetworkType}
 use Rattle.rc_config.specs.declared.ospf.NetworkType.TheVariants.{Broadcast, PointToPoint}
-use Rattle.rc_ospf.specs.declared.interface.OspfInterface.{OspfInterface}
+use Rattle.rc_ospf_interfaces.specs.declared.interface.OspfInterface.{OspfInterface}
 use Rattle.rc_ospf.specs.declared.adjacency.Step.{Step}
 
 abbrev pub is_same_network : NetworkType → NetworkType → Bool

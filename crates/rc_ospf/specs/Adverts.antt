@@ -13,7 +13,7 @@ use Rattle.rc_config.specs.declared.interface.Interface.{Interface}
 use Rattle.rc_config.specs.declared.network.Network.{Network}
 use Rattle.rc_config.specs.declared.ospf.NetworkType.TheVariants.{PointToPoint}
 use Rattle.rc_ospf.specs.Adjacency.{is_same_network}
-use Rattle.rc_ospf.specs.declared.interface.OspfInterface.{OspfInterface}
+use Rattle.rc_ospf_interfaces.specs.declared.interface.OspfInterface.{OspfInterface}
 use Rattle.rc_ospf.specs.declared.offer.Advert.{Advert}
 
 abbrev pub is_host_type : Option IfType → OspfInterface → Bool

@@ -12,7 +12,7 @@ use Rattle.rc_ospf.specs.Adjacency.{adjacencies}
 use Rattle.rc_ospf.specs.AreaRows.{network_of, with_stubs, stub, a, b, c, d}
 use Rattle.rc_ospf.specs.Boundaries.{boundary_routers}
 use Rattle.rc_ospf.specs.BoundaryPaths.{BoundaryPath}
-use Rattle.rc_ospf.specs.Interfaces.{ospf_interfaces}
+use Rattle.rc_ospf_interfaces.specs.Interfaces.{ospf_interfaces}
 use Rattle.rc_ospf.specs.InterfaceRows.{primary, everywhere, file}
 use Rattle.rc_ospf.specs.Plain.{paths_within}
 use Rattle.rc_ospf.specs.RouteRows.{first, second, cost, area, via}

@@ -3,7 +3,7 @@ use Rattle.std.specs.Prelude.{List, [], ◌∷◌, ◌++◌, Option, Some, None,
 use Rattle.rc_base.specs.Groups.{under}
 use Rattle.rc_base.specs.Prefix.{Cidr}
 use Rattle.rc_topology.specs.Topology.{Topology}
-use Rattle.rc_ospf.specs.declared.interface.OspfInterface.{OspfInterface}
+use Rattle.rc_ospf_interfaces.specs.declared.interface.OspfInterface.{OspfInterface}
 use Rattle.rc_ospf.specs.declared.adjacency.Step.{Step}
 use Rattle.rc_ospf.specs.Adjacency.{is_adjacent, step_over}
 

@@ -16,10 +16,10 @@ use Rattle.rc_config.specs.declared.ospf.OspfSetting.TheVariants as setting
 use Rattle.rc_config.specs.declared.router_text.RouterText.{RouterText}
 use Rattle.rc_topology.specs.Ports.{links_of}
 use Rattle.rc_ospf.specs.Adjacency.{adjacencies}
-use Rattle.rc_ospf.specs.Interfaces.{ospf_interfaces}
+use Rattle.rc_ospf_interfaces.specs.Interfaces.{ospf_interfaces}
 use Rattle.rc_ospf.specs.Internal.{steps_of, adverts_in}
 use Rattle.rc_ospf.specs.declared.adjacency.Step.{Step}
-use Rattle.rc_ospf.specs.declared.interface.OspfInterface.{OspfInterface}
+use Rattle.rc_ospf_interfaces.specs.declared.interface.OspfInterface.{OspfInterface}
 use Rattle.rc_ospf.specs.declared.offer.Advert.{Advert}
 
 abbrev eth : List ℕ
@@ -135,6 +135,28 @@ setting_wins = refl
 pub other_process : areas (primary eth 1 24 ∷ InterfaceOspf eth (setting.Area (record { process = 2; area = 9 })) ∷ everywhere 0) ≡ 0 ∷ []
 unfolding ospf_interfaces type_of
 other_process = refl
+
+-- and a line of another process neither sets nor erases that of the own one, whichever stands first
+abbrev with_areas : List (ℕ × ℕ) → List Command
+with_areas lines = map (λ (l : ℕ × ℕ). InterfaceOspf eth (setting.Area (record { process = l.0; area = l.1 }))) lines
+
+pub other_process_later : areas (primary eth 1 24 ∷ with_areas ((1, 9) ∷ (2, 5) ∷ []) ++ everywhere 0) ≡ 9 ∷ []
+unfolding ospf_interfaces type_of
+other_process_later = refl
+
+pub other_process_before : areas (primary eth 1 24 ∷ with_areas ((2, 5) ∷ (1, 9) ∷ []) ++ everywhere 0) ≡ 9 ∷ []
+unfolding ospf_interfaces type_of
+other_process_before = refl
+
+-- of two lines of the own process the later counts
+pub same_process_later : areas (primary eth 1 24 ∷ with_areas ((1, 9) ∷ (2, 5) ∷ (1, 4) ∷ []) ++ everywhere 0) ≡ 4 ∷ []
+unfolding ospf_interfaces type_of
+same_process_later = refl
+
+-- a subinterface of a parent without a digit has the parent's type
+pub serial_subinterface : networks (primary (codes "Serial.7") 1 24 ∷ everywhere 0) ≡ PointToPoint ∷ []
+unfolding ospf_interfaces type_of
+serial_subinterface = refl
 
 -- ---- costs
 
@@ -270,6 +292,25 @@ other_network = refl
 pub other_area : steps first (second (InterfaceOspf eth (setting.Area (record { process = 1; area = 1 })) ∷ [])) ≡ []
 unfolding ospf_interfaces adjacencies links_of type_of
 other_area = refl
+
+-- the own process's area is kept beside that of another one, in both orders of the lines
+pub area_beside_another : steps first (second (with_areas ((1, 0) ∷ (2, 5) ∷ []))) ≡ (0 ∷ 1 ∷ 10 ∷ ten 2 ∷ []) ∷ (1 ∷ 0 ∷ 10 ∷ ten 1 ∷ []) ∷ []
+unfolding ospf_interfaces adjacencies links_of type_of
+area_beside_another = refl
+
+pub area_behind_another : steps first (second (with_areas ((2, 5) ∷ (1, 0) ∷ []))) ≡ (0 ∷ 1 ∷ 10 ∷ ten 2 ∷ []) ∷ (1 ∷ 0 ∷ 10 ∷ ten 1 ∷ []) ∷ []
+unfolding ospf_interfaces adjacencies links_of type_of
+area_behind_another = refl
+
+-- where the own process's lines are alone in putting it there, too
+abbrev by_lines_alone : List (ℕ × ℕ) → List Command
+by_lines_alone lines = primary eth 2 24 ∷ with_areas lines ++ OspfOpened 1 ∷ []
+
+pub area_by_its_line : (steps first (by_lines_alone ((1, 0) ∷ (2, 5) ∷ [])) ≡ (0 ∷ 1 ∷ 10 ∷ ten 2 ∷ []) ∷ (1 ∷ 0 ∷ 10 ∷ ten 1 ∷ []) ∷ [])
+    × (steps first (by_lines_alone ((2, 5) ∷ (1, 0) ∷ [])) ≡ (0 ∷ 1 ∷ 10 ∷ ten 2 ∷ []) ∷ (1 ∷ 0 ∷ 10 ∷ ten 1 ∷ []) ∷ [])
+    × (steps first (by_lines_alone ((2, 0) ∷ [])) ≡ [])
+unfolding ospf_interfaces adjacencies links_of type_of
+area_by_its_line = (refl, refl, refl)
 
 -- the one side has the area as a stub area, and then the other one too
 abbrev with_stub : ℕ → RouterText → RouterText

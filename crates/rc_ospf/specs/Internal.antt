@@ -9,7 +9,7 @@ use Rattle.rc_ospf.specs.Adverts.{adverts_of}
 use Rattle.rc_ospf.specs.Areas.{OspfRouter, AreOspfRouters}
 use Rattle.rc_ospf.specs.Boundaries.{boundary_paths}
 use Rattle.rc_ospf.specs.BoundaryPaths.{IsNear}
-use Rattle.rc_ospf.specs.Interfaces.{ospf_interfaces}
+use Rattle.rc_ospf_interfaces.specs.Interfaces.{ospf_interfaces}
 use Rattle.rc_ospf.specs.Routes.{IsShortRoute, internal_routes, own_prefixes}
 use Rattle.rc_ospf.specs.declared.adjacency.Step.{Step}
 use Rattle.rc_ospf.specs.declared.model.Internal.{Internal}
@@ -23,7 +23,8 @@ steps_of net links = adjacencies links (ospf_interfaces net)
 abbrev pub adverts_in : Network → List Advert
 adverts_in net = flat_map (adverts_of net) (ospf_interfaces net)
 
--- by the least walks of all routers over the steps of the network with its links
+-- what OSPF gives without a state: by the least walks of all routers, each router's routes inside and between areas, its paths to AS
+-- boundary routers, and the prefixes that it advertises itself
 pub record IsInternal (net : Network) (i : Internal) : Type 0 where
   pub routers : List OspfRouter
   pub as_many : length routers ≡ length net.routers

@@ -1,4 +1,3 @@
-pub mod Interfaces
 pub mod Adjacency
 pub mod Adverts
 pub mod Walks

@@ -9,8 +9,8 @@ use Rattle.rc_config.specs.declared.network.Network.{Network}
 use Rattle.rc_config.specs.declared.ospf.OspfProcess.{OspfProcess}
 use Rattle.rc_config.specs.declared.ospf.StubArea.{StubArea}
 use Rattle.rc_config.specs.declared.router_text.RouterText.{RouterText}
-use Rattle.rc_ospf.specs.Interfaces.{stub_of, interfaces_of}
-use Rattle.rc_ospf.specs.declared.interface.OspfInterface.{OspfInterface}
+use Rattle.rc_ospf_interfaces.specs.Interfaces.{stub_of, interfaces_of}
+use Rattle.rc_ospf_interfaces.specs.declared.interface.OspfInterface.{OspfInterface}
 use Rattle.rc_ospf.specs.declared.router_area.RouterArea.{RouterArea}
 
 -- an area as a process has it: whether it is a stub area there (RFC 2328 s.3.6), and whether no summary is sent into it

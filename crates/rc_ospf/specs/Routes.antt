@@ -11,7 +11,7 @@ use Rattle.rc_route.specs.declared.route.Source.{Source}
 use Rattle.rc_route.specs.declared.route.Source.TheVariants.{Ospf, OspfIa}
 use Rattle.rc_ospf.specs.Adverts.{adverts_of}
 use Rattle.rc_ospf.specs.Areas.{OspfRouter, is_own, summaries_of, inter}
-use Rattle.rc_ospf.specs.Interfaces.{interfaces_at}
+use Rattle.rc_ospf_interfaces.specs.Interfaces.{interfaces_at}
 use Rattle.rc_ospf.specs.Offered.{Offered}
 use Rattle.rc_ospf.specs.Ways.{Way, best_way}
 use Rattle.rc_ospf.specs.declared.grouping.Row.{Row}

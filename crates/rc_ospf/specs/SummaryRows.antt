@@ -7,7 +7,7 @@ use Rattle.rc_topology.specs.Ports.{links_of}
 use Rattle.rc_ospf.specs.Adjacency.{adjacencies}
 use Rattle.rc_ospf.specs.AreaRows.{host, chain}
 use Rattle.rc_ospf.specs.Areas.{OspfRouter, offer, sent, summaries_of}
-use Rattle.rc_ospf.specs.Interfaces.{ospf_interfaces}
+use Rattle.rc_ospf_interfaces.specs.Interfaces.{ospf_interfaces}
 use Rattle.rc_ospf.specs.Internal.{adverts_in}
 use Rattle.rc_ospf.specs.Offered.{Offered}
 use Rattle.rc_ospf.specs.Plain.{routers_within}

@@ -5,7 +5,7 @@
 //! layer above knows of each router its routes inside and between areas, over the least of all walks, its paths to AS boundary
 //! routers, and the prefixes that it advertises itself (`IsInternal`), and that there is one such answer (`one_internal`).
 //!
-//! The crate goes one way: interfaces and the areas of routers (`interface`, `router_area`), steps and the least walks over them
+//! The crate goes one way: the areas of routers (`router_area`), steps and the least walks over them
 //! (`adjacency`, `area`, `path`), routers as the others have them (`member`), ways to what is offered and the best of them (`way`, `best`), what border routers
 //! summarise of a destination (`summaries`), and what each router makes of it (`routes`, `boundary`). What is made of each router
 //! by itself is made by workers at once (`shares`).
@@ -19,7 +19,6 @@ mod boundary;
 mod destination;
 mod grouping;
 mod hops;
-mod interface;
 mod member;
 mod model;
 mod offer;
@@ -36,9 +35,9 @@ use adjacency::{Step, adjacencies};
 use advertising::adverts;
 use grouping::{Row, offers_by_prefix};
 pub use hops::{add_hops, hops_in_order};
-pub use interface::{OspfInterface, ospf_interfaces};
 pub use model::{Boundary, Internal};
 use offer::{Advert, Offer};
 use path::{AreaPaths, Path};
+use rc_ospf_interfaces::OspfInterface;
 use router_area::RouterArea;
 pub use tables::{internal, one_internal};

@@ -7,9 +7,9 @@ ghost use Rattle.rc_ospf.specs.Routes as spec;
 
 use crate::Advert;
 use crate::advertising::adverts;
-use crate::interface::add_router;
 use rc_base::{Items, Prefix, RouterId};
 use rc_config::Network;
+use rc_ospf_interfaces::add_router;
 use std::alloc::{AllocError, Global};
 use std::collections::BTreeSet;
 

@@ -7,9 +7,9 @@ ghost use Rattle.rc_base.specs.Lists.{in_order};
 ghost use Rattle.rc_ospf.specs.RouterAreas as spec;
 
 use crate::OspfInterface;
-use crate::interface::add_interfaces;
 use rc_base::{Items, RouterId};
 use rc_config::{Network, OspfProcess, RouterText};
+use rc_ospf_interfaces::add_interfaces;
 use std::alloc::{AllocError, Global};
 use std::collections::BTreeSet;
 

@@ -1,6 +1,6 @@
 use Rattle.std.proofs.Common.{◌≡◌, ◌<◌, ◌++◌, ◌∷◌, [], length, sym, ◌∙◌, ap, arith}
 use Rattle.rc_ospf.specs.Boundaries.{is_boundary}
-use Rattle.rc_ospf.proofs.RangeLaws.{passes_more, fails_more}
+use Rattle.rc_ospf_interfaces.proofs.RangeLaws.{passes_more, fails_more}
 use Rattle.rc_ospf.proofs.boundary.boundary_routers.Goals.{then-is_boundary+in_ok-push, else-is_boundary}
 use Rattle.rc_ospf.proofs.boundary.boundary_routers.Goals as goal
 

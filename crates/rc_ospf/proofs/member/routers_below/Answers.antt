@@ -1,5 +1,5 @@
 use Rattle.std.proofs.Common.{rules, ◌≡◌, ◌<◌, ◌++◌, ◌∷◌, [], arith}
-use Rattle.rc_ospf.proofs.RangeLaws.{range_more}
+use Rattle.rc_ospf_interfaces.proofs.RangeLaws.{range_more}
 use Rattle.rc_ospf.proofs.member.routers_below.Goals as goal
 
 pub loop-index-preserved : goal.loop-index-preserved

@@ -1,8 +1,8 @@
 use Rattle.std.proofs.Common.{◌<◌, length, sym, ◌∙◌, arith}
-use Rattle.rc_ospf.specs.Interfaces.{interface_at}
-use Rattle.rc_ospf.proofs.RangeLaws.{one_more, none_more}
-use Rattle.rc_ospf.proofs.interface.add_interfaces.Goals.{in-Some+in_ok-push, in_default}
-use Rattle.rc_ospf.proofs.interface.add_interfaces.Goals as goal
+use Rattle.rc_ospf_interfaces.specs.Interfaces.{interface_at}
+use Rattle.rc_ospf_interfaces.proofs.RangeLaws.{one_more, none_more}
+use Rattle.rc_ospf_interfaces.proofs.interface.add_interfaces.Goals.{in-Some+in_ok-push, in_default}
+use Rattle.rc_ospf_interfaces.proofs.interface.add_interfaces.Goals as goal
 
 pub loop-index-preserved : goal.loop-index-preserved
 loop-index-preserved c =

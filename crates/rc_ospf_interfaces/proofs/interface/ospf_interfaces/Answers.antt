@@ -1,7 +1,7 @@
 use Rattle.std.proofs.Common.{rules, ◌≡◌, ◌<◌, ◌++◌, length, arith}
-use Rattle.rc_ospf.specs.Interfaces.{interfaces_at}
-use Rattle.rc_ospf.proofs.RangeLaws.{some_more}
-use Rattle.rc_ospf.proofs.interface.ospf_interfaces.Goals as goal
+use Rattle.rc_ospf_interfaces.specs.Interfaces.{interfaces_at}
+use Rattle.rc_ospf_interfaces.proofs.RangeLaws.{some_more}
+use Rattle.rc_ospf_interfaces.proofs.interface.ospf_interfaces.Goals as goal
 
 pub loop-index-preserved : goal.loop-index-preserved
 loop-index-preserved c =

@@ -7,7 +7,7 @@ use Rattle.rc_config.specs.ByNumber.{with_number}
 use Rattle.rc_config.specs.Down.{Entries, is_down, prefix_of}
 use Rattle.rc_config.specs.IfType.{type_of, nominal_bandwidth}
 use Rattle.rc_config.specs.Members.{router_at, router_ids}
-use Rattle.rc_config.specs.Ospf.{is_passive}
+use Rattle.rc_config.specs.Ospf.{is_passive, process_of}
 use Rattle.rc_config.specs.declared.if_type.IfType.{IfType}
 use Rattle.rc_config.specs.declared.if_type.IfType.TheVariants.{Serial}
 use Rattle.rc_config.specs.declared.interface.IfAddr.{IfAddr}
@@ -21,7 +21,7 @@ use Rattle.rc_config.specs.declared.ospf.OspfProcess.{OspfProcess}
 use Rattle.rc_config.specs.declared.ospf.OspfSettings.{OspfSettings}
 use Rattle.rc_config.specs.declared.ospf.StubArea.{StubArea}
 use Rattle.rc_config.specs.declared.router_text.RouterText.{RouterText}
-use Rattle.rc_ospf.specs.declared.interface.OspfInterface.{OspfInterface}
+use Rattle.rc_ospf_interfaces.specs.declared.interface.OspfInterface.{OspfInterface}
 
 -- a `network` line matches an address: they agree in the bits whose wildcard bit is 0
 abbrev pub is_matched : ℕ → OspfNetwork → Bool
@@ -31,9 +31,9 @@ is_matched a line = bit_or a line.wildcard == bit_or line.address line.wildcard
 abbrev pub area_by_line : OspfProcess → ℕ → Option ℕ
 area_by_line p a = option_map (λ (line : OspfNetwork). line.area) (find (is_matched a) p.networks)
 
--- that of `ip ospf P area N`, where it names this process
+-- that of `ip ospf P area N` for this process, whatever such lines say of other ones
 abbrev pub area_by_setting : OspfProcess → OspfSettings → Option ℕ
-area_by_setting p settings = option_and_then (λ (x : OspfArea). if x.process == p.process then Some x.area else None) settings.area
+area_by_setting p settings = option_map (λ (a : OspfArea). a.area) (with_number process_of p.process settings.areas)
 
 -- which wins over the lines
 abbrev pub area_of : OspfProcess → OspfSettings → ℕ → Option ℕ
@@ -87,6 +87,7 @@ interface_on entries p id e =
     if is_down entries e.0 then None
     else option_and_then (λ (primary : IfAddr). option_map (ospf_interface p id e.0 e.1 primary) (area_of p e.1.ospf primary.addr)) e.1.primary
 
+-- the OSPF interface at an index of a file, where OSPF runs on it
 abbrev pub interface_at : ℕ → Entries → OspfProcess → ℕ → Option OspfInterface
 interface_at r entries p index = option_and_then (interface_on entries p (record { router = r; index = index })) (slice_get entries index)
 
@@ -94,9 +95,11 @@ interface_at r entries p index = option_and_then (interface_on entries p (record
 abbrev pub interfaces_of : ℕ → RouterText → List OspfInterface
 interfaces_of r file = option_map_or (λ (p : OspfProcess). filter_map (interface_at r file.interfaces p) (range_with_len 0 (length file.interfaces))) file.ospf []
 
+-- those of a router, none where there is no such router
 abbrev pub interfaces_at : Network → ℕ → List OspfInterface
 interfaces_at net r = option_map_or (interfaces_of r) (router_at net r) []
 
--- by router, then in the order of declaration
+-- the interfaces on which OSPF runs, by router and as declared: those that are up, have a primary address and are in an area, of routers
+-- with a process (RFC 2328 s.9)
 unfoldable pub ospf_interfaces : Network → List OspfInterface
 ospf_interfaces net = flat_map (interfaces_at net) (router_ids net)

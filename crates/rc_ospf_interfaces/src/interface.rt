@@ -3,7 +3,7 @@ ghost use Rattle.std.specs.Prelude.{◌≡◌, ◌++◌, ◌*◌, ◌/◌, Some,
 ghost use Rattle.std.specs.List.{filter_map, flat_map, cons_option, range_with_len};
 ghost use Rattle.std.specs.Option.{option_map_or};
 ghost use Rattle.rc_config.specs.Members.{router_at};
-ghost use Rattle.rc_ospf.specs.Interfaces as spec;
+ghost use Rattle.rc_ospf_interfaces.specs.Interfaces as spec;
 
 use rc_base::{Addr, IfId, Items, Name, Prefix, RouterId};
 use rc_config::{
@@ -54,18 +54,12 @@ fn area_by_line(process: &OspfProcess, address: Addr) -> Option<u32>
     None
 }
 
-/// The area that `ip ospf P area N` gives in this process.
+/// The area that `ip ospf P area N` gives in this process, whatever such lines say of other ones.
 fn area_by_setting(process: &OspfProcess, settings: &OspfSettings) -> Option<u32>
     ensures { result ≡ spec.area_by_setting process.now settings.now }
 {
-    match settings.area {
-        Some(area) => {
-            if area.process == process.process {
-                Some(area.area)
-            } else {
-                None
-            }
-        }
+    match settings.areas.get(process.process) {
+        Some(area) => Some(area.area),
         None => None,
     }
 }
@@ -232,7 +226,7 @@ fn push(all: &mut Items<OspfInterface>, interface: OspfInterface) -> Result<(), 
 }
 
 /// Puts the OSPF interfaces of a process at the end, in the order of declaration.
-pub(crate) fn add_interfaces(
+pub fn add_interfaces(
     all: &mut Items<OspfInterface>,
     router: RouterId,
     file: &RouterText,
@@ -249,7 +243,7 @@ pub(crate) fn add_interfaces(
 }
 
 /// Puts the OSPF interfaces of a router at the end.
-pub(crate) fn add_router(
+pub fn add_router(
     all: &mut Items<OspfInterface>,
     net: &Network,
     router: RouterId,
