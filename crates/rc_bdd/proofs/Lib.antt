@@ -1,3 +1,4 @@
+pub mod ErrorLaws
 mod AtOnce
 mod WorkLaws
 mod StepLaws

@@ -36,6 +36,10 @@ pub record MayBranch (nodes : TableView) (seat : SeatView) (var lo hi : ℕ) : T
 abbrev pub IsCause : TableView → SeatView → SetError → Type 0
 IsCause nodes seat e = e ≡ Full → IsFull nodes seat
 
+-- an operation that takes no memory fails for want of room alone
+abbrev pub IsWantOfRoom : TableView → SeatView → SetError → Type 0
+IsWantOfRoom nodes seat e = (e ≡ Full) × IsFull nodes seat
+
 -- ---- inside
 
 abbrev pub truth : Operation → Bool → Bool → Bool

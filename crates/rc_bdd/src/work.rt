@@ -1,6 +1,6 @@
 //! A seat with a memo, and the operations on sets.
 ghost use Rattle.std.specs.Prelude.{◌≡◌, ℕ, ◌≤◌, IfOk, IfErr, MatchOption};
-ghost use Rattle.rc_bdd.specs.Work.{AreSides, IsCause, IsFrom, IsRight, MayBranch, MayCombine, truth};
+ghost use Rattle.rc_bdd.specs.Work.{AreSides, IsCause, IsFrom, IsRight, IsWantOfRoom, MayBranch, MayCombine, truth};
 ghost use Rattle.rc_nodes.specs.Seats.{IsFull, IsKnown, IsSeatOf, Keeps, SeatKnows, SeatView};
 ghost use Rattle.rc_nodes.specs.Views.{Sound};
 ghost use Rattle.rc_trees.specs.Combine.{joined, combined, and, or, minus};
@@ -150,10 +150,28 @@ impl<M: May> Work<M> {
         if self.prepare().is_err() {
             return Err(SetError::Memory);
         }
-        let Ok(result) = self.combine(nodes, operation, 0, left, right) else {
-            return Err(SetError::Full);
-        };
-        Ok(result)
+        self.combine_all(nodes, operation, left, right)
+    }
+
+    /// Two sets combined, where the memo is made: it then fails for want of room in the table alone.
+    fn combine_all(
+        &mut self,
+        nodes: &Nodes<M>,
+        operation: Operation,
+        left: Ref,
+        right: Ref,
+    ) -> Result<Ref, SetError>
+        requires seat { IsSeatOf nodes.now self.old }
+        requires may { MayCombine nodes.now self.old (combined (truth operation)) left.index right.index }
+        ensures seat { IsSeatOf nodes.now self.new }
+        ensures keeps { Keeps self.old self.new }
+        ensures combined { IfOk result (λ r. (s t : Tree) → SeatKnows self.old left.index s → SeatKnows self.old right.index t → SeatKnows self.new r.index (combined (truth operation) s t)) }
+        ensures room { IfErr result (IsWantOfRoom nodes.now self.new) }
+    {
+        match self.combine(nodes, operation, 0, left, right) {
+            Ok(set) => Ok(set),
+            Err(_) => Err(SetError::Full),
+        }
     }
 
     /// Makes the memo, where it isn't made yet.

@@ -1,5 +1,5 @@
 -- The cubes that are left, one after another.
-use Rattle.std.proofs.Common.{◌≡◌, ◌≢◌, ℕ, ◌<◌, ◌≤◌, Bool, true, false, cond, refl, ap, subst, ◌∙◌, arith, List, [], ◌∷◌, ◌++◌, map, Option, Some, None}
+use Rattle.std.proofs.Common.{sym, ◌≡◌, ◌≢◌, ℕ, ◌<◌, ◌≤◌, Bool, true, false, cond, refl, ap, subst, ◌∙◌, arith, List, [], ◌∷◌, ◌++◌, map, Option, Some, None}
 use Rattle.rc_base.specs.declared.header.Header.{Header}
 use Rattle.rc_trees.specs.Trees.{Tree, never, always, node, top, IsReduced}
 use Rattle.rc_trees.specs.Headers.{bit}
@@ -97,3 +97,38 @@ left_behind t r o (d ∷ front) back c e = left_behind t r (Some d) front back c
 
 pub behind_in_list : (t : Tree) (front back : List Cube) (c : Cube) → IsReduced t → cubes t ≡ front ++ c ∷ back → left (Some c) t ≡ back
 behind_in_list t front back c r e = left_behind t r None front back c e
+
+-- ---- what is left is an end of the list, whatever the last one was
+
+abbrev IsEnd : List Cube → List Cube → Type 0
+IsEnd whole back = (front : List Cube) × (whole ≡ front ++ back)
+
+mapped : (f : Cube → Cube) (xs ys : List Cube) → map f (xs ++ ys) ≡ map f xs ++ map f ys
+mapped f [] ys = refl
+mapped f (x ∷ xs) ys = ap (λ zs. f x ∷ zs) (mapped f xs ys)
+
+appended : (xs ys zs : List Cube) → (xs ++ ys) ++ zs ≡ xs ++ (ys ++ zs)
+appended [] ys zs = refl
+appended (x ∷ xs) ys zs = ap (λ ws. x ∷ ws) (appended xs ys zs)
+
+at_end : (xs : List Cube) → xs ≡ xs ++ []
+at_end [] = refl
+at_end (x ∷ xs) = ap (λ ws. x ∷ ws) (at_end xs)
+
+high_end : (f g : Cube → Cube) (low high back : List Cube) → IsEnd high back → IsEnd (map f low ++ map g high) (map g back)
+high_end f g low high back (front, e) = (map f low ++ map g front, ap (λ xs. map f low ++ xs) (ap (map g) e ∙ mapped g front back) ∙ sym (appended (map f low) (map g front) (map g back)))
+
+low_end : (f g : Cube → Cube) (low high back : List Cube) → IsEnd low back → IsEnd (map f low ++ map g high) (map f back ++ map g high)
+low_end f g low high back (front, e) = (map f front, ap (λ xs. xs ++ map g high) (ap (map f) e ∙ mapped f front back) ∙ appended (map f front) (map f back) (map g high))
+
+later_end : (c : Cube) (t : Tree) → IsEnd (cubes t) (later c t)
+later_end c never = ([], refl)
+later_end c always = (cubes always, at_end (cubes always))
+later_end c (node v l h) =
+    let high = high_end (with_test v false) (with_test v true) (cubes l) (cubes h) (later c h) (later_end c h) in
+    let low = low_end (with_test v false) (with_test v true) (cubes l) (cubes h) (later c l) (later_end c l) in
+    elim (bit c.value v) as (λ b. IsEnd (cubes (node v l h)) (cond b (map (with_test v true) (later c h)) (map (with_test v false) (later c l) ++ map (with_test v true) (cubes h)))) [ true ↦ high | false ↦ low ]
+
+pub left_end : (t : Tree) (o : Option Cube) → (front : List Cube) × (cubes t ≡ front ++ left o t)
+left_end t None = ([], refl)
+left_end t (Some c) = later_end c t

@@ -27,7 +27,7 @@ all = record { value = zeros; mask = zeros }
 unfoldable pub with_test : ℕ → Bool → Cube → Cube
 with_test v x c = record { value = cond x (set_bit c.value v) c.value; mask = set_bit c.mask v }
 
--- the cubes of a tree: the ways to true, low sides first
+-- the cubes of a tree, which are its ways to true, low sides first
 abbrev pub cubes : Tree → List Cube
 cubes never = []
 cubes always = all ∷ []
@@ -40,12 +40,12 @@ later c never = []
 later c always = []
 later c (node v l h) = cond (bit c.value v) (map (with_test v true) (later c h)) (map (with_test v false) (later c l) ++ map (with_test v true) (cubes h))
 
--- the cubes that are left
+-- the cubes that are left of a tree behind a place in it
 abbrev pub left : Option Cube → Tree → List Cube
 left None t = cubes t
 left (Some c) t = later c t
 
--- what stands first, and what is left without it
+-- which cube stands first, and what is left without it
 abbrev pub Goes : List Cube → Option Cube → List Cube → Type 0
 Goes before None after = (before ≡ []) × (after ≡ [])
 Goes before (Some c) after = before ≡ c ∷ after
@@ -66,11 +66,12 @@ IsTight c = (k : ℕ) → k < 104 → bit c.mask k ≡ false → bit c.value k �
 abbrev pub IsIn : Cube → (ℕ → Bool) → Type 0
 IsIn c bits = (k : ℕ) → k < 104 → bit c.mask k ≡ true → bits k ≡ bit c.value k
 
--- in none of the cubes, and in one of them alone
+-- a header is in none of the cubes
 abbrev pub IsInNone : List Cube → (ℕ → Bool) → Type 0
 IsInNone [] bits = Unit {0}
 IsInNone (c ∷ cs) bits = (¬ (IsIn c bits)) × IsInNone cs bits
 
+-- a header is in exactly one of the cubes
 abbrev pub IsInOne : List Cube → (ℕ → Bool) → Type 0
 IsInOne [] bits = ⊥
 IsInOne (c ∷ cs) bits = (IsIn c bits × IsInNone cs bits) ⊎ ((¬ (IsIn c bits)) × IsInOne cs bits)

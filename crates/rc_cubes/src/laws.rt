@@ -1,5 +1,5 @@
 //! What the cubes of a tree say of headers.
-ghost use Rattle.std.specs.Prelude.{◌≡◌, ◌++◌, ◌∷◌, List, Some, true, false};
+ghost use Rattle.std.specs.Prelude.{◌≡◌, ◌++◌, ◌∷◌, List, Option, Some, true, false};
 ghost use Rattle.std.specs.List.{AllByRecursion};
 ghost use Rattle.rc_base.specs.declared.header.Header.{Header};
 ghost use Rattle.rc_cubes.specs.Cubes.{IsInNone, IsInOne, IsTight, cubes, left};
@@ -18,7 +18,9 @@ pub fn free_bits_are_zero()
     ensures { (t : Tree) → IsReduced t → AllByRecursion IsTight (cubes t) }
 {}
 
-/// What is left behind a cube of a tree is what stands behind it in the list of the tree's cubes.
+/// What is left behind a cube of a tree is what stands behind it in the list of the tree's cubes; and behind any other cube an end of that
+/// list is left.
 pub fn what_is_left_stands_behind()
-    ensures { (t : Tree) (front back : List Cube) (c : Cube) → IsReduced t → cubes t ≡ front ++ c ∷ back → left (Some c) t ≡ back }
+    ensures behind { (t : Tree) (front back : List Cube) (c : Cube) → IsReduced t → cubes t ≡ front ++ c ∷ back → left (Some c) t ≡ back }
+    ensures ending { (t : Tree) (last : Option Cube) → (front : List Cube) × (cubes t ≡ front ++ left last t) }
 {}

@@ -5,7 +5,7 @@ use Rattle.rc_trees.specs.Trees.{Tree, never, always, node, top, IsAmong}
 use Rattle.rc_nodes.specs.Words.{IsWord, var_of, lo_of, hi_of}
 use Rattle.rc_nodes.specs.Views.{View, Has, Knows, Grows, IsChild, Sound}
 use Rattle.rc_nodes.specs.Seats.{TableView, SeatView, IsSeatOf, SeatKnows, MayMake, SawAll, AreDistinct, IsCrowded}
-use Rattle.rc_nodes.proofs.Moves.{one_tree, one_ref}
+use Rattle.rc_nodes.proofs.Moves.{one_tree, one_ref, same_word}
 use Rattle.rc_nodes.proofs.Probe.{knows_more}
 
 -- two references that one seat knows as one tree are equal
@@ -52,9 +52,6 @@ module _ (v : View) (s : Sound v) (f : (k : ℕ) → k < v.capacity → (w : ℕ
         ((λ m. let (k, y, kn, hy, uk) = g t m in let same = same_ref v s (k + 2) (n + 2) t uk u in absurd (omega arith)), d),
         λ z m. ⊎_elim (λ p. (n, w, omega arith, h, subst (λ q. Knows v (n + 2) q) p u)) (λ p. let (k, y, kn, hy, uk) = g z p in (k, y, omega arith, hy, uk)) m,
       )
-
-same_word : (a b : ℕ) → IsWord a → IsWord b → var_of a ≡ var_of b → lo_of a ≡ lo_of b → hi_of a ≡ hi_of b → a ≡ b
-same_word a b p q e f g = omega arith
 
 -- where a reference is known as this node, its word is the node's word
 word_known : (v : View) → Sound v → (k w x var : ℕ) (low high : Tree) → Has v.seen k w → Knows v (k + 2) (node var low high) → IsWord x → var_of x ≡ var → Knows v (lo_of x) low → Knows v (hi_of x) high → w ≡ x

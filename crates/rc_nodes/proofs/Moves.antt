@@ -1,6 +1,6 @@
 -- That each step keeps the rule.
-use Rattle.std.proofs.Common.{◌≡◌, ◌≢◌, ℕ, ◌+◌, ◌<◌, ◌⊎◌, inl, inr, ⊎_elim, false, List, [], ◌∷◌, ◌++◌, length, get_or, set, refl, sym, ap, subst, true≢false, ◌∙◌, arith, get_or-set_other, get_or-set_same, eqb, eq-eqb, ne_eqb, length-set}
-use mathlib.Core.Option.{some}
+use Rattle.std.proofs.Common.{◌≡◌, ◌≢◌, ℕ, zero, suc, ◌+◌, ◌<◌, ◌⊎◌, inl, inr, ⊎_elim, false, List, [], ◌∷◌, ◌++◌, length, get_or, set, refl, sym, ap, subst, true≢false, ◌∙◌, arith, get_or-set_other, get_or-set_same, eqb, eq-eqb, ne_eqb, length-set}
+use mathlib.Core.Option.{some, some-injective, some-ne-none}
 use lib.ListN.{get_elem?}
 use Rattle.std.proofs.Math.Decide.{dec_lt}
 use native.Mathlib.Decide.{ℕ_discrete}
@@ -8,11 +8,11 @@ use Rattle.std.proofs.lemmas.List.{get_or_past, set-get_or}
 use mathlib.Core.Option.{Option}
 use prog.Atomic.{either}
 use Rattle.atomic_table.specs.Table.{State, keeps, Allows, Splits, Joins, stepped}
-use Rattle.atomic_table.proofs.Lists.{at_set, at_snoc, set_else}
+use Rattle.atomic_table.proofs.Lists.{at_longer, at_set, at_snoc, set_else}
 use Rattle.rc_trees.specs.Trees.{Tree, never, always, node, top, IsAmong}
 use Rattle.rc_nodes.specs.Words.{IsWord, var_of, lo_of, hi_of, slot_at}
-use Rattle.rc_nodes.specs.Views.{View, Has, StandsAt, Unfolds, Knows, IsChild, Sound, moved, noted, Looked, Claimed, MayWrite, joined, spent_view}
-use Rattle.rc_nodes.specs.Good.{Good, IsNode, IsBelow, IsOnPath, Agrees}
+use Rattle.rc_nodes.specs.Views.{View, Has, StandsAt, Unfolds, Knows, Grows, IsChild, Sound, fresh, moved, noted, Looked, Claimed, MayWrite, joined, spent_view}
+use Rattle.rc_nodes.specs.Good.{Good, IsNode, IsBelow, IsOnPath, Agrees, IsSeen}
 
 pub unfolds_more : (A B : ℕ → ℕ → Type 0) → ((k w : ℕ) → A k w → B k w) → (r : ℕ) (t : Tree) → Unfolds A r t → Unfolds B r t
 unfolds_more A B f r never u = u
@@ -52,7 +52,7 @@ stands_one ws k w x a b = sym a.0 ∙ b.0
 abbrev Once : (ℕ → ℕ → Type 0) → Type 0
 Once A = (k j w : ℕ) → A k w → A j w → k ≡ j
 
-same_word : (a b : ℕ) → IsWord a → IsWord b → var_of a ≡ var_of b → lo_of a ≡ lo_of b → hi_of a ≡ hi_of b → a ≡ b
+pub same_word : (a b : ℕ) → IsWord a → IsWord b → var_of a ≡ var_of b → lo_of a ≡ lo_of b → hi_of a ≡ hi_of b → a ≡ b
 same_word a b p q e f g = omega arith
 
 pub one_ref : (A : ℕ → ℕ → Type 0) → ((k w : ℕ) → A k w → IsWord w) → Once A → (r q : ℕ) (t : Tree) → Unfolds A r t → Unfolds A q t → r ≡ q
@@ -110,18 +110,49 @@ module _ (c : ℕ) (may : List Tree) (s : State (Unit {0}) View) (g : Good c may
           subst (λ m. IsAmong m t) (sym (ag o).1) (subst (λ m. IsAmong may m) same_tree among);
     }
 
+-- ---- each word was seen by some seat
+
+set_at : {A : Type 0} (l : List A) (i : ℕ) (a b : A) → get_elem? l i ≡ some b → get_elem? (set l i a) i ≡ some a
+set_at [] i a b e = absurd (some-ne-none b (sym e))
+set_at (x ∷ xs) zero a b e = refl
+set_at (x ∷ xs) (suc i) a b e = set_at xs i a b e
+
+-- a view that takes in more loses no word
+seen_set : (views : List View) (id : ℕ) (v w : View) → get_elem? views id ≡ some v → Grows v w → (k x : ℕ) → IsSeen views k x → IsSeen (set views id w) k x
+seen_set views id v w at grows k x (j, u, e, h) = elim (ℕ_discrete j id) [
+  | yes same ↦
+      let uv : u ≡ v = some-injective u v (sym e ∙ ap (λ n. get_elem? views n) same ∙ at) in
+      (id, w, set_at views id w v at, grows k x (subst (λ (y : View). Has y.seen k x) uv h))
+  | no another ↦ (j, u, set_else views id j w another ∙ e, h)
+]
+
+-- nor does a view that is spent, where another one has what it saw
+seen_spent : (views : List View) (id other : ℕ) (u w : View) → other ≢ id → get_elem? views id ≡ some u → get_elem? views other ≡ some w → Grows w u → (k x : ℕ) → IsSeen views k x → IsSeen (set views other spent_view) k x
+seen_spent views id other u w ne at at_other grows k x (j, y, e, h) = elim (ℕ_discrete j other) [
+  | yes same ↦
+      let yw : y ≡ w = some-injective y w (sym e ∙ ap (λ n. get_elem? views n) same ∙ at_other) in
+      (id, u, set_else views other id spent_view (λ q. ne (sym q)) ∙ at, grows k x (subst (λ (z : View). Has z.seen k x) yw h))
+  | no another ↦ (j, y, set_else views other j spent_view another ∙ e, h)
+]
+
+-- the one view of a new table has seen no word, so there is none
+pub all_unseen : (c : ℕ) (may : List Tree) (k x : ℕ) → ¬ (IsSeen (fresh c may ∷ []) k x)
+all_unseen c may k x (zero, v, e, h) = absurd (subst (λ (y : View). Has y.seen k x) (sym (some-injective (fresh c may) v e)) h)
+all_unseen c may k x (suc id, v, e, h) = absurd (some-ne-none v (sym e))
+
 -- ---- a load
 
 -- where the words stay, a view may take in what stands there
 module _ (c : ℕ) (may : List Tree) (s : State (Unit {0}) View) (g : Good c may s) (id : ℕ) (homes : List (Option (Unit {0}))) where
-  same_words : (v : View) → Agrees c may s.words v → Good c may record { words = s.words; homes = homes; views = set s.views id v }
-  same_words v ag = record {
+  same_words : (v : View) → Agrees c may s.words v → ((k x : ℕ) → IsSeen s.views k x → IsSeen (set s.views id v) k x) → Good c may record { words = s.words; homes = homes; views = set s.views id v }
+  same_words v ag kept = record {
     size = g.size;
     some_slot = g.some_slot;
     nodes = g.nodes;
     paths = g.paths;
     views = λ j w e. ⊎_elim (λ h. subst (Agrees c may s.words) h.1 ag) (λ h. g.views j w h.1) (at_set s.views id j v w e);
     trees = g.trees;
+    seen = λ k x a. kept k x (g.seen k x a);
   }
 
 noted_agrees : (c : ℕ) (may : List Tree) (words : List ℕ) (v : View) (k w : ℕ) → Agrees c may words v → StandsAt words k w → Agrees c may words (noted v k w)
@@ -132,18 +163,18 @@ looks c may slots id k v cs o s g hl at lt =
     let n : ℕ = get_or s.words k 0 in
     let ag : Agrees c may s.words v = g.views id v at in
     let back : set s.words k n ≡ s.words = set-get_or s.words k 0 in
-    let put : (w : View) → Agrees c may s.words w → Good c may (stepped s k n id cs w keeps) =
-    λ w aw. subst (λ (ws : List ℕ). Good c may record { words = ws; homes = s.homes; views = set s.views id w }) (sym back) (same_words c may s g id s.homes w aw) in
+    let put : (w : View) → Agrees c may s.words w → Grows v w → Good c may (stepped s k n id cs w keeps) =
+    λ w aw grows. subst (λ (ws : List ℕ). Good c may record { words = ws; homes = s.homes; views = set s.views id w }) (sym back) (same_words c may s g id s.homes w aw (seen_set s.views id v w at grows)) in
     elim (ℕ_discrete n 0) [
-      | yes e ↦ (moved v, keeps, tt, put (moved v) ag, (refl, ((λ _. refl), (λ ne. absurd (ne e)), sound c may s g (moved v) o ag, (λ _ x h. let a = (ag o).2 k x h in a.1 (sym a.0 ∙ e)))))
+      | yes e ↦ (moved v, keeps, tt, put (moved v) ag (λ _ _ h. h), (refl, ((λ _. refl), (λ ne. absurd (ne e)), sound c may s g (moved v) o ag, (λ _ x h. let a = (ag o).2 k x h in a.1 (sym a.0 ∙ e)))))
       | no ne ↦
           let aw : Agrees c may s.words (noted v k n) = noted_agrees c may s.words v k n ag (refl, ne) in
-          (noted v k n, keeps, tt, put (noted v k n) aw, (refl, ((λ e. absurd (ne e)), (λ _. refl), sound c may s g (noted v k n) o aw, (λ e. absurd (ne e)))))
+          (noted v k n, keeps, tt, put (noted v k n) aw (λ _ _ h. inr h), (refl, ((λ e. absurd (ne e)), (λ _. refl), sound c may s g (noted v k n) o aw, (λ e. absurd (ne e)))))
     ]
 
 -- ---- an exchange
 
-module _ (c : ℕ) (may : List Tree) (s : State (Unit {0}) View) (g : Good c may s) (id k x : ℕ) (v : View) (o : v.spent ≡ false) (ag : Agrees c may s.words v) (m : MayWrite v k x) (z : get_or s.words k 0 ≡ 0) where
+module _ (c : ℕ) (may : List Tree) (s : State (Unit {0}) View) (g : Good c may s) (id k x : ℕ) (v : View) (o : v.spent ≡ false) (ag : Agrees c may s.words v) (m : MayWrite v k x) (z : get_or s.words k 0 ≡ 0) (at : get_elem? s.views id ≡ some v) where
   abbrev after : List ℕ
   after = set s.words k x
 
@@ -237,6 +268,9 @@ module _ (c : ℕ) (may : List Tree) (s : State (Unit {0}) View) (g : Good c may
     subst (λ l. IsAmong l (node (var_of x) m.low m.high)) (ag o).1 m.allowed,
   )
 
+  seen_new : IsSeen (set s.views id (noted v k x)) k x
+  seen_new = (id, noted v k x, set_at s.views id (noted v k x) v at, inl (refl, refl))
+
   pub written : (homes : List (Option (Unit {0}))) → Good c may record { words = after; homes = homes; views = set s.views id (noted v k x) }
   written homes = record {
     size = length-set s.words k x ∙ g.size;
@@ -248,6 +282,10 @@ module _ (c : ℕ) (may : List Tree) (s : State (Unit {0}) View) (g : Good c may
         (λ e. subst (λ n. (t : Tree) × Unfolds (StandsAt after) (n + 2) t × IsAmong may t) (sym e.0) tree_new)
         (λ b. let (t, u, among) = g.trees j y b in (t, unfolds_more (StandsAt s.words) (StandsAt after) kept (j + 2) t u, among))
         (either_one j y a);
+    seen = λ j y a. ⊎_elim
+        (λ e. subst (λ n. IsSeen (set s.views id (noted v k x)) j n) (sym e.1) (subst (λ n. IsSeen (set s.views id (noted v k x)) n x) (sym e.0) seen_new))
+        (λ b. seen_set s.views id v (noted v k x) at (λ _ _ h. inr h) j y (g.seen j y b))
+        (either_one j y a);
   }
 
 pub claims : (c : ℕ) (may : List Tree) (slots id k x : ℕ) (v : View) (cs : List (ℕ × Unit {0})) → v.spent ≡ false → MayWrite v k x
@@ -258,19 +296,19 @@ claims c may slots id k x v cs o m s g hl at lt =
     let back : set s.words k n ≡ s.words = set-get_or s.words k 0 in
     elim (ℕ_discrete n 0) [
       | yes e ↦
-          let good = written c may s g id k x v o ag m e s.homes in
+          let good = written c may s g id k x v o ag m e at s.homes in
           let won : either (eqb n 0) x n ≡ x = ap (λ b. either b x n) (eq-eqb n 0 e) in (
             noted v k x,
             keeps,
             tt,
             subst (λ y. Good c may (stepped s k y id cs (noted v k x) keeps)) (sym won) good,
-            (refl, ((λ _. refl), (λ ne. absurd (ne e)), sound c may _ good (noted v k x) o (agrees_new c may s g id k x v o ag m e))),
+            (refl, ((λ _. refl), (λ ne. absurd (ne e)), sound c may _ good (noted v k x) o (agrees_new c may s g id k x v o ag m e at))),
           )
       | no ne ↦
           let lost : either (eqb n 0) x n ≡ n = ap (λ b. either b x n) (ne_eqb n 0 ne) in
           let aw : Agrees c may s.words (noted v k n) = noted_agrees c may s.words v k n ag (refl, ne) in
           let good : Good c may (stepped s k n id cs (noted v k n) keeps) =
-          subst (λ (ws : List ℕ). Good c may record { words = ws; homes = s.homes; views = set s.views id (noted v k n) }) (sym back) (same_words c may s g id s.homes (noted v k n) aw) in (
+          subst (λ (ws : List ℕ). Good c may record { words = ws; homes = s.homes; views = set s.views id (noted v k n) }) (sym back) (same_words c may s g id s.homes (noted v k n) aw (seen_set s.views id v (noted v k n) at (λ _ _ h. inr h))) in (
             noted v k n,
             keeps,
             tt,
@@ -288,7 +326,7 @@ pub splits : (c : ℕ) (may : List Tree) (id : ℕ) (v : View) → Splits (Good 
 splits c may id v s g at =
     let ag : Agrees c may s.words v = g.views id v at in
     let am : Agrees c may s.words (moved v) = ag in
-    let one = same_words c may s g id s.homes (moved v) am in
+    let one = same_words c may s g id s.homes (moved v) am (seen_set s.views id v (moved v) at (λ _ _ h. h)) in
     record {
       size = g.size;
       some_slot = g.some_slot;
@@ -296,6 +334,7 @@ splits c may id v s g at =
       paths = g.paths;
       trees = g.trees;
       views = at_views_snoc c may s.words (set s.views id (moved v)) (moved v) one.views am;
+      seen = λ k x a. let (j, u, e, h) = one.seen k x a in (j, u, at_longer (set s.views id (moved v)) (moved v ∷ []) j u e, h);
     }
 
 has_either : (xs ys : List (ℕ × ℕ)) (k w : ℕ) → Has (xs ++ ys) k w → Has xs k w ⊎ Has ys k w
@@ -318,5 +357,7 @@ joins c may id other v w ov ow s g at ne at_other =
     let at_w : get_elem? s.views other ≡ some w = sym (set_else s.views id other (joined v w) (λ e. ne e)) ∙ at_other in
     let aw : Agrees c may s.words w = g.views other w at_w in
     let both : Agrees c may s.words (joined v w) = λ o. ((av ov).0, (av ov).1, λ k y h. ⊎_elim (λ a. (av ov).2 k y a) (λ a. (aw ow).2 k y a) (has_either v.seen w.seen k y h)) in
-    let one = same_words c may s g id s.homes (joined v w) both in
-    same_words c may (record { words = s.words; homes = s.homes; views = set s.views id (joined v w) }) one other s.homes spent_view (λ e. absurd (true≢false e))
+    let one = same_words c may s g id s.homes (joined v w) both (seen_set s.views id v (joined v w) at (has_left v.seen w.seen)) in
+    let views : List View = set s.views id (joined v w) in
+    let kept = seen_spent views id other (joined v w) w (λ e. ne e) (set_at s.views id (joined v w) v at) at_other (has_right v.seen w.seen) in
+    same_words c may (record { words = s.words; homes = s.homes; views = views }) one other s.homes spent_view (λ e. absurd (true≢false e)) kept

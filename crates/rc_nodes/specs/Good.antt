@@ -28,8 +28,12 @@ IsOnPath capacity words k w = (d : ℕ) × (d < capacity) × (k ≡ slot_at capa
 abbrev pub Agrees : ℕ → List Tree → List ℕ → View → Type 0
 Agrees capacity may words v = v.spent ≡ false → (v.capacity ≡ capacity) × (v.may ≡ may) × ((k w : ℕ) → Has v.seen k w → StandsAt words k w)
 
--- A good state: each word that is not 0 is a node's, and stands where its probe comes to first; each view agrees with the words; each
--- node's tree may be made.
+-- some seat has seen the word at its slot
+abbrev pub IsSeen : List View → ℕ → ℕ → Type 0
+IsSeen views k w = (id : ℕ) × (v : View) × (get_elem? views id ≡ some v) × Has v.seen k w
+
+-- A good state: each word that is not 0 is a node's, stands where its probe comes to first, and was seen by some seat; each view agrees with
+-- the words; each node's tree may be made.
 pub record Good (capacity : ℕ) (may : List Tree) (s : State (Unit {0}) View) : Type 0 where
   pub size : length s.words ≡ capacity
   pub some_slot : 0 < capacity
@@ -37,6 +41,7 @@ pub record Good (capacity : ℕ) (may : List Tree) (s : State (Unit {0}) View) :
   pub paths : (k w : ℕ) → StandsAt s.words k w → IsOnPath capacity s.words k w
   pub views : (id : ℕ) (v : View) → get_elem? s.views id ≡ some v → Agrees capacity may s.words v
   pub trees : (k w : ℕ) → StandsAt s.words k w → (t : Tree) × Unfolds (StandsAt s.words) (k + 2) t × IsAmong may t
+  pub seen : (k w : ℕ) → StandsAt s.words k w → IsSeen s.views k w
 
 -- the words are those of a good state of the table, in which the seat has its view
 pub record IsLeft (nodes : TableView) (seat : SeatView) (words : List ℕ) : Type 0 where

@@ -1,5 +1,5 @@
 -- What contracts see of a table and of a seat.
-use Rattle.std.specs.Prelude.{◌≡◌, ◌≢◌, ℕ, ◌<◌, ◌≤◌, List, [], ◌∷◌, length, refl}
+use Rattle.std.specs.Prelude.{◌≡◌, ◌≢◌, ℕ, ◌+◌, ◌<◌, ◌≤◌, List, [], ◌∷◌, length, refl}
 use Rattle.std.specs.Coded.{Coded, code_by, coded×, coded_ℕ, coded_list}
 use Rattle.atomic_table.specs.Seated.{TableId, table_id_coded}
 use Rattle.rc_trees.specs.Trees.{Tree, node, top, IsAmong}
@@ -31,15 +31,15 @@ pub record IsSeatOf (nodes : TableView) (seat : SeatView) : Type 0 where
   pub may : seat.view.may ≡ nodes.may
   pub sound : Sound seat.view
 
--- the seat knows r as t
+-- the seat knows the reference as this tree
 unfoldable pub SeatKnows : SeatView → ℕ → Tree → Type 0
 SeatKnows seat r t = Knows seat.view r t
 
--- what the seat knew it still knows
+-- what the seat knew before it knows still
 abbrev pub Keeps : SeatView → SeatView → Type 0
 Keeps before after = (r : ℕ) (t : Tree) → SeatKnows before r t → SeatKnows after r t
 
--- low and high are known, test greater bits, and the tree above them may be made
+-- both sides of a node are known and test greater bits, and the tree above them may be made
 pub record MayMake (nodes : TableView) (seat : SeatView) (var lo hi : ℕ) : Type 0 where
   pub bit : var < 104
   pub differ : lo ≢ hi
@@ -51,15 +51,19 @@ pub record MayMake (nodes : TableView) (seat : SeatView) (var lo hi : ℕ) : Typ
   pub rises_high : var < top high
   pub allowed : IsAmong nodes.may (node var low high)
 
--- the seat's probe has seen each of the capacity many slots, with another word than x
+-- the seat has seen the word in the slot of a reference
+abbrev pub HasWord : SeatView → ℕ → ℕ → Type 0
+HasWord seat r x = (k : ℕ) × (r ≡ k + 2) × Has seat.view.seen k x
+
+-- the seat has seen each slot of the table taken, by another word than x
 abbrev pub SawAll : TableView → SeatView → ℕ → Type 0
 SawAll nodes seat x = (k : ℕ) → k < nodes.capacity → (w : ℕ) × Has seat.view.seen k w × (w ≢ x)
 
--- the seat knows r as some tree
+-- the seat knows the reference as some tree
 abbrev pub IsKnown : SeatView → ℕ → Type 0
 IsKnown seat r = (t : Tree) × SeatKnows seat r t
 
--- and that is no constant
+-- the seat knows the reference as some tree that is no constant
 abbrev pub IsKnownNode : SeatView → ℕ → Type 0
 IsKnownNode seat r = (2 ≤ r) × IsKnown seat r
 

@@ -40,14 +40,16 @@ view_code = code_by (Bool × (ℕ × (List (ℕ × ℕ) × (List Tree × ℕ))))
     (λ v. (v.spent, (v.capacity, (v.seen, (v.may, v.moves)))))
     (λ p. record { spent = p.0; capacity = p.1.0; seen = p.1.1.0; may = p.1.1.1.0; moves = p.1.1.1.1 }) (λ _. refl)
 
+-- a first seat: it has seen nothing, and made no move
 abbrev pub fresh : ℕ → List Tree → View
 fresh capacity may = record { spent = false; capacity = capacity; seen = []; may = may; moves = 0 }
 
+-- a word was seen at a slot
 abbrev pub Has : List (ℕ × ℕ) → ℕ → ℕ → Type 0
 Has [] k w = ⊥
 Has (p ∷ s) k w = ((p.0 ≡ k) × (p.1 ≡ w)) ⊎ Has s k w
 
--- the word w, which is not 0, stands at k
+-- a word, which is not 0, stands at a slot of the table
 abbrev pub StandsAt : List ℕ → ℕ → ℕ → Type 0
 StandsAt words k w = (slice_index words k ≡ w) × (w ≢ 0)
 

@@ -11,7 +11,10 @@ mod rule;
 mod table;
 mod words;
 
-pub use laws::{a_full_table_is_too_small, known_trees_are_reduced};
+pub use laws::{
+    a_full_table_is_too_small, a_new_table_is_empty, equal_trees_have_one_reference,
+    known_trees_are_reduced,
+};
 pub use may::{Chains, May};
 pub use table::{Full, Nodes, Seat};
 pub use words::{ALWAYS, NEVER, Node, Ref};

@@ -1,10 +1,11 @@
 //! The table and its seats.
-ghost use Rattle.std.specs.Prelude.{◌≡◌, ◌≢◌, ℕ, ◌+◌, ◌*◌, ◌<◌, ◌≤◌, ◌↔◌, IsTrue, IfOk, IfErr, [], true, false};
+ghost use Rattle.std.specs.Prelude.{◌≡◌, ◌≢◌, ℕ, ◌+◌, ◌*◌, ◌<◌, ◌≤◌, ◌↔◌, IsTrue, IfOk, IfErr, [], replicate, true, false};
 ghost use Rattle.std.specs.Slots.{IsFull, slots_items, slots_len};
 ghost use Rattle.rc_trees.specs.Trees.{Tree, node};
 ghost use Rattle.rc_nodes.specs.Good.{IsLeft};
-ghost use Rattle.rc_nodes.specs.Seats.{IsCrowded, IsKnownNode, IsSeatOf, Keeps, MayMake, SeatKnows};
+ghost use Rattle.rc_nodes.specs.Seats.{HasWord, IsCrowded, IsKnownNode, IsSeatOf, Keeps, MayMake, SawAll, SeatKnows};
 ghost use Rattle.rc_nodes.specs.Views.{Claimed, Grows, Has, Looked, MayWrite, StandsAt};
+ghost use Rattle.rc_nodes.specs.Words.{word_of};
 
 use crate::may::May;
 use crate::rule::{Claim, Halves, Knowledge, Look, NodeRule, Plan};
@@ -71,6 +72,13 @@ impl<M: May> Model for Seat<M> {
     ghost invariant = { λ s. s.place.me.1 ≡ [] };
 }
 
+/// The words of a table of which no slot is taken.
+fn empty_words(alloc: Global, capacity: u32) -> Result<Vec<u64>, AllocError>
+    ensures { IfOk result (λ words. words.items ≡ replicate capacity 0) }
+{
+    vec![in alloc; 0u64; capacity as usize]
+}
+
 impl<M: May> Nodes<M> {
     /// An empty table of `capacity` slots, from 1 to 16,777,216, with its first seat. All memory is taken here, for a moment twice the
     /// table's 8 bytes a slot.
@@ -85,7 +93,7 @@ impl<M: May> Nodes<M> {
             capacity,
             may: Snapshot::of(may),
         };
-        let words = vec![in alloc; 0u64; capacity as usize]?;
+        let words = empty_words(alloc, capacity)?;
         let (table, place) = Table::of_words(alloc, words.as_slice(), &plan)?;
         let nodes = Nodes { table, capacity };
         let seat = Seat {
@@ -138,14 +146,17 @@ impl<M: May> Nodes<M> {
         found == 0 || found == word
     }
 
-    /// The reference of a node, which the seat knows from now on as the tree of a test of `var` above the two trees. `Full` comes only
-    /// where the seat saw each slot taken by another node: then it knows as many other trees that may be made as there are slots.
+    /// The reference of a node, which the seat knows from now on as the tree of a test of `var` above the two trees: it saw the node's word
+    /// in that slot. `Full` comes only where the seat saw each slot taken by another node: then it knows as many other trees that may be
+    /// made as there are slots.
     pub fn make(&self, seat: &mut Seat<M>, var: u8, lo: Ref, hi: Ref) -> Result<Ref, Full>
         requires seat { IsSeatOf self.now seat.old }
         requires may { MayMake self.now seat.old var lo.index hi.index }
         ensures seat { IsSeatOf self.now seat.new }
         ensures keeps { Keeps seat.old seat.new }
         ensures made { IfOk result (λ r. (low high : Tree) → SeatKnows seat.old lo.index low → SeatKnows seat.old hi.index high → SeatKnows seat.new r.index (node var low high)) }
+        ensures word { IfOk result (λ r. HasWord seat.new r.index (word_of var lo.index hi.index)) }
+        ensures saw { IfErr result (λ _. SawAll self.now seat.new (word_of var lo.index hi.index)) }
         ensures full { IfErr result (λ _. (low high : Tree) → SeatKnows seat.old lo.index low → SeatKnows seat.old hi.index high → IsCrowded self.now seat.new (node var low high)) }
         ensures moves { seat.new.view.moves ≤ seat.old.view.moves + 2 * self.now.capacity }
     {

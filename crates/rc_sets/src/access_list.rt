@@ -1,6 +1,6 @@
 //! The sets of access lists.
 ghost use Rattle.std.specs.Prelude.{◌≡◌, ◌⊎◌, ◌^◌, ◌<◌, ◌≤◌, ◌+◌, IfOk, IfErr, ℕ};
-ghost use Rattle.rc_bdd.specs.Work.{IsCause};
+ghost use Rattle.rc_bdd.specs.Work.{IsCause, IsWantOfRoom};
 ghost use Rattle.rc_nodes.specs.Seats.{IsSeatOf, Keeps, SeatKnows};
 ghost use Rattle.rc_sets.specs.AccessLists.{address_set, line_set, lines_set, protocol_set, with_line};
 ghost use Rattle.rc_sets.specs.Builds.{MayAdd};
@@ -26,7 +26,7 @@ fn address_set<M: May>(
     ensures seat { IsSeatOf nodes.now work.new }
     ensures keeps { Keeps work.old work.new }
     ensures set { IfOk result (λ r. SeatKnows work.new r.index (tree (address_set last test))) }
-    ensures cause { IfErr result (IsCause nodes.now work.new) }
+    ensures room { IfErr result (IsWantOfRoom nodes.now work.new) }
 {
     match masked_set(
         work,
@@ -52,7 +52,7 @@ fn protocol_set<M: May>(
     ensures seat { IsSeatOf nodes.now work.new }
     ensures keeps { Keeps work.old work.new }
     ensures set { IfOk result (λ r. SeatKnows work.new r.index (tree (protocol_set test))) }
-    ensures cause { IfErr result (IsCause nodes.now work.new) }
+    ensures room { IfErr result (IsWantOfRoom nodes.now work.new) }
 {
     match test {
         ProtocolTest::Any => Ok(ALWAYS),

@@ -1,10 +1,11 @@
 //! What a table sends over a hop.
 ghost use Rattle.std.specs.Prelude.{◌≡◌, ◌++◌, IfOk, IfErr, OnOk, map};
 ghost use Rattle.std.specs.List.{list_any};
-ghost use Rattle.rc_bdd.specs.Work.{IsCause};
+ghost use Rattle.rc_bdd.specs.Work.{IsCause, IsWantOfRoom};
 ghost use Rattle.rc_fib.specs.declared.entry.Entry.{Entry as Row};
 ghost use Rattle.rc_nodes.specs.Seats.{IsSeatOf, Keeps, SeatKnows};
 ghost use Rattle.rc_route.specs.Hops.{same_hop};
+ghost use Rattle.rc_route.specs.declared.route.Hop.{Hop as NextHop};
 ghost use Rattle.rc_sets.specs.Marks.{prefixes_over};
 ghost use Rattle.rc_sets.specs.Regions.{hop_set};
 ghost use Rattle.rc_sets.specs.Stretches.{AreStretches, IsStretch};
@@ -71,6 +72,27 @@ fn prefixes_over(
     Ok(given)
 }
 
+/// The headers that a table sends over the hop that the routes of these prefixes give. It takes no memory, so it fails for want of room in
+/// the table alone.
+fn set_over<M: May>(
+    work: &mut Work<M>,
+    nodes: &Nodes<M>,
+    fib: &Fib,
+    given: &[Prefix],
+) -> Result<Ref, SetError>
+    requires seat { IsSeatOf nodes.now work.old }
+    requires may { (hop : NextHop) × (given.now ≡ prefixes_over hop fib.now) × HasNodesOf nodes.now.may (tree (hop_set fib.now hop)) }
+    ensures seat { IsSeatOf nodes.now work.new }
+    ensures keeps { Keeps work.old work.new }
+    ensures set { IfOk result (λ r. (hop : NextHop) → given.now ≡ prefixes_over hop fib.now → SeatKnows work.new r.index (tree (hop_set fib.now hop))) }
+    ensures room { IfErr result (IsWantOfRoom nodes.now work.new) }
+{
+    match build(work, nodes, fib.entries(), given, 0, false) {
+        Ok(set) => Ok(set),
+        Err(_) => Err(SetError::Full),
+    }
+}
+
 /// The headers that a table sends over a hop, where its stretches are known. It is built from the table's order, bit by bit, with the route
 /// that holds so far: each node that it makes stands in the result.
 pub fn hop_set_by<M: May>(
@@ -93,10 +115,7 @@ pub fn hop_set_by<M: May>(
     let Ok(given) = prefixes_over(alloc, entries, stretches, hop) else {
         return Err(SetError::Memory);
     };
-    match build(work, nodes, entries, given.as_slice(), 0, false) {
-        Ok(set) => Ok(set),
-        Err(_) => Err(SetError::Full),
-    }
+    set_over(work, nodes, fib, given.as_slice())
 }
 
 /// The headers that a table sends over a hop.

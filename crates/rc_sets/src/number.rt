@@ -1,6 +1,6 @@
 //! The sets of numbers in a header.
 ghost use Rattle.std.specs.Prelude.{◌≡◌, ◌≢◌, ◌+◌, ◌^◌, ◌<◌, ◌≤◌, false, IfOk, IfErr};
-ghost use Rattle.rc_bdd.specs.Work.{IsCause};
+ghost use Rattle.rc_bdd.specs.Work.{IsWantOfRoom};
 ghost use Rattle.rc_nodes.specs.Seats.{IsFull, IsSeatOf, Keeps, SeatKnows};
 ghost use Rattle.rc_sets.specs.Builds.{MayFollow};
 ghost use Rattle.rc_trees.specs.Fields.{exact, masked, with_bit};
@@ -77,7 +77,7 @@ pub(crate) fn exact_set<M: May>(
     ensures seat { IsSeatOf nodes.now work.new }
     ensures keeps { Keeps work.old work.new }
     ensures set { IfOk result (λ r. SeatKnows work.new r.index (exact last count number)) }
-    ensures cause { IfErr result (IsCause nodes.now work.new) }
+    ensures room { IfErr result (IsWantOfRoom nodes.now work.new) }
 {
     match masked_set(work, nodes, last, count, 0, number) {
         Ok(set) => Ok(set),

@@ -1,6 +1,6 @@
 //! The sets of an access list's tests of ports.
 ghost use Rattle.std.specs.Prelude.{◌≡◌, ◌⊎◌, ◌^◌, ◌<◌, ◌≤◌, ◌+◌, IfOk, IfErr, ℕ};
-ghost use Rattle.rc_bdd.specs.Work.{IsCause};
+ghost use Rattle.rc_bdd.specs.Work.{IsCause, IsWantOfRoom};
 ghost use Rattle.rc_nodes.specs.Seats.{IsSeatOf, Keeps, SeatKnows};
 ghost use Rattle.rc_sets.specs.AccessLists.{port_set};
 ghost use Rattle.rc_sets.specs.Intervals.{IsPort, between};
@@ -73,7 +73,7 @@ fn from_to<M: May>(
     ensures seat { IsSeatOf nodes.now work.new }
     ensures keeps { Keeps work.old work.new }
     ensures set { IfOk result (λ r. SeatKnows work.new r.index (between last 16 low end)) }
-    ensures cause { IfErr result (IsCause nodes.now work.new) }
+    ensures room { IfErr result (IsWantOfRoom nodes.now work.new) }
 {
     match interval(work, nodes, last, 16, low, end) {
         Ok(set) => Ok(set),

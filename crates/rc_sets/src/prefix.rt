@@ -1,6 +1,6 @@
 //! The set of a prefix.
 ghost use Rattle.std.specs.Prelude.{IfOk, IfErr};
-ghost use Rattle.rc_bdd.specs.Work.{IsCause};
+ghost use Rattle.rc_bdd.specs.Work.{IsCause, IsWantOfRoom};
 ghost use Rattle.rc_nodes.specs.Seats.{IsSeatOf, Keeps, SeatKnows};
 ghost use Rattle.rc_trees.specs.Fields.{chain};
 ghost use Rattle.rc_trees.specs.Recipes.{tree};
@@ -11,7 +11,7 @@ use rc_base::Prefix;
 use rc_bdd::{SetError, Work};
 use rc_nodes::{ALWAYS, May, Nodes, Ref};
 
-/// The headers whose destination the prefix holds.
+/// The headers whose destination the prefix holds. It takes no memory, so it fails for want of room in the table alone.
 pub fn prefix_set<M: May>(
     work: &mut Work<M>,
     nodes: &Nodes<M>,
@@ -23,6 +23,7 @@ pub fn prefix_set<M: May>(
     ensures keeps { Keeps work.old work.new }
     ensures set { IfOk result (λ r. SeatKnows work.new r.index (tree (chain prefix))) }
     ensures cause { IfErr result (IsCause nodes.now work.new) }
+    ensures room { IfErr result (IsWantOfRoom nodes.now work.new) }
 {
     let len = prefix.len();
     let network = prefix.network();

@@ -36,17 +36,20 @@ module _ (table : Bool → Bool → Bool) where
         | Greater ↦ joined w (with_node v low high m) (with_node v low high n)
       ]
 
+  -- two trees combined by a truth table
   abbrev pub combined : Tree → Tree → Tree
   combined never t = with_constant false t
   combined always t = with_constant true t
   combined (node v l h) t = with_node v (combined l) (combined h) t
 
--- the headers of both, of either, of the first alone
+-- the headers of both sets
 unfoldable pub and : Tree → Tree → Tree
 and s t = combined ◌&&◌ s t
 
+-- the headers of either set
 unfoldable pub or : Tree → Tree → Tree
 or s t = combined ◌||◌ s t
 
+-- the headers of the first set that aren't in the second
 unfoldable pub minus : Tree → Tree → Tree
 minus s t = combined and_not s t

@@ -15,12 +15,12 @@ with_bit true one v t = t
 with_bit false true v t = node v never t
 with_bit false false v t = node v t never
 
--- of the last so many bits, each whose wildcard bit is 0 is that of n
+-- the headers of which, of the last so many bits of a number, each whose wildcard bit is 0 is that of n
 unfoldable pub masked : ℕ → ℕ → ℕ → ℕ → Tree
 masked last zero wildcard n = always
 masked last (suc k) wildcard n = with_bit (is_set wildcard k) (is_set n k) (last - k) (masked last k wildcard n)
 
--- the number is n, which has no more bits
+-- the headers whose number is n, which has no more bits
 abbrev pub exact : ℕ → ℕ → ℕ → Tree
 exact last count n = if nat_lt n (2 ^ count) then masked last count 0 n else never
 
@@ -34,20 +34,21 @@ unfoldable pub under : ℕ → ℕ → ℕ → Tree → Tree
 under last zero n equal = equal
 under last (suc k) n equal = under_bit (is_set n k) (last - k) (under last k n equal)
 
--- the number is lower than n, or not higher: it always is where n has more bits
+-- the headers whose number is lower than n
 abbrev pub below : ℕ → ℕ → ℕ → Tree
 below last count n = if nat_lt n (2 ^ count) then under last count n never else always
 
+-- the headers whose number is at most n
 abbrev pub at_most : ℕ → ℕ → ℕ → Tree
 at_most last count n = if nat_lt n (2 ^ count) then under last count n always else always
 
 -- ---- destinations
 
--- the prefix's chain: those whose destination the prefix holds
+-- the headers whose destination a prefix holds
 abbrev pub chain : Cidr → Recipe
 chain p = given (exact (p.len - 1) p.len (leading_bits p.len p.network))
 
--- those to one address
+-- the headers to one address
 abbrev pub host : ℕ → Recipe
 host a = chain (prefix_at a 32)
 

@@ -7,21 +7,21 @@ use Rattle.rc_trees.specs.Trees.{Tree, never, same_tree, holds, is_node, IsAmong
 use Rattle.rc_trees.specs.Combine as trees
 use Rattle.rc_trees.specs.Parts.{subtrees}
 
--- a tree that is given; the headers of both, of either, of the first alone
+-- how a set is made of others: a tree that is given; the headers of both, of either, of the first alone
 pub data Recipe : Type 0 where
   given : Tree → Recipe
   and : Recipe → Recipe → Recipe
   or : Recipe → Recipe → Recipe
   minus : Recipe → Recipe → Recipe
 
--- the tree that it makes
+-- the tree that a recipe makes
 abbrev pub tree : Recipe → Tree
 tree (given t) = t
 tree (and r s) = trees.and (tree r) (tree s)
 tree (or r s) = trees.or (tree r) (tree s)
 tree (minus r s) = trees.minus (tree r) (tree s)
 
--- whether a header is in the set
+-- a header is in the set that a recipe makes
 abbrev pub has : Recipe → Header → Bool
 has r h = holds (tree r) h
 
@@ -32,14 +32,15 @@ IsOfReduced (and r s) = IsOfReduced r × IsOfReduced s
 IsOfReduced (or r s) = IsOfReduced r × IsOfReduced s
 IsOfReduced (minus r s) = IsOfReduced r × IsOfReduced s
 
--- what is made on the way: the subtrees of what is given, and those of the result of each operation (`parts_are_subtrees`)
+-- the trees that a recipe makes on the way: the subtrees of what is given, and those of the result of each operation
+-- (`parts_are_subtrees`)
 abbrev pub parts : Recipe → List Tree
 parts (given t) = subtrees t
 parts (and r s) = parts r ++ parts s ++ subtrees (tree (and r s))
 parts (or r s) = parts r ++ parts s ++ subtrees (tree (or r s))
 parts (minus r s) = parts r ++ parts s ++ subtrees (tree (minus r s))
 
--- the different nodes among these
+-- the different nodes among some trees
 unfoldable pub nodes : Recipe → List Tree
 nodes r = first_seen same_tree (filter is_node (parts r))
 

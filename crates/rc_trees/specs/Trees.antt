@@ -3,7 +3,8 @@ use Rattle.std.specs.Prelude.{◌≡◌, ◌≢◌, ℕ, ◌<◌, ◌==◌, Bool
 use Rattle.rc_base.specs.declared.header.Header.{Header}
 use Rattle.rc_trees.specs.Headers.{bit}
 
--- no header, every header, or a test of a bit with the tree for 0 (low) and the tree for 1 (high)
+-- a set of headers as a tree (Bryant 1986): no header, every header, or a test of a bit with the tree for 0 (low) and the tree for 1
+-- (high)
 pub data Tree : Type 0 where
   never : Tree
   always : Tree
@@ -15,7 +16,7 @@ value never bits = false
 value always bits = true
 value (node v low high) bits = if bits v then value high bits else value low bits
 
--- the tree holds the header
+-- a header is in the set of the tree
 abbrev pub holds : Tree → Header → Bool
 holds t h = value t (bit h)
 
@@ -27,12 +28,13 @@ top never = 104
 top always = 104
 top (node v low high) = v
 
--- bits rise from the top down, no test is idle, and both sides are reduced
+-- a tree in which bits rise from the top down and no test is idle; each set has one such tree
 abbrev pub IsReduced : Tree → Type 0
 IsReduced never = Unit {0}
 IsReduced always = Unit {0}
 IsReduced (node v low high) = (v < top low) × (v < top high) × (low ≢ high) × IsReduced low × IsReduced high
 
+-- two trees are one
 abbrev pub same_tree : Tree → Tree → Bool
 same_tree never never = true
 same_tree always always = true
@@ -47,11 +49,13 @@ is_node (node v low high) = true
 
 -- ---- the sides of a tree at a bit: where it doesn't test that one on top, it is its own side
 
+-- the tree for the headers in which a bit is 0
 abbrev pub low_side : ℕ → Tree → Tree
 low_side v never = never
 low_side v always = always
 low_side v (node w low high) = if v == w then low else node w low high
 
+-- the tree for the headers in which a bit is 1
 abbrev pub high_side : ℕ → Tree → Tree
 high_side v never = never
 high_side v always = always
@@ -63,6 +67,7 @@ first_of s t = min (top s) (top t)
 
 -- ---- lists of trees
 
+-- the tree is one of the list
 abbrev pub IsAmong : List Tree → Tree → Type 0
 IsAmong [] t = ⊥
 IsAmong (x ∷ xs) t = (x ≡ t) ⊎ IsAmong xs t

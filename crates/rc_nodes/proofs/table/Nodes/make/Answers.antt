@@ -1,5 +1,6 @@
-use Rattle.std.proofs.Common.{◌≡◌, ◌+◌, ◌<◌, ◌≤◌, ◌∙◌, ap, arith}
-use Rattle.rc_nodes.specs.Seats.{SeatKnows, TableView}
+use Rattle.std.proofs.Common.{◌≡◌, ◌≢◌, ℕ, ◌+◌, ◌<◌, ◌≤◌, ◌∙◌, refl, ap, subst, arith}
+use Rattle.rc_nodes.specs.Seats.{SawAll, SeatKnows, SeatView, TableView}
+use Rattle.rc_nodes.specs.Views.{Has}
 use Rattle.rc_nodes.specs.Words.{slot_at}
 use Rattle.rc_nodes.proofs.Probe.{known_small, knows_more, may_write, made, saw_all, next_slot, next_slot_in, passed_more}
 use Rattle.rc_nodes.proofs.Crowd.{crowded}
@@ -25,6 +26,9 @@ returns-then-try_slot-clause-made g c =
     c.requires.may (λ k x h. c.try_slot.ensures.grows k x (c.loop-step.invariant.grows k x h)) c.try_slot.ensures.seat.sound
     c.pack-word.ensures.var c.pack-word.ensures.lo c.pack-word.ensures.hi (c.try_slot.ensures.there c.if-try_slot.true)
 
+pub returns-then-try_slot-clause-word : goal.returns-then-try_slot-clause-word
+returns-then-try_slot-clause-word g c = (c.loop-step.at, refl, subst (Has c.try_slot.new.seat.view.seen c.loop-step.at) c.pack-word.ensures.word (c.try_slot.ensures.there c.if-try_slot.true))
+
 pub loop-step-preserved : goal.loop-step-preserved
 loop-step-preserved g c =
     let i = c.loop-step.invariant in
@@ -49,13 +53,22 @@ pub returns-clause-keeps : goal.returns-clause-keeps
 unfolding SeatKnows
 returns-clause-keeps g c = knows_more c.args.seat.now.view c.loop-step.seat.view c.loop-step.invariant.grows
 
+-- where each step passed, the whole path has words other than the one that is wanted
+saw_others : (nodes : TableView) (seat : SeatView) (x step : ℕ) → nodes.capacity ≤ step → ((j : ℕ) → j < step → (y : ℕ) × Has seat.view.seen (slot_at nodes.capacity x j) y × (y ≢ x)) → SawAll nodes seat x
+saw_others nodes seat x step done passed = saw_all nodes seat x (λ j lt. passed j (omega arith))
+
+pub returns-clause-saw : goal.returns-clause-saw
+returns-clause-saw g c =
+    let done : c.args.self.now.capacity ≤ c.loop-step.step = omega arith in
+    subst (SawAll c.args.self.now c.loop-step.seat) c.pack-word.ensures.word (saw_others c.args.self.now c.loop-step.seat c.pack-word.result c.loop-step.step done c.loop-step.invariant.passed)
+
 pub returns-clause-full : goal.returns-clause-full
 returns-clause-full g c =
     let i = c.loop-step.invariant in
     let done : c.args.self.now.capacity ≤ c.loop-step.step = omega arith in
     crowded c.args.self.now c.args.seat.now c.loop-step.seat c.pack-word.result c.args.var c.args.lo.index c.args.hi.index i.mine c.requires.may i.grows
     c.pack-word.ensures.fits c.pack-word.ensures.var c.pack-word.ensures.lo c.pack-word.ensures.hi
-    (saw_all c.args.self.now c.loop-step.seat c.pack-word.result (λ j lt. i.passed j (omega arith)))
+    (saw_others c.args.self.now c.loop-step.seat c.pack-word.result c.loop-step.step done i.passed)
 
 pub pack-word-requires-clause-lo : goal.pack-word-requires-clause-lo
 unfolding SeatKnows
