@@ -34,7 +34,7 @@ module _ (plane : DataPlane) (q : Pos) where
   towards t (Via g None) = []
   towards t (Via g (Some i)) = if port_is plane.links is_loopback i then [] else if takes plane.links i g t then leaving plane q (Via g (Some i)) i ∷ [] else []
 
-  -- the headers that move to a position
+  -- the headers that have a position among their moves at another one, joined over the hops of its router (RFC 1812 s.5.2)
   unfoldable pub edge : Pos → Recipe
   edge (Own r) = given never
   edge (Entering t) = union (flat_map (towards t) (hops_at plane q))

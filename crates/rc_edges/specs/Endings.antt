@@ -59,6 +59,7 @@ module _ (plane : DataPlane) (q : Pos) where
 
   -- ---- the headers that may end so
 
+  -- the headers that have an ending among their moves at a position, for each of the eight endings
   unfoldable pub end : Kind → Recipe
   end DeniedIn = minus (given always) (let_in plane.network q)
   end Accepted = and (let_in plane.network q) (to_router plane (router_of q))

@@ -31,11 +31,11 @@ module _ (plane : DataPlane) (place : Pos) where
   abbrev pub reaching_after : ℕ → Ends → Recipe
   reaching_after n ends = union (flat_map (λ q. map (λ k. and (reached n q) (end plane q k)) (kinds_of ends)) (positions plane.network))
 
-  -- and after as many rounds as there are positions
+  -- the headers that may end as asked after as many rounds as there are positions
   unfoldable pub reaching : Ends → Recipe
   reaching ends = reaching_after (length (positions plane.network)) ends
 
-  -- the trees that a query may make
+  -- the different trees that a query may make: its nodes
   unfoldable pub query_nodes : Ends → List Tree
   query_nodes ends = nodes (reaching ends)
 

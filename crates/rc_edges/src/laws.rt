@@ -35,7 +35,7 @@ pub fn a_result_is_what_reaches()
     ensures { (plane : DataPlane) (h : Header) (place : Pos) (ends : Ends) → IsPlane plane → IsHeader h → IsPosition plane.network place → (has (reaching plane place ends) h ≡ true) ↔ IsReaching plane h place ends }
 {}
 
-/// And it is a reduced tree.
+/// The result of a query is a reduced tree.
 pub fn a_result_is_reduced()
     ensures { (plane : DataPlane) (place : Pos) (ends : Ends) → IsPlane plane → IsReduced (tree (reaching plane place ends)) }
 {}

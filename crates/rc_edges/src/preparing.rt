@@ -66,7 +66,9 @@ pub fn prepare<R: Threads + Sync, M: May + Send + Sync>(
         places: &places,
         ends,
     };
-    let (seat, share) = by_workers(rt, alloc, nodes, seat, &sharing, 0, workers, &OpenGate);
+    let (seat, _passed, share) = by_workers(
+        rt, alloc, nodes, seat, &sharing, 0, workers, &OpenGate,
+    );
     match share {
         Ok(share) => (seat, Ok(share.prepared())),
         Err(error) => (seat, Err(error)),

@@ -1,6 +1,7 @@
 -- Shares of workers, and causes that stay.
-use Rattle.std.proofs.Common.{◌≡◌, ℕ, ◌*◌, ◌<◌, Result, Ok, Err, IfErr, arith}
-use Rattle.std.proofs.Math.Nat.{mul-div_cancel, zero-div}
+use Rattle.std.proofs.Common.{◌≡◌, ℕ, ◌*◌, ◌/◌, ◌<◌, ◌≤◌, Result, Ok, Err, IfErr, arith}
+use Rattle.std.proofs.Math.Nat.{mul-div_cancel, zero-div, div-mul-le_self, mul-le-mul_left}
+use Rattle.std.proofs.lemmas.Nat.{le-div}
 use Rattle.rc_nodes.specs.Seats.{TableView, SeatView, Keeps, IsFull}
 use Rattle.rc_bdd.specs.Work.{IsCause}
 use Rattle.rc_bdd.specs.declared.work.SetError.{SetError}
@@ -14,6 +15,12 @@ start-first count workers = let e : count * 0 ≡ 0 = omega arith in rw e (zero-
 
 pub start-last : (count workers : ℕ) → 0 < workers → share_start count workers workers ≡ count
 start-last count workers some = mul-div_cancel count some
+
+pub start-rises : (count workers a b : ℕ) → 0 < workers → a ≤ b → count * a / workers ≤ count * b / workers
+start-rises count workers a b some rises =
+    let front : count * a / workers * workers ≤ count * a = div-mul-le_self (count * a) workers in
+    let more : count * a ≤ count * b = mul-le-mul_left count rises in
+    le-div (count * a / workers) (count * b) workers some (omega (arith, front, more))
 
 -- ---- a cause
 

@@ -44,7 +44,7 @@ pub record KnowsFlows (seat : SeatView) (flows : List Flow) (through : List (ℕ
 pub record KnowsEdges (seat : SeatView) (into : List (List Flow)) (edge : ℕ → ℕ → Tree) : Type 0 where
   pub each : (q : ℕ) (d : List Flow) → q < length into → KnowsFlows seat (slice_index_or into q d) (real_edges_to edge (length into) q)
 
--- it knows the sets of a query: those edges, and the endings that some header may have
+-- a seat knows the sets of a query: the edges, and the endings that some header may have
 pub record IsPrepared (seat : SeatView) (edge : ℕ → ℕ → Tree) (ends : ℕ → List Tree) (count : ℕ) (prepared : Prepared) : Type 0 where
   pub as_many : length prepared.into ≡ count
   pub edges : KnowsEdges seat prepared.into edge

@@ -10,7 +10,7 @@ pub record CountsFault {E : Type 0} (before now : ℕ) (result : Result (Unit {0
   pub later : before ≤ now
   pub cause : OnErr result (Rose before now)
 
--- The text is put whole, or, where the call errs, a front of it.
+-- What every call that puts a text does: the text is put whole, or, where the call errs, a front of it is, and the count of faults rose.
 pub record IsPut {S : Type 0} (sink : Ghosts S) {E : Type 0} (old new : S) (result : Result (Unit {0}) E) (text : List ℕ) : Type 0 where
   pub ok : OnOk result (sink.told new ≡ appended (sink.told old) text)
   pub err : OnErr result (AppendsFront (sink.told old) (sink.told new) text)

@@ -5,7 +5,7 @@ use Rattle.std.specs.List.Sorted.{IsStrictlySortedBy}
 use Rattle.std.proofs.lemmas.List.Elements.{All-map}
 use Rattle.rc_base.specs.Prefix.{Cidr, prefix_cmp}
 use Rattle.rc_base.proofs.OrderedLaws.{in_order-sorted, prefix_cmp_total}
-use Rattle.rc_bgp.specs.Sessions.{sessions}
+use Rattle.rc_bgp.specs.Sessions.{configured_sessions}
 use Rattle.rc_bgp_session.specs.declared.session.Session.{Session}
 use Rattle.rc_config.specs.Lawful.{IsLawful}
 use Rattle.rc_config.specs.Members.{router_ids}
@@ -14,7 +14,7 @@ use Rattle.rc_external.specs.Externals.{externals, IsByPrefix}
 use Rattle.rc_external.specs.declared.as_external.ExternalRow.{ExternalRow}
 use Rattle.rc_ospf.specs.Internal.{IsInternal}
 use Rattle.rc_ospf.specs.Adverts.{adverts_of}
-use Rattle.rc_ospf.specs.Interfaces.{interfaces_at}
+use Rattle.rc_ospf_interfaces.specs.Interfaces.{interfaces_at}
 use Rattle.rc_ospf.specs.Routes.{advert_prefix, own_prefixes}
 use Rattle.rc_ospf.specs.declared.model.Internal.{Internal}
 use Rattle.rc_route.specs.Tables.{IsStateOf, IsTable}
@@ -53,7 +53,7 @@ module _ (i : Inputs) (net : Network) (internal : Internal) (all : List (List Se
     state = subst (λ (n : Network). IsStateOf (length n.routers) i.previous.now) (sym same_net) (subst (IsStateOf (length net.routers)) (sym same_state) ordered);
     routes = subst (λ (x : Internal). All IsTable x.routes) (sym same_internal) s.routes;
     own = subst (λ (x : Internal). All (IsStrictlySortedBy prefix_cmp) x.own) (sym same_internal) s.own;
-    sessions = same_sessions ∙ s.sessions ∙ sym (λ k. sessions (same_net k) (same_internal k).links);
+    sessions = same_sessions ∙ s.sessions ∙ sym (λ k. configured_sessions (same_net k) (same_internal k).links);
     externals = same_rows ∙ made ∙ sym (λ k. externals (same_net k) (same_state k));
     by_prefix = subst IsByPrefix (sym same_rows) by_prefix;
     earlier = earlier_read earlier;

@@ -4,7 +4,7 @@ use Rattle.std.specs.List.{flat_map}
 use Rattle.std.specs.Option.{option_map_or}
 use Rattle.rc_bgp.specs.Candidates.{best_paths}
 use Rattle.rc_bgp.specs.Known.{table_of}
-use Rattle.rc_bgp.specs.Sessions.{sessions, sessions_from}
+use Rattle.rc_bgp.specs.Sessions.{configured_sessions, sessions_from}
 use Rattle.rc_bgp.specs.Speakers.{silent, speaker_at, speaker_of, speakers}
 use Rattle.rc_bgp_session.specs.declared.session.Session.{Session}
 use Rattle.rc_bgp.specs.declared.speaker.Speaker.{Speaker}
@@ -14,7 +14,7 @@ use Rattle.rc_config.specs.declared.router_text.RouterText.{RouterText}
 use Rattle.rc_external.specs.Externals.{externals}
 use Rattle.rc_ospf.specs.Adjacency.{adjacencies}
 use Rattle.rc_ospf.specs.Areas.{AreOspfRouters}
-use Rattle.rc_ospf.specs.Interfaces.{interfaces_at, interfaces_of, ospf_interfaces}
+use Rattle.rc_ospf_interfaces.specs.Interfaces.{interfaces_at, interfaces_of, ospf_interfaces}
 use Rattle.rc_ospf.specs.Internal.{IsInternal, steps_of}
 use Rattle.rc_ospf.specs.declared.model.Internal.{Internal}
 use Rattle.rc_rib.specs.Next.{learned_routes, next_state, ospf_routes, table_after}
@@ -59,11 +59,11 @@ module _ (net : Network) (none_speaks : AreSilent net) where
   none_to links to [] = refl
   none_to links to (r ∷ rs) = rw (no_locals r) (none_to links to rs)
 
-  no_sessions : (links : Topology) → sessions net links ≡ map (λ (to : Speaker). []) (speakers net)
-  unfolding sessions speakers
+  no_sessions : (links : Topology) → configured_sessions net links ≡ map (λ (to : Speaker). []) (speakers net)
+  unfolding configured_sessions speakers
   no_sessions links = λ k. map (λ to. none_to links to (router_ids net) k) (speakers net)
 
-  same_sessions : (these those : Topology) → sessions net these ≡ sessions net those
+  same_sessions : (these those : Topology) → configured_sessions net these ≡ configured_sessions net those
   same_sessions these those = no_sessions these ∙ sym (no_sessions those)
 
   -- ---- so rounds are the same with other links

@@ -44,7 +44,7 @@ EndsAs net internal limit (Repeats i k) =
     (1 ≤ k) × (k ≤ limit) × GoesOnBelow net internal k × (i ≡ checkpoint k) × (state_after net internal k ≢ state_after net internal (k - 1)) × (state_after net internal k ≡ state_after net internal i)
 EndsAs net internal limit (Limit n) = (n ≡ limit) × GoesOnBelow net internal (limit + 1)
 
--- how the rounds of a network end, beside what OSPF gives by its configurations and links alone
+-- how the rounds of a network end within a limit: at a fixed point, at a state that was there before, or at the limit
 pub record IsOutcome (net : Network) (limit : ℕ) (outcome : Outcome) : Type 0 where
   pub internal : Internal
   pub links : internal.links ≡ links_of net

@@ -1,5 +1,5 @@
 //! What the workers of a round read beside states, and what a round makes.
-use rc_bgp::{Changes, Sessions};
+use rc_bgp::{Changes, ConfiguredSessions};
 use rc_config::Network;
 use rc_external::Externals;
 use rc_ospf::Internal;
@@ -10,7 +10,7 @@ use rc_route::State;
 pub(crate) struct Setting<'a> {
     pub(crate) network: &'a Network,
     pub(crate) internal: &'a Internal,
-    pub(crate) sessions: &'a Sessions,
+    pub(crate) sessions: &'a ConfiguredSessions,
     pub(crate) externals: &'a Externals,
     /// Whether there was a round earlier yet.
     pub(crate) has_earlier: bool,

@@ -3,6 +3,7 @@ ghost use Rattle.std.specs.Prelude.{◌≡◌, ◌+◌, ◌≤◌, ◌<◌, ◌�
 ghost use Rattle.rc_bgp.specs.Changes.{AreChanges};
 ghost use Rattle.rc_config.specs.declared.network.Network.{Network as NetworkModel};
 ghost use Rattle.rc_rib.specs.Next as rib;
+ghost use Rattle.rc_outside.specs.Gate.{passage};
 ghost use Rattle.rc_ospf.specs.declared.model.Internal.{Internal as InternalModel};
 ghost use Rattle.rc_route.specs.Tables.{IsStateOf};
 ghost use Rattle.rc_rounds.specs.Progress.{IsProgress, IsPowerBelow, IsSame, checkpoint_state};
@@ -12,13 +13,12 @@ ghost use Rattle.rc_rounds.specs.Setting.{IsSetting};
 use crate::Outcome;
 use crate::parts::{Round, Setting};
 use crate::round::{empty_state, next_state};
-use crate::shares::pass_all;
 use rc_base::Items;
-use rc_bgp::{Changes, Sessions};
+use rc_bgp::{Changes, ConfiguredSessions};
 use rc_config::Network;
 use rc_external::externals;
 use rc_ospf::Internal;
-use rc_outside::Gate;
+use rc_outside::{Gate, Passed};
 use rc_route::{State, equal};
 use std::alloc::{AllocError, Global};
 use std::thread::Threads;
@@ -136,26 +136,27 @@ impl Progress {
         Same::Neither
     }
 
-    /// What the next round makes, whose number is the phase of its workers at the gate; nothing where it changes nothing, as can be told
-    /// without making it.
+    /// What the next round makes; nothing where it changes nothing, as can be told without making it. Its number is the phase in which all
+    /// its workers have passed the gate.
     pub fn next<R: Threads + Sync, G: Gate>(
         &self,
         rt: &R,
         alloc: Global,
         net: &Network,
         internal: &Internal,
-        sessions: &Sessions,
+        sessions: &ConfiguredSessions,
         workers: u32,
         gate: &G,
-    ) -> Result<Option<Round>, AllocError>
+    ) -> Result<(Passed, Option<Round>), AllocError>
         requires setting { IsSetting net.now internal.now sessions.now }
         requires made { IsProgress net.now internal.now self.now }
         requires few { self.now.done < 100000 }
         requires some_workers { 1 ≤ workers }
         requires few_workers { workers ≤ 64 }
-        ensures value { IfOk result (λ o. MatchOption o (rib.next_state net.now internal.now self.now.last ≡ self.now.last) (λ r. r.state ≡ rib.next_state net.now internal.now self.now.last)) }
-        ensures in_order { IfOk result (λ o. IfSome o (λ r. IsStateOf (length net.now.routers) r.state)) }
-        ensures changes { IfOk result (λ o. IfSome o (λ r. AreChanges r.changes self.now.last r.state)) }
+        ensures passed { IfOk result (λ p. p.0 ≡ passage (self.now.done + 1) 0 workers) }
+        ensures value { IfOk result (λ p. MatchOption p.1 (rib.next_state net.now internal.now self.now.last ≡ self.now.last) (λ r. r.state ≡ rib.next_state net.now internal.now self.now.last)) }
+        ensures in_order { IfOk result (λ p. IfSome p.1 (λ r. IsStateOf (length net.now.routers) r.state)) }
+        ensures changes { IfOk result (λ p. IfSome p.1 (λ r. AreChanges r.changes self.now.last r.state)) }
     {
         let externals = externals(alloc, net, &self.last)?;
         let setting = Setting {
@@ -168,10 +169,9 @@ impl Progress {
         };
         let phase = self.done + 1;
         if setting.is_settled(&self.last, &self.before) {
-            let _passed = pass_all(gate, phase, 0, workers);
-            return Ok(None);
+            return Ok((Passed::in_turn(gate, phase, 0, workers), None));
         }
-        let round = next_state(
+        let (passed, round) = next_state(
             rt,
             alloc,
             &setting,
@@ -180,8 +180,8 @@ impl Progress {
             workers,
             phase,
             gate,
-        )?;
-        Ok(Some(round))
+        );
+        Ok((passed, Some(round?)))
     }
 
     /// The last state, at which the next round changes nothing.

@@ -4,6 +4,7 @@ ghost use Rattle.rc_bgp.specs.Changes.{AreChanges};
 ghost use Rattle.rc_route.specs.Tables.{IsStateOf};
 ghost use Rattle.rc_rib.specs.Next as rib;
 ghost use Rattle.rc_rib.specs.declared.made.Made.{Made as MadeModel};
+ghost use Rattle.rc_outside.specs.Gate.{passage};
 ghost use Rattle.rc_rounds.specs.Rounds.{empty_state};
 ghost use Rattle.rc_rounds.specs.Parts.{AreRead};
 
@@ -11,7 +12,7 @@ use crate::parts::{Round, Setting};
 use crate::shares::next_shares;
 use rc_base::Items;
 use rc_config::Network;
-use rc_outside::Gate;
+use rc_outside::{Gate, Passed};
 use rc_rib::Made;
 use rc_route::{RouterState, State};
 use std::alloc::{AllocError, Global};
@@ -52,7 +53,8 @@ fn put_together(alloc: Global, all: Vec<Made>) -> Result<Round, AllocError>
 
 /// The state after a round in which all routers read the same states, and what changed from the one that they read.
 ///
-/// Workers share the routers and work at once. Each worker passes the gate before its work, also where its share is empty.
+/// Workers share the routers and work at once. Each worker passes the gate before its work, also where its share is empty; in every
+/// outcome all have passed.
 pub(crate) fn next_state<R: Threads + Sync, G: Gate>(
     rt: &R,
     alloc: Global,
@@ -62,15 +64,23 @@ pub(crate) fn next_state<R: Threads + Sync, G: Gate>(
     workers: u32,
     phase: u32,
     gate: &G,
-) -> Result<Round, AllocError>
+) -> (Passed, Result<Round, AllocError>)
     requires read { AreRead setting.now read.now earlier.now }
     requires some_workers { 1 ≤ workers }
     requires few_workers { workers ≤ 64 }
-    ensures value { IfOk result (λ r. r.state ≡ rib.next_state setting.now.network.now setting.now.internal.now read.now) }
-    ensures in_order { IfOk result (λ r. IsStateOf (length setting.now.network.now.routers) r.state) }
-    ensures changes { IfOk result (λ r. AreChanges r.changes read.now r.state) }
+    ensures passed { result.0 ≡ passage phase 0 workers }
+    ensures value { IfOk result.1 (λ r. r.state ≡ rib.next_state setting.now.network.now setting.now.internal.now read.now) }
+    ensures in_order { IfOk result.1 (λ r. IsStateOf (length setting.now.network.now.routers) r.state) }
+    ensures changes { IfOk result.1 (λ r. AreChanges r.changes read.now r.state) }
 {
-    let all = next_shares(rt, alloc, setting, read, earlier, workers, phase, gate)?;
-    let round = put_together(alloc, all)?;
-    Ok(round)
+    let (passed, all) = next_shares(rt, alloc, setting, read, earlier, workers, phase, gate);
+    let all = match all {
+        Ok(all) => all,
+        Err(error) => return (passed, Err(error)),
+    };
+    let round = match put_together(alloc, all) {
+        Ok(round) => round,
+        Err(error) => return (passed, Err(error)),
+    };
+    (passed, Ok(round))
 }

@@ -13,7 +13,7 @@ use crate::leaving::drop_state;
 use crate::parts::Round;
 use crate::progress::{Progress, Same};
 use crate::silent::links_asked;
-use rc_bgp::{Sessions, sessions};
+use rc_bgp::{ConfiguredSessions, configured_sessions};
 use rc_config::Network;
 use rc_ospf::{Internal, internal};
 use rc_outside::Gate;
@@ -41,7 +41,7 @@ pub fn run_rounds<R: Threads + Sync + AllocGlobal, G: Gate>(
     ensures in_order { IfOk result (IsInOrder (length net.now.routers)) }
 {
     let internal = internal_of(rt, rt.alloc(), net, workers)?;
-    let sessions = sessions(rt.alloc(), net, &internal.links)?;
+    let sessions = configured_sessions(rt.alloc(), net, &internal.links)?;
     rounds_within(
         rt,
         rt.alloc(),
@@ -76,7 +76,7 @@ fn rounds_within<R: Threads + Sync, G: Gate>(
     alloc: Global,
     net: &Network,
     internal: &Internal,
-    sessions: &Sessions,
+    sessions: &ConfiguredSessions,
     limit: u32,
     workers: u32,
     gate: &G,
@@ -90,7 +90,7 @@ fn rounds_within<R: Threads + Sync, G: Gate>(
 {
     let mut progress = Progress::start(alloc, net)?;
     for done in 0..limit {
-        let round = progress.next(rt, alloc, net, internal, sessions, workers, gate)?;
+        let (_passed, round) = progress.next(rt, alloc, net, internal, sessions, workers, gate)?;
         let Some(round) = round else {
             return Ok(progress.fixed());
         };

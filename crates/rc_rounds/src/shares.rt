@@ -9,29 +9,18 @@ ghost use Rattle.std.specs.Thread.{IsSync};
 ghost use Rattle.rc_rib.specs.Inputs.{AreInputs};
 ghost use Rattle.rc_rib.specs.Next.{next_state};
 ghost use Rattle.rc_rounds.specs.Parts.{AreRead, IsReady};
+ghost use Rattle.rc_outside.specs.Gate.{passage};
 ghost use Rattle.rc_outside.specs.Shares.{share_start};
 ghost use Rattle.rc_rounds.specs.Shares.{IsMade, IsShare, IsStretch};
 
 use crate::parts::Setting;
 use rc_base::RouterId;
 use rc_bgp::Changes;
-use rc_outside::Gate;
+use rc_outside::{Gate, Passed};
 use rc_rib::{Earlier, Inputs, Made, is_settled, table};
 use rc_route::State;
 use std::alloc::{AllocError, Global};
 use std::thread::{Threads, join};
-
-/// That workers have passed the gate: a share is worked by who can show this.
-#[derive(Drop)]
-pub(crate) struct Passed;
-
-/// The workers from one up to another pass the gate.
-pub(crate) fn pass_all<G: Gate>(gate: &G, phase: u32, first: u32, last: u32) -> Passed {
-    for worker in first..last {
-        gate.pass(phase, worker);
-    }
-    Passed
-}
 
 /// What the routers from one index up to another know after a round in which all read these inputs.
 fn share_of(
@@ -87,7 +76,6 @@ pub(crate) trait Makes<B>: Sync {
         &self,
         read: &B,
         earlier: &B,
-        passed: Passed,
         alloc: Global,
         from: usize,
         to: usize,
@@ -137,7 +125,6 @@ impl<'a> Makes<State> for Setting<'a> {
         &self,
         read: &State,
         earlier: &State,
-        _passed: Passed,
         alloc: Global,
         from: usize,
         to: usize,
@@ -177,6 +164,27 @@ fn appended(mut left: Vec<Made>, mut right: Vec<Made>) -> Result<Vec<Made>, Allo
     Ok(left)
 }
 
+/// What the routers of workers who have passed the gate know then.
+fn share_behind<W: Makes<B>, B: Sync>(
+    alloc: Global,
+    round: &W,
+    read: &B,
+    earlier: &B,
+    workers: u32,
+    passed: &Passed,
+) -> Result<Vec<Made>, AllocError>
+    requires ready { W.ready round.now read.now earlier.now }
+    requires few { W.count round.now ≤ 512 }
+    requires end { passed.now.last ≤ workers }
+    requires few_workers { workers ≤ 64 }
+    ensures { IfOk result (λ s. IsShare (W.makes round.now read.now) (W.count round.now) workers passed.now.first passed.now.last s.items) }
+{
+    let routers = round.routers();
+    let from = share_start(routers, workers, passed.first());
+    let to = share_start(routers, workers, passed.last());
+    round.share(read, earlier, alloc, from, to)
+}
+
 /// What the routers of the workers from `first` up to `last` know then. Each of the workers passes the gate before its work.
 fn work<R: Threads + Sync, W: Makes<B>, B: Sync, G: Gate>(
     rt: &R,
@@ -189,47 +197,56 @@ fn work<R: Threads + Sync, W: Makes<B>, B: Sync, G: Gate>(
     last: u32,
     phase: u32,
     gate: &G,
-) -> Result<Vec<Made>, AllocError>
+) -> (Passed, Result<Vec<Made>, AllocError>)
     requires ready { W.ready round.now read.now earlier.now }
     requires few { W.count round.now ≤ 512 }
     requires some { first < last }
     requires end { last ≤ workers }
     requires few_workers { workers ≤ 64 }
-    ensures { IfOk result (λ s. IsShare (W.makes round.now read.now) (W.count round.now) workers first last s.items) }
+    ensures passed { result.0 ≡ passage phase first last }
+    ensures share { IfOk result.1 (λ s. IsShare (W.makes round.now read.now) (W.count round.now) workers first last s.items) }
 {
     let routers = round.routers();
     let from = share_start(routers, workers, first);
     let to = share_start(routers, workers, last);
     if last - first == 1 || to - from <= 1 {
-        let passed = pass_all(gate, phase, first, last);
-        return round.share(read, earlier, passed, alloc, from, to);
+        let passed = Passed::in_turn(gate, phase, first, last);
+        let made = share_behind(alloc, round, read, earlier, workers, &passed);
+        return (passed, made);
     }
     let middle = first + (last - first) / 2;
-    let (left, right) = join(
+    let ((passed, left), (behind, right)) = join(
         rt,
-        || -> Result<Vec<Made>, AllocError>
+        || -> (Passed, Result<Vec<Made>, AllocError>)
             requires { IsSync R.row × IsSync W.row × IsSync B.row × W.ready round.now read.now earlier.now × (W.count round.now ≤ 512) × (workers ≤ 64) × (first < middle) × (middle ≤ workers) }
-            ensures { IfOk result (λ s. IsShare (W.makes round.entry.now read.entry.now) (W.count round.entry.now) workers first middle s.items) }
+            ensures { (result.0 ≡ passage phase first middle) × IfOk result.1 (λ s. IsShare (W.makes round.entry.now read.entry.now) (W.count round.entry.now) workers first middle s.items) }
         {
             work(
                 rt, alloc, round, read, earlier, workers, first, middle, phase, gate,
             )
         },
-        || -> Result<Vec<Made>, AllocError>
+        || -> (Passed, Result<Vec<Made>, AllocError>)
             requires { IsSync R.row × IsSync W.row × IsSync B.row × W.ready round.now read.now earlier.now × (W.count round.now ≤ 512) × (workers ≤ 64) × (middle < last) × (last ≤ workers) }
-            ensures { IfOk result (λ s. IsShare (W.makes round.entry.now read.entry.now) (W.count round.entry.now) workers middle last s.items) }
+            ensures { (result.0 ≡ passage phase middle last) × IfOk result.1 (λ s. IsShare (W.makes round.entry.now read.entry.now) (W.count round.entry.now) workers middle last s.items) }
         {
             work(
                 rt, alloc, round, read, earlier, workers, middle, last, phase, gate,
             )
         },
     );
-    let left = left?;
-    let right = right?;
-    appended(left, right)
+    let passed = passed.and(behind);
+    let left = match left {
+        Ok(left) => left,
+        Err(error) => return (passed, Err(error)),
+    };
+    let right = match right {
+        Ok(right) => right,
+        Err(error) => return (passed, Err(error)),
+    };
+    (passed, appended(left, right))
 }
 
-/// What all routers know then.
+/// What all routers know then, and that all workers have passed the gate.
 pub(crate) fn all_shares<R: Threads + Sync, W: Makes<B>, B: Sync, G: Gate>(
     rt: &R,
     alloc: Global,
@@ -239,19 +256,20 @@ pub(crate) fn all_shares<R: Threads + Sync, W: Makes<B>, B: Sync, G: Gate>(
     workers: u32,
     phase: u32,
     gate: &G,
-) -> Result<Vec<Made>, AllocError>
+) -> (Passed, Result<Vec<Made>, AllocError>)
     requires ready { W.ready round.now read.now earlier.now }
     requires few { W.count round.now ≤ 512 }
     requires some_workers { 1 ≤ workers }
     requires few_workers { workers ≤ 64 }
-    ensures { IfOk result (λ s. IsStretch (W.makes round.now read.now) 0 (W.count round.now) s.items) }
+    ensures passed { result.0 ≡ passage phase 0 workers }
+    ensures stretch { IfOk result.1 (λ s. IsStretch (W.makes round.now read.now) 0 (W.count round.now) s.items) }
 {
     work(
         rt, alloc, round, read, earlier, workers, 0, workers, phase, gate,
     )
 }
 
-/// What all routers know after a round in which all read these states.
+/// What all routers know after a round in which all read these states, and that all workers have passed the gate.
 pub(crate) fn next_shares<R: Threads + Sync, G: Gate>(
     rt: &R,
     alloc: Global,
@@ -261,12 +279,13 @@ pub(crate) fn next_shares<R: Threads + Sync, G: Gate>(
     workers: u32,
     phase: u32,
     gate: &G,
-) -> Result<Vec<Made>, AllocError>
+) -> (Passed, Result<Vec<Made>, AllocError>)
     requires ready { IsReady setting.now read.now earlier.now }
     requires few { length setting.now.network.now.routers ≤ 512 }
     requires some_workers { 1 ≤ workers }
     requires few_workers { workers ≤ 64 }
-    ensures { IfOk result (λ s. IsStretch (IsMade setting.now.network.now setting.now.internal.now read.now) 0 (length setting.now.network.now.routers) s.items) }
+    ensures passed { result.0 ≡ passage phase 0 workers }
+    ensures stretch { IfOk result.1 (λ s. IsStretch (IsMade setting.now.network.now setting.now.internal.now read.now) 0 (length setting.now.network.now.routers) s.items) }
 {
     all_shares(rt, alloc, setting, read, earlier, workers, phase, gate)
 }

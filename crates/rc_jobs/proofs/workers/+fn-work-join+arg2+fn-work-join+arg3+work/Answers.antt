@@ -17,17 +17,17 @@ returns-clause-made g t c =
     let mine = c.join-mine.result.0.0 in
     let theirs = c.join-mine.result.1.0 in
     let seat = c.join.new.seat in
-    let left : IfOk c.join-mine.result.0.1 (g.J.Job.knows job mine a b) = search rules in
-    let right : IfOk c.join-mine.result.1.1 (g.J.Job.knows job theirs b d) = search rules in
+    let left : IfOk c.join-mine.result.0.2 (g.J.Job.knows job mine a b) = search rules in
+    let right : IfOk c.join-mine.result.1.2 (g.J.Job.knows job theirs b d) = search rules in
     c.both.ensures.made seat a b d
-    (IfOk-weaker c.join-mine.result.0.1 (g.J.Job.knows job mine a b) (g.J.Job.knows job seat a b) (λ share known. laws.stays_known job mine seat a b share c.join.ensures.keeps known) left)
-    (IfOk-weaker c.join-mine.result.1.1 (g.J.Job.knows job theirs b d) (g.J.Job.knows job seat b d) (λ share known. laws.stays_known job theirs seat b d share c.join.ensures.gains known) right)
+    (IfOk-weaker c.join-mine.result.0.2 (g.J.Job.knows job mine a b) (g.J.Job.knows job seat a b) (λ share known. laws.stays_known job mine seat a b share c.join.ensures.keeps known) left)
+    (IfOk-weaker c.join-mine.result.1.2 (g.J.Job.knows job theirs b d) (g.J.Job.knows job seat b d) (λ share known. laws.stays_known job theirs seat b d share c.join.ensures.gains known) right)
 
 pub returns-clause-cause : goal.returns-clause-cause
 returns-clause-cause g t c =
     let nodes = c.args.nodes.now in
     let mine = c.join-mine.result.0.0 in
     let theirs = c.join-mine.result.1.0 in
-    let left : IfErr c.join-mine.result.0.1 (IsCause nodes mine) = search rules in
-    let right : IfErr c.join-mine.result.1.1 (IsCause nodes theirs) = search rules in
-    c.both.ensures.cause nodes c.join.new.seat (cause_kept nodes mine c.join.new.seat c.join.ensures.keeps c.join-mine.result.0.1 left) (cause_kept nodes theirs c.join.new.seat c.join.ensures.gains c.join-mine.result.1.1 right)
+    let left : IfErr c.join-mine.result.0.2 (IsCause nodes mine) = search rules in
+    let right : IfErr c.join-mine.result.1.2 (IsCause nodes theirs) = search rules in
+    c.both.ensures.cause nodes c.join.new.seat (cause_kept nodes mine c.join.new.seat c.join.ensures.keeps c.join-mine.result.0.2 left) (cause_kept nodes theirs c.join.new.seat c.join.ensures.gains c.join-mine.result.1.2 right)

@@ -20,7 +20,7 @@ returns-in-Checkpoint-clause-outcome g c =
     let p = c.loop-done.progress in
     let same = c.in-Checkpoint.ensures in
     let next = next_state net internal p.last in
-    let made : c.in-Some.round.state ≡ next = subst (λ o. MatchOption o (next ≡ p.last) (λ (r : Round). r.state ≡ next)) c.in-Some.is c.in_ok-round.ensures.value in
+    let made : c.in-Some.round.state ≡ next = subst (λ o. MatchOption o (next ≡ p.last) (λ (r : Round). r.state ≡ next)) c.in-Some.is c.in_ok-_passed.ensures.value in
     repeats net internal p c.loop-done.invariant.made c.in-Some.round.state made same.0 same.1 c.args.limit (c.loop-done.done + 1) (ap (λ n. n + 1) (sym c.loop-done.invariant.at)) (omega arith)
 
 pub loop-done-preserved : goal.loop-done-preserved
@@ -30,9 +30,9 @@ loop-done-preserved g c =
     let p = c.loop-done.progress in
     let at = c.loop-done.invariant.made in
     let next = next_state net internal p.last in
-    let made : c.in-Some.round.state ≡ next = subst (λ o. MatchOption o (next ≡ p.last) (λ (r : Round). r.state ≡ next)) c.in-Some.is c.in_ok-round.ensures.value in
-    let in_order : IsStateOf (length net.routers) c.in-Some.round.state = subst (λ o. IfSome o (λ (r : Round). IsStateOf (length net.routers) r.state)) c.in-Some.is c.in_ok-round.ensures.in_order in
-    let changes : AreChanges c.in-Some.round.changes p.last c.in-Some.round.state = subst (λ o. IfSome o (λ (r : Round). AreChanges r.changes p.last r.state)) c.in-Some.is c.in_ok-round.ensures.changes in
+    let made : c.in-Some.round.state ≡ next = subst (λ o. MatchOption o (next ≡ p.last) (λ (r : Round). r.state ≡ next)) c.in-Some.is c.in_ok-_passed.ensures.value in
+    let in_order : IsStateOf (length net.routers) c.in-Some.round.state = subst (λ o. IfSome o (λ (r : Round). IsStateOf (length net.routers) r.state)) c.in-Some.is c.in_ok-_passed.ensures.in_order in
+    let changes : AreChanges c.in-Some.round.changes p.last c.in-Some.round.state = subst (λ o. IfSome o (λ (r : Round). AreChanges r.changes p.last r.state)) c.in-Some.is c.in_ok-_passed.ensures.changes in
     let neither = c.in-Neither.ensures in
     record {
       at = c.after-further.ensures.done ∙ ap (λ n. n + 1) c.loop-done.invariant.at;

@@ -14,8 +14,8 @@ is_settled-requires g c = record {
   earlier = λ has. last_is_next c.args.net.now c.args.internal.now c.args.self.now c.requires.made (ltb-true 0 c.args.self.now.done has);
 }
 
-pub next_state-requires-clause-read : goal.next_state-requires-clause-read
-next_state-requires-clause-read g c κs within = record {
+pub next_state-passed-requires-clause-read : goal.next_state-passed-requires-clause-read
+next_state-passed-requires-clause-read g c κs within = record {
   setting = c.requires.setting;
   state = c.requires.made.in_order;
   externals = c.in_ok-externals.ensures.value;
