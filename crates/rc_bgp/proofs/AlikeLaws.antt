@@ -20,7 +20,7 @@ use Rattle.rc_bgp.specs.Changes.{AreChanges, AreMended, CoversChange, IsHeardAli
 use Rattle.rc_bgp.specs.Known.{path_at, paths_of, table_of}
 use Rattle.rc_bgp.specs.Mending.{mended}
 use Rattle.rc_bgp.specs.Own.{own_paths}
-use Rattle.rc_bgp_session.specs.Passing.{as_received, as_sent, default_path, export, exported, import, imported, is_withheld, mapped, next_hop_over, originated_default, passes_list, with_med}
+use Rattle.rc_bgp_session.specs.Passing.{as_received, as_sent, default_path, export, exported, import, imported, is_withheld, mapped_path, next_hop_over, originated_default, passes_list, with_med}
 use Rattle.rc_bgp.specs.Reaching.{metric_to}
 use Rattle.rc_bgp.specs.Sessions.{is_up, sessions_of, up_sessions}
 use Rattle.rc_bgp_session.specs.declared.session.Session.{Session}
@@ -44,7 +44,7 @@ sender_hop s is n x = ap (λ b. cond (b || n.next_hop_self || is_originated x.so
 exported_hop : (s : Session) → s.is_external ≡ true → (x : BgpPath) (file : RouterText) (asn : ℕ) (n : Neighbor) → Has hop_of s.sender_address (exported file asn n s x)
 exported_hop s is x file asn n =
     either_has hop_of s.sender_address (is_withheld s x) None _ (none_has hop_of s.sender_address)
-    (either_has hop_of s.sender_address (not (passes_list file n.list_out x.prefix)) None _ (none_has hop_of s.sender_address) (sent (mapped file n.map_out (with_med s x))))
+    (either_has hop_of s.sender_address (not (passes_list file n.list_out x.prefix)) None _ (none_has hop_of s.sender_address) (sent (mapped_path file n.map_out (with_med s x))))
   where
     sent : (o : Option BgpPath) → Has hop_of s.sender_address (option_map (as_sent asn s n) o)
     sent None = none_has hop_of s.sender_address
@@ -54,7 +54,7 @@ imported_hop : (a : ℕ) (s : Session) (x : BgpPath) → x.next_hop ≡ a → (f
 imported_hop a s x is file asn n =
     either_has hop_of a _ None _ (none_has hop_of a)
     (either_has hop_of a (not (passes_list file n.list_in x.prefix)) None _ (none_has hop_of a)
-    (mapped_has hop_of a (as_received s) (λ y. refl) (mapped file n.map_in (record x { weight = n.weight })) (map_has hop_of (λ y b. refl) a file n.map_in (record x { weight = n.weight }) is)))
+    (mapped_has hop_of a (as_received s) (λ y. refl) (mapped_path file n.map_in (record x { weight = n.weight })) (map_has hop_of (λ y b. refl) a file n.map_in (record x { weight = n.weight }) is)))
 
 module _ (net : Network) (s : Session) (external : s.is_external ≡ true) where
   abbrev offered : Cidr → Option BgpPath → Option BgpPath

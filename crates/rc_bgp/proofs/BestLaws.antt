@@ -26,7 +26,7 @@ use Rattle.rc_topology.proofs.ListLaws.{all_append, found_passes}
 use Rattle.rc_bgp.specs.Known.{path_at, paths_of, route_at}
 use Rattle.rc_bgp.specs.Originating.{by_network, by_networks, from_route, is_bgp, originated}
 use Rattle.rc_bgp.specs.Redistributing.{med_of, redistributed, redistributed_paths, takes}
-use Rattle.rc_bgp_session.specs.Passing.{as_sent, as_received, default_path, exported, export, imported, import, is_withheld, mapped, originated_default, passes_list, with_med}
+use Rattle.rc_bgp_session.specs.Passing.{as_sent, as_received, default_path, exported, export, imported, import, is_withheld, mapped_path, originated_default, passes_list, with_med}
 use Rattle.rc_bgp.specs.Reaching.{metric_to}
 use Rattle.rc_bgp.specs.Candidates.{advertised, advertised_best, advertised_default, best_among, candidates_at, heard, own_at, prefixes_of, prefixes_seen, reachable, sender_prefixes}
 use Rattle.rc_bgp_session.specs.declared.session.Session.{Session}
@@ -45,13 +45,13 @@ exported_has : (p : Cidr) (s : Session) (x : BgpPath) → x.prefix ≡ p → (fi
 exported_has p s x is file asn n =
     either_has prefix_of p (is_withheld s x) None _ (none_has prefix_of p)
     (either_has prefix_of p (not (passes_list file n.list_out x.prefix)) None _ (none_has prefix_of p)
-    (mapped_has prefix_of p (as_sent asn s n) (λ y. refl) (mapped file n.map_out (with_med s x)) (map_has prefix_of (λ x a. refl) p file n.map_out (with_med s x) is)))
+    (mapped_has prefix_of p (as_sent asn s n) (λ y. refl) (mapped_path file n.map_out (with_med s x)) (map_has prefix_of (λ x a. refl) p file n.map_out (with_med s x) is)))
 
 imported_has : (p : Cidr) (s : Session) (x : BgpPath) → x.prefix ≡ p → (file : RouterText) (asn : ℕ) (n : Neighbor) → Has prefix_of p (imported file asn n s x)
 imported_has p s x is file asn n =
     either_has prefix_of p (list_any (λ a. a == asn) x.as_path) None _ (none_has prefix_of p)
     (either_has prefix_of p (not (passes_list file n.list_in x.prefix)) None _ (none_has prefix_of p)
-    (mapped_has prefix_of p (as_received s) (λ y. refl) (mapped file n.map_in (record x { weight = n.weight })) (map_has prefix_of (λ x a. refl) p file n.map_in (record x { weight = n.weight }) is)))
+    (mapped_has prefix_of p (as_received s) (λ y. refl) (mapped_path file n.map_in (record x { weight = n.weight })) (map_has prefix_of (λ x a. refl) p file n.map_in (record x { weight = n.weight }) is)))
 
 -- ---- candidates
 

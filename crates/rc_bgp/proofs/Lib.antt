@@ -9,3 +9,4 @@ mod ChangeLaws
 mod PartLaws
 mod ListedLaws
 mod AlikeLaws
+mod UpLaws

@@ -4,17 +4,15 @@ use Rattle.std.specs.Option.{option_map, option_or}
 use Rattle.rc_config.specs.Bgp.{address_of}
 use Rattle.rc_config.specs.ByNumber.{with_number}
 use Rattle.rc_config.specs.Members.{router_at}
-use Rattle.rc_config.specs.Named.{named}
 use Rattle.rc_config.specs.declared.bgp.BgpProcess.{BgpProcess}
 use Rattle.rc_config.specs.declared.bgp.Neighbor.{Neighbor}
 use Rattle.rc_config.specs.declared.network.Network.{Network}
 use Rattle.rc_config.specs.declared.route_map.Mention.{Mention}
-use Rattle.rc_config.specs.declared.route_map.RouteMap.{RouteMap}
 use Rattle.rc_config.specs.declared.router_text.RouterText.{RouterText}
-use Rattle.rc_policy.specs.Policy.{route_map}
+use Rattle.rc_policy.specs.Policy.{mapped}
 use Rattle.rc_policy.specs.declared.attrs.Attrs.{Attrs}
 use Rattle.rc_route.specs.declared.path.BgpPath.{BgpPath}
-use Rattle.rc_bgp_session.specs.Passing.{ask, attrs_of, mapped, mapped_by, with_attrs}
+use Rattle.rc_bgp_session.specs.Passing.{ask, attrs_of, mapped_path, with_attrs}
 
 module _ {X : Type 0} (part : BgpPath → X) where
   -- each path that may come has this part
@@ -65,10 +63,5 @@ module _ {X : Type 0} (part : BgpPath → X) where
     attrs_has v x is None = none_has v
     attrs_has v x is (Some a) = some_has v (with_attrs x a) (stays x a ∙ is)
 
-    pub map_has : (v : X) (file : RouterText) (map : Option Mention) (x : BgpPath) → part x ≡ v → Has v (mapped file map x)
-    map_has v file None x is = some_has v x is
-    map_has v file (Some m) x is = by (named file.route_maps m.name)
-      where
-        by : (o : Option RouteMap) → Has v (option_and_then (λ r. mapped_by file r x) o)
-        by None = none_has v
-        by (Some r) = attrs_has v x is (route_map file.lists r (attrs_of x))
+    pub map_has : (v : X) (file : RouterText) (map : Option Mention) (x : BgpPath) → part x ≡ v → Has v (mapped_path file map x)
+    map_has v file map x is = attrs_has v x is (mapped file map (attrs_of x))

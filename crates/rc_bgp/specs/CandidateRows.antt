@@ -1,6 +1,7 @@
 -- Worked cases of origination, candidates and best paths, each by computation.
 use Rattle.std.specs.Prelude.{◌≡◌, true, List, [], ◌∷◌, Some, None, refl}
 use Rattle.rc_base.specs.Prefix.{prefix_at}
+use Rattle.rc_config.specs.IfType.{type_of}
 use Rattle.rc_config.specs.declared.bgp.Neighbor.{Neighbor}
 use Rattle.rc_config.specs.declared.network.Network.{Network}
 use Rattle.rc_config.specs.declared.router_text.RouterText.{RouterText}
@@ -11,10 +12,13 @@ use Rattle.rc_route.specs.declared.route.Hop.TheVariants.{Null, Via}
 use Rattle.rc_route.specs.declared.route.Route.{Route}
 use Rattle.rc_route.specs.declared.route.Source.TheVariants.{Ebgp, Ospf}
 use Rattle.rc_route.specs.declared.state.RouterState.{RouterState}
+use Rattle.rc_topology.specs.Ports.{links_of}
 use Rattle.rc_bgp.specs.Candidates.{best_paths, candidates}
 use Rattle.rc_bgp.specs.Learning.{learned_route}
 use Rattle.rc_bgp_session.specs.Nets.{ip, subnet, gigabit, gigabit_1, on, peer, process, router, two, three, external, internal, connected, static, knows, ninth}
 use Rattle.rc_bgp.specs.Originating.{by_networks}
+use Rattle.rc_bgp.specs.Sessions.{configured_sessions, sessions}
+use Rattle.rc_bgp.specs.Speakers.{speakers}
 use Rattle.rc_bgp_session.specs.declared.session.Session.{Session}
 
 -- ---- `network 10.0.9.0 mask 255.255.255.0`
@@ -145,24 +149,27 @@ crowded_net = three
     (router ((gigabit, on 12 2 24) ∷ (gigabit_1, on 23 2 24) ∷ []) (record (process 65002 (peer (ip 12 1) 65001 ∷ peer (ip 23 3) 65003 ∷ [])) { networks = subnet 9 ∷ [] }))
     (router ((gigabit, on 23 3 24) ∷ []) (process 65003 (peer (ip 23 2) 65002 ∷ [])))
 
-pub all_for_one_prefix : candidates crowded_net ([] ∷ (external 0 (ip 12 1) 1 (ip 12 2) ∷ external 2 (ip 23 3) 1 (ip 23 2) ∷ []) ∷ [] ∷ []) crowded 1
+pub all_for_one_prefix : candidates crowded_net (sessions crowded_net (links_of crowded_net) crowded) 1 crowded
     ≡ ninth 1 ByNetwork ∷ heard_by_r2 ∷ record (ninth 2 External) { next_hop = ip 23 3; weight = 0; as_path = 65003 ∷ []; sender_id = ip 23 3; neighbor = ip 23 3 } ∷ []
-unfolding candidates hops_within
+unfolding candidates configured_sessions hops_within links_of sessions speakers type_of
 all_for_one_prefix = refl
+
+abbrev both_ways : List Session
+both_ways = external 1 (ip 12 2) 0 (ip 12 1) ∷ external 0 (ip 12 1) 1 (ip 12 2) ∷ []
 
 -- ---- before R1 has chosen R2 hears nothing, and R1 has its own path; what R2 hears then makes its route
 abbrev chosen : List BgpPath → List RouterState
 chosen paths = knows (connected 0 (subnet 9) 1 ∷ []) paths ∷ knows (connected 1 (subnet 12) 0 ∷ []) [] ∷ []
 
-pub r1_begins : candidates plain one_session (chosen []) 0 ≡ ninth 0 ByNetwork ∷ []
+pub r1_begins : candidates plain both_ways 0 (chosen []) ≡ ninth 0 ByNetwork ∷ []
 unfolding candidates hops_within
 r1_begins = refl
 
-pub r2_begins : candidates plain one_session (chosen []) 1 ≡ []
+pub r2_begins : candidates plain both_ways 1 (chosen []) ≡ []
 unfolding candidates hops_within
 r2_begins = refl
 
-pub r2_goes_on : candidates plain one_session (chosen (ninth 0 ByNetwork ∷ [])) 1 ≡ heard_by_r2 ∷ []
+pub r2_goes_on : candidates plain both_ways 1 (chosen (ninth 0 ByNetwork ∷ [])) ≡ heard_by_r2 ∷ []
 unfolding candidates hops_within
 r2_goes_on = refl
 

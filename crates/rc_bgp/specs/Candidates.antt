@@ -13,7 +13,7 @@ use Rattle.rc_bgp.specs.Known.{path_at, paths_of, table_of}
 use Rattle.rc_bgp.specs.Own.{own_paths}
 use Rattle.rc_bgp_session.specs.Passing.{export, import, originated_default}
 use Rattle.rc_bgp.specs.Reaching.{metric_to}
-use Rattle.rc_bgp.specs.Sessions.{up_sessions}
+use Rattle.rc_bgp.specs.Sessions.{received, up_sessions}
 use Rattle.rc_bgp_session.specs.declared.session.Session.{Session}
 
 -- the prefixes of paths, and those of a session's sender's best paths
@@ -68,14 +68,14 @@ module _ (net : Network) (old : List RouterState) where
   abbrev pub all_best : List Route → List (List BgpPath) → List Session → List BgpPath
   all_best table own sessions = filter_map (best_among table own sessions) (prefixes_seen old own sessions)
 
--- the candidates of a router in a state, from the sessions of the network
-unfoldable pub candidates : Network → List (List Session) → List RouterState → ℕ → List BgpPath
-candidates net sessions old r = all_candidates net old (table_of old r) (own_paths net (table_of old r) r) (up_sessions sessions old r)
+-- the candidates of a router in a state, by prefix: what it originates, then what it hears over the sessions that are up in it
+unfoldable pub candidates : Network → List Session → ℕ → List RouterState → List BgpPath
+candidates net sessions r old = all_candidates net old (table_of old r) (own_paths net (table_of old r) r) (received sessions r)
 
--- the best path of a router for a prefix, after the state
+-- the best path of a router for a prefix, after the state, from the configured sessions
 abbrev pub best_at : Network → List (List Session) → List RouterState → ℕ → Cidr → Option BgpPath
 best_at net sessions old r p = best_among net old (table_of old r) (own_paths net (table_of old r) r) (up_sessions sessions old r) p
 
--- the best paths of a router after the state
+-- the best path of a router for each prefix that has one, after a state, from the configured sessions
 unfoldable pub best_paths : Network → List (List Session) → List RouterState → ℕ → List BgpPath
 best_paths net sessions old r = all_best net old (table_of old r) (own_paths net (table_of old r) r) (up_sessions sessions old r)

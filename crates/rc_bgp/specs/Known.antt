@@ -12,6 +12,7 @@ use Rattle.rc_route.specs.declared.state.RouterState.{RouterState}
 abbrev pub table_of : List RouterState → ℕ → List Route
 table_of state r = option_map_or (λ (s : RouterState). s.table) (slice_get state r) []
 
+-- the best paths of a router in a state, none where there is no such router
 abbrev pub paths_of : List RouterState → ℕ → List BgpPath
 paths_of state r = option_map_or (λ (s : RouterState). s.paths) (slice_get state r) []
 

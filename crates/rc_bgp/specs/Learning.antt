@@ -18,5 +18,7 @@ learned_by x External = Some (route_over x Ebgp 20)
 learned_by x Internal = Some (route_over x Ibgp 200)
 learned_by x _ = None
 
+-- the route that a best path gives: `ebgp` at distance 20, `ibgp` at 200, with the MED as its metric, and none for what the router
+-- originates
 abbrev pub learned_route : BgpPath → Option Route
 learned_route x = learned_by x x.source

@@ -16,8 +16,8 @@ use Rattle.rc_config.specs.declared.bgp.OspfRedistribution.{OspfRedistribution}
 use Rattle.rc_config.specs.declared.network.Network.{Network}
 use Rattle.rc_config.specs.declared.ospf.OspfProcess.{OspfProcess}
 use Rattle.rc_config.specs.declared.router_text.RouterText.{RouterText}
-use Rattle.rc_ospf.specs.Interfaces.{ospf_interfaces}
-use Rattle.rc_ospf.specs.declared.interface.OspfInterface.{OspfInterface}
+use Rattle.rc_ospf_interfaces.specs.Interfaces.{ospf_interfaces}
+use Rattle.rc_ospf_interfaces.specs.declared.interface.OspfInterface.{OspfInterface}
 use Rattle.rc_route.specs.declared.path.BgpPath.{BgpPath}
 use Rattle.rc_route.specs.declared.path.PathSource.{PathSource}
 use Rattle.rc_route.specs.declared.path.PathSource.TheVariants as path
@@ -25,7 +25,7 @@ use Rattle.rc_route.specs.declared.route.Route.{Route}
 use Rattle.rc_route.specs.declared.route.Source.{Source}
 use Rattle.rc_route.specs.declared.route.Source.TheVariants.{Connected, Static, Ospf, OspfIa, OspfE1, OspfE2}
 use Rattle.rc_bgp.specs.Originating.{originated}
-use Rattle.rc_bgp_session.specs.Passing.{mapped}
+use Rattle.rc_bgp_session.specs.Passing.{mapped_path}
 
 abbrev pub is_connected : Source → Bool
 is_connected Connected = true
@@ -57,7 +57,7 @@ med_of line x = unwrap_or line.metric x.metric
 
 -- the path of a route: of unknown origin, with the MED that the line gives, else the route's metric, and through the line's route map
 abbrev pub path_of_route : ℕ → RouterText → PathSource → BgpRedistribution → Route → Option BgpPath
-path_of_route r file source line x = mapped file line.route_map (originated r source Incomplete (med_of line x) x.prefix)
+path_of_route r file source line x = mapped_path file line.route_map (originated r source Incomplete (med_of line x) x.prefix)
 
 -- 0.0.0.0/0 never passes
 abbrev pub redistributed : ℕ → RouterText → PathSource → OspfKinds → List Cidr → BgpRedistribution → Route → Option BgpPath

@@ -19,7 +19,7 @@ use Rattle.rc_route.specs.declared.path.PathSource.TheVariants.{Connected, Stati
 use Rattle.rc_route.specs.declared.route.Route.{Route}
 use Rattle.rc_route.specs.declared.route.Source.{Source}
 use Rattle.rc_route.specs.declared.route.Source.TheVariants as source
-use Rattle.rc_ospf.specs.Interfaces.{ospf_interfaces}
+use Rattle.rc_ospf_interfaces.specs.Interfaces.{ospf_interfaces}
 use Rattle.rc_bgp_session.specs.Nets.{subnet, gigabit, loopback, on}
 use Rattle.rc_bgp.specs.Originating.{originated}
 use Rattle.rc_bgp.specs.Own.{own_paths}

@@ -13,14 +13,14 @@ use Rattle.rc_route.specs.declared.route.Route.{Route}
 use Rattle.rc_route.specs.declared.state.RouterState.{RouterState}
 use Rattle.rc_topology.specs.Ports.{links_of}
 use Rattle.rc_bgp_session.specs.Nets.{ip, subnet, gigabit, gigabit_1, loopback, on, peer, process, router, two, three, external, internal, connected, static, knows}
-use Rattle.rc_bgp.specs.Sessions.{sessions, is_up}
-use Rattle.rc_bgp.specs.Speakers.{identifier, own_addresses, speakers}
+use Rattle.rc_bgp.specs.Sessions.{configured_sessions, is_up, sessions}
+use Rattle.rc_bgp.specs.Speakers.{identifier, router_addresses, speakers}
 use Rattle.rc_bgp_session.specs.declared.session.Session.{Session}
 
 -- ---- identifiers
 
 abbrev id_of : BgpProcess → List (List ℕ × Interface) → ℕ
-id_of p interfaces = identifier p (own_addresses 0 interfaces)
+id_of p interfaces = identifier p (router_addresses 0 interfaces)
 
 abbrev plain : BgpProcess
 plain = no_lines 65001
@@ -65,59 +65,59 @@ abbrev to_first : Neighbor
 to_first = peer (ip 12 1) 65001
 
 abbrev Gives : Network → List (List Session) → Type 0
-Gives net all = sessions net (links_of net) ≡ all
+Gives net all = configured_sessions net (links_of net) ≡ all
 
 pub both_name_each_other : Gives (two (first to_second) (second to_first)) ((external 1 (ip 12 2) 0 (ip 12 1) ∷ []) ∷ (external 0 (ip 12 1) 1 (ip 12 2) ∷ []) ∷ [])
-unfolding sessions speakers links_of type_of
+unfolding configured_sessions speakers links_of type_of
 both_name_each_other = refl
 
 pub one_side_alone : Gives (two (first to_second) (router ((gigabit, on 12 2 24) ∷ []) (process 65002 []))) ([] ∷ [] ∷ [])
-unfolding sessions speakers links_of type_of
+unfolding configured_sessions speakers links_of type_of
 one_side_alone = refl
 
 pub another_as : Gives (two (first (peer (ip 12 2) 65003)) (second to_first)) ([] ∷ [] ∷ [])
-unfolding sessions speakers links_of type_of
+unfolding configured_sessions speakers links_of type_of
 another_as = refl
 
 pub another_as_there : Gives (two (first to_second) (second (peer (ip 12 1) 65003))) ([] ∷ [] ∷ [])
-unfolding sessions speakers links_of type_of
+unfolding configured_sessions speakers links_of type_of
 another_as_there = refl
 
 pub another_address : Gives (two (first to_second) (second (peer (ip 12 9) 65001))) ([] ∷ [] ∷ [])
-unfolding sessions speakers links_of type_of
+unfolding configured_sessions speakers links_of type_of
 another_address = refl
 
 pub no_remote_as : Gives (two (first (record to_second { remote_as = None })) (second to_first)) ([] ∷ [] ∷ [])
-unfolding sessions speakers links_of type_of
+unfolding configured_sessions speakers links_of type_of
 no_remote_as = refl
 
 pub shut_down : Gives (two (first (record to_second { is_shutdown = true })) (second to_first)) ([] ∷ [] ∷ [])
-unfolding sessions speakers links_of type_of
+unfolding configured_sessions speakers links_of type_of
 shut_down = refl
 
 pub shut_down_there : Gives (two (first to_second) (second (record to_first { is_shutdown = true }))) ([] ∷ [] ∷ [])
-unfolding sessions speakers links_of type_of
+unfolding configured_sessions speakers links_of type_of
 shut_down_there = refl
 
 -- one AS: the session is internal
 pub one_as : Gives (two (first (peer (ip 12 2) 65001)) (router ((gigabit, on 12 2 24) ∷ []) (process 65001 (to_first ∷ [])))) ((internal 1 (ip 12 2) 0 (ip 12 1) ∷ []) ∷ (internal 0 (ip 12 1) 1 (ip 12 2) ∷ []) ∷ [])
-unfolding sessions speakers links_of type_of
+unfolding configured_sessions speakers links_of type_of
 one_as = refl
 
 -- an address that stands on two routers makes two sessions, by sender
 pub address_on_two : Gives (three (first to_second) (second to_first) (second to_first))
     ((external 1 (ip 12 2) 0 (ip 12 1) ∷ external 2 (ip 12 2) 0 (ip 12 1) ∷ []) ∷ (external 0 (ip 12 1) 1 (ip 12 2) ∷ []) ∷ (external 0 (ip 12 1) 2 (ip 12 2) ∷ []) ∷ [])
-unfolding sessions speakers links_of type_of
+unfolding configured_sessions speakers links_of type_of
 address_on_two = refl
 
 -- the first own address whose prefix holds the neighbour is the local one, so the wider prefix that stands first wins
 pub first_that_holds : Gives (two (router ((gigabit, on 0 1 8) ∷ (gigabit_1, on 12 1 24) ∷ []) (process 65001 (to_second ∷ []))) (second to_first)) ([] ∷ [] ∷ [])
-unfolding sessions speakers links_of type_of
+unfolding configured_sessions speakers links_of type_of
 first_that_holds = refl
 
 -- two prefixes of other lengths are no shared subnet
 pub other_lengths : Gives (two (first to_second) (router ((gigabit, on 12 2 16) ∷ []) (process 65002 (to_first ∷ [])))) ([] ∷ [] ∷ [])
-unfolding sessions speakers links_of type_of
+unfolding configured_sessions speakers links_of type_of
 other_lengths = refl
 
 -- ---- off a shared subnet: loopbacks 10.0.1.1 and 10.0.2.2, named by `update-source`
@@ -139,36 +139,36 @@ multihop n = record n { is_multihop = true }
 
 pub multihop_on_both : Gives (two (far_first (multihop (by_loopback (ip 2 2) 65002))) (far_second 65002 (multihop (by_loopback (ip 1 1) 65001))))
     ((far (external 1 (ip 2 2) 0 (ip 1 1)) ∷ []) ∷ (far (external 0 (ip 1 1) 1 (ip 2 2)) ∷ []) ∷ [])
-unfolding sessions speakers links_of type_of
+unfolding configured_sessions speakers links_of type_of
 multihop_on_both = refl
 
 pub multihop_here_alone : Gives (two (far_first (multihop (by_loopback (ip 2 2) 65002))) (far_second 65002 (by_loopback (ip 1 1) 65001))) ([] ∷ [] ∷ [])
-unfolding sessions speakers links_of type_of
+unfolding configured_sessions speakers links_of type_of
 multihop_here_alone = refl
 
 pub multihop_there_alone : Gives (two (far_first (by_loopback (ip 2 2) 65002)) (far_second 65002 (multihop (by_loopback (ip 1 1) 65001)))) ([] ∷ [] ∷ [])
-unfolding sessions speakers links_of type_of
+unfolding configured_sessions speakers links_of type_of
 multihop_there_alone = refl
 
 -- an internal session needs none
 pub internal_without_multihop : Gives (two (far_first (by_loopback (ip 2 2) 65001)) (far_second 65001 (by_loopback (ip 1 1) 65001)))
     ((far (internal 1 (ip 2 2) 0 (ip 1 1)) ∷ []) ∷ (far (internal 0 (ip 1 1) 1 (ip 2 2)) ∷ []) ∷ [])
-unfolding sessions speakers links_of type_of
+unfolding configured_sessions speakers links_of type_of
 internal_without_multihop = refl
 
 -- `update-source` of an interface that is down, or that isn't declared, gives no session
 pub source_is_down : Gives (two (router ((loopback, record (on 1 1 32) { shutdown = true }) ∷ []) (process 65001 (by_loopback (ip 2 2) 65001 ∷ []))) (far_second 65001 (by_loopback (ip 1 1) 65001))) ([] ∷ [] ∷ [])
-unfolding sessions speakers links_of type_of
+unfolding configured_sessions speakers links_of type_of
 source_is_down = refl
 
 pub source_is_not_there : Gives (two (router ((gigabit, on 12 1 24) ∷ []) (process 65001 (by_loopback (ip 2 2) 65001 ∷ []))) (far_second 65001 (by_loopback (ip 1 1) 65001))) ([] ∷ [] ∷ [])
-unfolding sessions speakers links_of type_of
+unfolding configured_sessions speakers links_of type_of
 source_is_not_there = refl
 
 -- two loopbacks of one prefix are no shared subnet
 pub loopbacks_share_nothing : Gives (two (router ((loopback, on 1 1 24) ∷ []) (process 65001 (peer (ip 1 2) 65001 ∷ []))) (router ((loopback, on 1 2 24) ∷ []) (process 65001 (peer (ip 1 1) 65001 ∷ []))))
     ((far (internal 1 (ip 1 2) 0 (ip 1 1)) ∷ []) ∷ (far (internal 0 (ip 1 1) 1 (ip 1 2)) ∷ []) ∷ [])
-unfolding sessions speakers links_of type_of
+unfolding configured_sessions speakers links_of type_of
 loopbacks_share_nothing = refl
 
 -- ---- which are up in a state: router 0 has 10.0.1.1, router 1 has 10.0.2.2
@@ -199,3 +199,26 @@ by_default = refl
 -- on a shared subnet nothing is asked
 pub always_on_a_subnet : is_up [] (external 1 (ip 12 2) 0 (ip 12 1)) ≡ true
 always_on_a_subnet = refl
+
+-- ---- the sessions of a state: two routers of one AS that speak from their loopbacks, and three in a chain
+
+abbrev far_pair : Network
+far_pair = two (far_first (by_loopback (ip 2 2) 65001)) (far_second 65001 (by_loopback (ip 1 1) 65001))
+
+abbrev AreUp : Network → List RouterState → List Session → Type 0
+AreUp net state up = sessions net (links_of net) state ≡ up
+
+pub up_where_each_resolves : AreUp far_pair (state (static (prefix_at (ip 2 2) 32) (ip 12 2) ∷ []) (static (prefix_at (ip 1 1) 32) (ip 12 1) ∷ []))
+    (far (internal 1 (ip 2 2) 0 (ip 1 1)) ∷ far (internal 0 (ip 1 1) 1 (ip 2 2)) ∷ [])
+unfolding sessions configured_sessions speakers links_of type_of hops_within
+up_where_each_resolves = refl
+
+pub down_where_one_resolves : AreUp far_pair (state (static (prefix_at (ip 2 2) 32) (ip 12 2) ∷ []) []) []
+unfolding sessions configured_sessions speakers links_of type_of hops_within
+down_where_one_resolves = refl
+
+-- by receiver, then sender; a subnet's are up from the first state on
+pub by_receiver_then_sender : AreUp (three (first to_second) (router ((gigabit, on 12 2 24) ∷ (gigabit_1, on 23 2 24) ∷ []) (process 65002 (to_first ∷ peer (ip 23 3) 65003 ∷ []))) (router ((gigabit, on 23 3 24) ∷ []) (process 65003 (peer (ip 23 2) 65002 ∷ [])))) []
+    (record (external 1 (ip 12 2) 0 (ip 12 1)) { sender_id = ip 23 2 } ∷ external 0 (ip 12 1) 1 (ip 12 2) ∷ external 2 (ip 23 3) 1 (ip 23 2) ∷ external 1 (ip 23 2) 2 (ip 23 3) ∷ [])
+unfolding sessions configured_sessions speakers links_of type_of hops_within
+by_receiver_then_sender = refl

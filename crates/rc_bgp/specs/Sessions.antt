@@ -66,11 +66,12 @@ module _ (links : Topology) where
     abbrev pub sessions_to : List Speaker → Speaker → List Session
     sessions_to all to = flat_map (sessions_from to) all
 
--- the sessions that the statements of a network make, for each router those to it, by sender, then the sender's address
-unfoldable pub sessions : Network → Topology → List (List Session)
-sessions net links = map (sessions_to links net (speakers net)) (speakers net)
+-- the sessions that the statements of a network make, for each router those to it, by sender, then the sender's address; no state changes
+-- them
+unfoldable pub configured_sessions : Network → Topology → List (List Session)
+configured_sessions net links = map (sessions_to links net (speakers net)) (speakers net)
 
--- the sessions to a router
+-- the configured sessions to a router
 abbrev pub sessions_of : List (List Session) → ℕ → List Session
 sessions_of all r = unwrap_or (slice_get all r) []
 
@@ -82,6 +83,14 @@ is_far_up old s = reaches (table_of old s.receiver) s.sender_address && reaches 
 abbrev pub is_up : List RouterState → Session → Bool
 is_up old s = s.is_shared || is_far_up old s
 
--- the sessions to a router that are up in a state
+-- the configured sessions to a router that are up in a state
 abbrev pub up_sessions : List (List Session) → List RouterState → ℕ → List Session
 up_sessions all old r = filter (is_up old) (sessions_of all r)
+
+-- the sessions that are up in a state, by receiver, then sender, then the sender's address
+unfoldable pub sessions : Network → Topology → List RouterState → List Session
+sessions net links old = flat_map (filter (is_up old)) (configured_sessions net links)
+
+-- of the sessions that are up those to a router
+abbrev pub received : List Session → ℕ → List Session
+received up r = filter (λ (s : Session). s.receiver == r) up

@@ -30,12 +30,12 @@ abbrev pub own_addr : IfId → List ℕ → IfAddr → OwnAddr
 own_addr id name a = record { interface = id; addr = a.addr; prefix = prefix_of a; is_loopback = is_loopback_type (type_of name) }
 
 -- those of the interface at an index while it is up, the primary one first, then as written
-abbrev pub own_at : ℕ → Entries → ℕ → List OwnAddr
-own_at r entries index = option_map_or (λ e. if is_down entries e.0 then [] else map (own_addr (record { router = r; index = index }) e.0) (declared_addresses e.1)) (slice_get entries index) []
+abbrev pub addresses_at : ℕ → Entries → ℕ → List OwnAddr
+addresses_at r entries index = option_map_or (λ e. if is_down entries e.0 then [] else map (own_addr (record { router = r; index = index }) e.0) (declared_addresses e.1)) (slice_get entries index) []
 
--- those of all interfaces that are up, as declared
-abbrev pub own_addresses : ℕ → Entries → List OwnAddr
-own_addresses r entries = flat_map (own_at r entries) (range_with_len 0 (length entries))
+-- those of a router: of all its interfaces that are up, as declared
+abbrev pub router_addresses : ℕ → Entries → List OwnAddr
+router_addresses r entries = flat_map (addresses_at r entries) (range_with_len 0 (length entries))
 
 -- ---- the identifier
 
@@ -91,7 +91,7 @@ abbrev pub speaker_with : ℕ → Entries → BgpProcess → List OwnAddr → Sp
 speaker_with r entries process own = record { router = r; asn = process.asn; id = identifier process own; own = own; locals = local_addresses entries own process.neighbors }
 
 abbrev pub speaker_of : ℕ → RouterText → Speaker
-speaker_of r file = option_map_or (λ process. speaker_with r file.interfaces process (own_addresses r file.interfaces)) file.bgp (silent r)
+speaker_of r file = option_map_or (λ process. speaker_with r file.interfaces process (router_addresses r file.interfaces)) file.bgp (silent r)
 
 -- a router without a process says nothing
 abbrev pub speaker_at : Network → ℕ → Speaker

@@ -12,7 +12,7 @@ use crate::known::table_of;
 use crate::own_paths::own_paths;
 use crate::reaching::metric_to;
 use crate::up::{is_up, sessions_of};
-use crate::{Session, Sessions};
+use crate::{ConfiguredSessions, Session};
 use rc_base::{Addr, Items, RouterId};
 use rc_config::Network;
 use rc_route::{BgpPath, State};
@@ -127,7 +127,7 @@ fn are_heard_alike(
 pub(crate) fn reads_alike(
     alloc: Global,
     net: &Network,
-    sessions: &Sessions,
+    sessions: &ConfiguredSessions,
     earlier: &State,
     previous: &State,
     router: RouterId,

@@ -13,8 +13,8 @@ use crate::known::{at_path, paths_of, table_of};
 use crate::originating::{insert, listed};
 use crate::own_paths::own_paths;
 use crate::resolver::Resolver;
-use crate::up::up_sessions;
-use crate::{Session, Sessions};
+use crate::up::{received, up_sessions};
+use crate::{ConfiguredSessions, Session, Sessions};
 use rc_as_path::AsPath;
 use rc_base::{Items, Prefix, RouterId};
 use rc_bgp_decide::best;
@@ -186,7 +186,7 @@ fn best_for(
 pub(crate) fn best_paths(
     alloc: Global,
     net: &Network,
-    sessions: &Sessions,
+    sessions: &ConfiguredSessions,
     previous: &State,
     router: RouterId,
 ) -> Result<Items<BgpPath>, AllocError>
@@ -242,23 +242,23 @@ fn candidates_for(
     Ok(all)
 }
 
-/// All candidates of a router after a state (RFC 4271 s.9.1): by prefix; for each what the router originates, then what it hears
-/// over each session, by sender, then the sender's address. It errs only where memory runs out.
+/// All candidates of a router after a state, over the sessions that are up in it (RFC 4271 s.9.1): by prefix; for each what the router
+/// originates, then what it hears over each session, by sender, then the sender's address. It errs only where memory runs out.
 #[tactic(auto, unfolding(crate::specs::Candidates::candidates))]
 pub fn candidates(
     alloc: Global,
     net: &Network,
     sessions: &Sessions,
-    previous: &State,
     router: RouterId,
+    previous: &State,
 ) -> Result<Items<BgpPath>, AllocError>
     requires { All IsRouterState previous.now }
-    ensures { IfOk result (λ all. all ≡ spec.candidates net.now sessions.now previous.now router) }
+    ensures { IfOk result (λ all. all ≡ spec.candidates net.now sessions.now router previous.now) }
 {
     let table = table_of(previous, router);
     let own = own_paths(alloc, net, table, router)?;
-    let up = up_sessions(alloc, sessions, previous, router)?;
-    let prefixes = prefixes_seen(alloc, previous, own.as_slice(), up.as_slice())?;
+    let here = received(alloc, sessions, router)?;
+    let prefixes = prefixes_seen(alloc, previous, own.as_slice(), here.as_slice())?;
     let mut resolver = Resolver::new(alloc, table);
     candidates_for(
         alloc,
@@ -266,7 +266,7 @@ pub fn candidates(
         previous,
         &mut resolver,
         own.as_slice(),
-        up.as_slice(),
+        here.as_slice(),
         prefixes.as_slice(),
     )
 }

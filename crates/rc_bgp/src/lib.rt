@@ -2,8 +2,9 @@
 //!
 //! It stands on the model of rc_config, the links of rc_topology, the interfaces of rc_ospf, the hops of rc_fib, the decision of
 //! rc_bgp_decide, and on rc_bgp_session for what goes over one session, whose types and calls it hands on. The layer above knows
-//! the sessions of a network as a list that no round changes, and a router's candidates and best paths as functions of the
-//! network, the sessions and what all routers knew before, in their order.
+//! the sessions of a network that are up in a state as a list, and a router's candidates and best paths as functions of the
+//! network, the sessions and what all routers knew before, in their order. Rounds keep the sessions that are configured, which no state
+//! changes, and see in each state which are up.
 #![tactic(auto)]
 
 mod alike;
@@ -28,6 +29,7 @@ mod up;
 pub use changes::{Changes, Renewed};
 pub use deciding::candidates;
 pub use learning::learned_route;
-pub use pairing::sessions;
-pub use rc_bgp_session::{Session, Sessions, export, import};
+pub use pairing::{ConfiguredSessions, configured_sessions};
+pub use rc_bgp_session::{Session, export, import};
 pub use renewing::{first_paths, renewed_paths};
+pub use up::{Sessions, sessions};

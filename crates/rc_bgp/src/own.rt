@@ -74,7 +74,7 @@ fn add_interface(
     file: &RouterText,
     index: usize,
 ) -> Result<(), AllocError>
-    ensures { OnOk result (own.new ≡ own.old ++ spec.own_at router file.now.interfaces index) }
+    ensures { OnOk result (own.new ≡ own.old ++ spec.addresses_at router file.now.interfaces index) }
 {
     let found = file.interfaces.at(index);
     match found {
@@ -89,12 +89,12 @@ fn add_interface(
 }
 
 /// The own addresses of a router: those of all interfaces that are up, as declared.
-pub(crate) fn own_addresses(
+pub(crate) fn router_addresses(
     alloc: Global,
     router: RouterId,
     file: &RouterText,
 ) -> Result<Items<OwnAddr>, AllocError>
-    ensures { IfOk result (λ own. own ≡ spec.own_addresses router file.now.interfaces) }
+    ensures { IfOk result (λ own. own ≡ spec.router_addresses router file.now.interfaces) }
 {
     let mut own = Items::new(alloc);
     for index in 0..file.interfaces.len() {

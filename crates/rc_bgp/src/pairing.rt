@@ -2,13 +2,16 @@
 ghost use Rattle.std.specs.Prelude.{◌≡◌, ◌++◌, IfOk, OnOk, map};
 ghost use Rattle.rc_bgp.specs.Sessions as spec;
 
+use crate::Session;
 use crate::speaker::{OwnAddr, Speaker, speakers};
 use crate::statement::{Statement, statement_about};
-use crate::{Session, Sessions};
 use rc_base::{Addr, Items};
 use rc_config::Network;
 use rc_topology::Links;
 use std::alloc::{AllocError, Global};
+
+/// The sessions that the statements of a network make: for each router those to it, by sender, then the sender's address.
+pub type ConfiguredSessions = Items<Items<Session>>;
 
 /// Whether two own addresses are of interfaces that share a link, with one prefix.
 fn are_on_one_subnet(links: &Links, one: &OwnAddr, other: &OwnAddr) -> bool
@@ -157,7 +160,7 @@ fn sessions_among(
     links: &Links,
     net: &Network,
     speakers: &[Speaker],
-) -> Result<Sessions, AllocError>
+) -> Result<ConfiguredSessions, AllocError>
     ensures { IfOk result (λ all. all ≡ map (spec.sessions_to links.now net.now speakers.now) speakers.now) }
 {
     let mut all = Items::new(alloc);
@@ -167,11 +170,15 @@ fn sessions_among(
     Ok(all)
 }
 
-/// The sessions of a network: for each router those to it, by sender, then the sender's address. Which of them are up is told by
-/// each state; nothing else of them changes. It errs only where memory runs out.
-#[tactic(auto, unfolding(crate::specs::Sessions::sessions))]
-pub fn sessions(alloc: Global, net: &Network, links: &Links) -> Result<Sessions, AllocError>
-    ensures { IfOk result (λ all. all ≡ spec.sessions net.now links.now) }
+/// The sessions that the statements of a network make: for each router those to it, by sender, then the sender's address. Which of them
+/// are up is told by each state; nothing else of them changes. It errs only where memory runs out.
+#[tactic(auto, unfolding(crate::specs::Sessions::configured_sessions))]
+pub fn configured_sessions(
+    alloc: Global,
+    net: &Network,
+    links: &Links,
+) -> Result<ConfiguredSessions, AllocError>
+    ensures { IfOk result (λ all. all ≡ spec.configured_sessions net.now links.now) }
 {
     let speakers = speakers(alloc, net)?;
     sessions_among(alloc, links, net, speakers.as_slice())

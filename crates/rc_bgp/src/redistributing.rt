@@ -10,12 +10,12 @@ ghost use Rattle.rc_bgp.specs.Redistributing as spec;
 
 use crate::originating::originated;
 use rc_base::{Items, Origin, Prefix, RouterId};
-use rc_bgp_session::mapped;
+use rc_bgp_session::mapped_path;
 use rc_config::{
     BgpProcess, BgpRedistribution, IfAddr, Interface, Network, OspfKinds, OspfRedistribution,
     RouterText,
 };
-use rc_ospf::{OspfInterface, ospf_interfaces};
+use rc_ospf_interfaces::{OspfInterface, ospf_interfaces};
 use rc_route::{BgpPath, PathSource, Route, Source};
 use std::alloc::{AllocError, Global};
 
@@ -101,7 +101,7 @@ fn redistributed(
     }
     let med = med_of(line, route);
     let path = originated(router, source, Origin::Incomplete, med, route.prefix);
-    mapped(alloc, file, &line.route_map, path)
+    mapped_path(alloc, file, &line.route_map, path)
 }
 
 /// One path more, if there is one.

@@ -19,7 +19,7 @@ use crate::originating::{insert_all, listed};
 use crate::own_paths::own_paths;
 use crate::resolver::Resolver;
 use crate::up::up_sessions;
-use crate::{Changes, Renewed, Session, Sessions};
+use crate::{Changes, ConfiguredSessions, Renewed, Session};
 use rc_base::{Items, Prefix, RouterId};
 use rc_config::Network;
 use rc_route::{BgpPath, State};
@@ -104,7 +104,7 @@ fn beside(alloc: Global, old: &[BgpPath], paths: Items<BgpPath>) -> Result<Renew
 pub fn first_paths(
     alloc: Global,
     net: &Network,
-    sessions: &Sessions,
+    sessions: &ConfiguredSessions,
     previous: &State,
     router: RouterId,
 ) -> Result<Renewed, AllocError>
@@ -159,7 +159,7 @@ fn suspects(
 fn mended_paths(
     alloc: Global,
     net: &Network,
-    sessions: &Sessions,
+    sessions: &ConfiguredSessions,
     changes: &Changes,
     previous: &State,
     router: RouterId,
@@ -192,7 +192,7 @@ fn mended_paths(
 pub fn renewed_paths(
     alloc: Global,
     net: &Network,
-    sessions: &Sessions,
+    sessions: &ConfiguredSessions,
     earlier: &State,
     changes: &Changes,
     previous: &State,

@@ -6,7 +6,7 @@ ghost use Rattle.std.specs.Ordering.{nat_cmp};
 ghost use Rattle.std.specs.BTreeSet.{keys, insert_key};
 ghost use Rattle.rc_bgp.specs.Speakers as spec;
 
-use crate::own::{identifier, own_addresses};
+use crate::own::{identifier, router_addresses};
 use crate::statement::statement_of;
 use rc_base::{Addr, IfId, Items, Prefix, RouterId};
 use rc_config::{BgpProcess, Network, RouterText};
@@ -95,9 +95,9 @@ fn speaker_with(
     file: &RouterText,
     process: &BgpProcess,
 ) -> Result<Speaker, AllocError>
-    ensures { IfOk result (λ s. s ≡ spec.speaker_with router file.now.interfaces process.now (spec.own_addresses router file.now.interfaces)) }
+    ensures { IfOk result (λ s. s ≡ spec.speaker_with router file.now.interfaces process.now (spec.router_addresses router file.now.interfaces)) }
 {
-    let own = own_addresses(alloc, router, file)?;
+    let own = router_addresses(alloc, router, file)?;
     let set = local_set(alloc, file, own.as_slice(), process)?;
     let locals = listed(alloc, set)?;
     Ok(Speaker {

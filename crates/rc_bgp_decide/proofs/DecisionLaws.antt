@@ -9,7 +9,7 @@ use Rattle.rc_base.specs.Lists.{keep}
 use Rattle.rc_base.proofs.KeepLaws.{In, any_no, none_passes, filter_same}
 use Rattle.rc_route.specs.declared.path.BgpPath.{BgpPath}
 use Rattle.rc_bgp_decide.specs.declared.standing.Standing.{Standing}
-use Rattle.rc_bgp_decide.specs.Decision.{standing, eliminate, eliminations, best_of, place_of_best, best_path, best_place, best_standing, is_external, is_internal, by_med, by_session}
+use Rattle.rc_bgp_decide.specs.Decision.{standing, eliminate, eliminations, first_left, place_of_best, best_path, best_place, best_standing, is_external, is_internal, by_med, by_session}
 use Rattle.rc_bgp_decide.specs.Tests.{by_way}
 use Rattle.rc_bgp_decide.proofs.OrderLaws.{Test, first_orders, last_orders, order_on}
 use Rattle.rc_bgp_decide.proofs.RowLaws.{in_filter, not_beaten, one_kind}
@@ -63,7 +63,7 @@ standings_decide paths =
     ap (λ es. option_map (λ (e : ℕ × Standing). e.0) (slice_get (eliminate (λ (e : ℕ × Standing). e.1) eliminations es) 0)) (sym (enumerate_map standing 0 paths))
     ∙ ap (λ es. option_map (λ (e : ℕ × Standing). e.0) (slice_get es 0)) (sym (map_eliminate placed (λ (e : ℕ × Standing). e.1) eliminations (enumerate_from 0 paths)))
     ∙ ap (option_map (λ (e : ℕ × Standing). e.0)) (first_map placed (eliminate (λ (e : ℕ × BgpPath). standing e.1) eliminations (enumerate_from 0 paths)))
-    ∙ place_map standing (best_of (λ (e : ℕ × BgpPath). standing e.1) (enumerate_from 0 paths))
+    ∙ place_map standing (first_left (λ (e : ℕ × BgpPath). standing e.1) (enumerate_from 0 paths))
   where
     placed : ℕ × BgpPath → ℕ × Standing
     placed e = (e.0, standing e.1)
@@ -102,7 +102,7 @@ member_is_placed n (x ∷ xs) e (inr there) =
 
 module _ {X : Type 0} (of : X → Standing) (xs : List X) where
   abbrev placed_best : Option (ℕ × X)
-  placed_best = best_of (λ (e : ℕ × X). of e.1) (enumerate_from 0 xs)
+  placed_best = first_left (λ (e : ℕ × X). of e.1) (enumerate_from 0 xs)
 
   best_is_placed : (e : ℕ × X) → placed_best ≡ Some e → IsPlaced 0 xs e
   best_is_placed e is =
@@ -124,7 +124,7 @@ module _ {X : Type 0} (of : X → Standing) (xs : List X) where
   place_within None is = tt
   place_within (Some i) is = place_is_below i (sym is)
 
-  pub best_at_place : best_of of xs ≡ option_and_then (slice_get xs) (place_of_best of xs)
+  pub best_at_place : first_left of xs ≡ option_and_then (slice_get xs) (place_of_best of xs)
   best_at_place =
       ap (λ ys. slice_get (eliminate of eliminations ys) 0) (sym (enumerated 0 xs))
       ∙ ap (λ ys. slice_get ys 0) (sym (map_eliminate (λ (e : ℕ × X). e.1) of eliminations (enumerate_from 0 xs)))

@@ -24,11 +24,12 @@ standing p = record {
   source = p.source;
 }
 
--- a peer in another AS sent it; one in the router's own AS did
+-- a peer in another AS sent the path
 abbrev pub is_external : PathSource → Bool
 is_external External = true
 is_external _ = false
 
+-- a peer in the router's own AS sent the path
 abbrev pub is_internal : PathSource → Bool
 is_internal Internal = true
 is_internal _ = false
@@ -114,19 +115,21 @@ eliminate of [] xs = xs
 eliminate of (better ∷ rest) xs = eliminate of rest (keep (λ x y. better (of x) (of y)) xs)
 
 -- of those that are left the first one
-abbrev pub best_of : {X : Type 0} → (X → Standing) → List X → Option X
-best_of of xs = slice_get (eliminate of eliminations xs) 0
+abbrev pub first_left : {X : Type 0} → (X → Standing) → List X → Option X
+first_left of xs = slice_get (eliminate of eliminations xs) 0
 
--- the best path
+-- the best path: the first of those that the eliminations leave
 abbrev pub best_path : List BgpPath → Option BgpPath
-best_path paths = best_of standing paths
+best_path paths = first_left standing paths
 
 -- the place of the best one, counted from 0
 abbrev pub place_of_best : {X : Type 0} → (X → Standing) → List X → Option ℕ
-place_of_best {X} of xs = option_map (λ (e : ℕ × X). e.0) (best_of (λ (e : ℕ × X). of e.1) (enumerate_from 0 xs))
+place_of_best {X} of xs = option_map (λ (e : ℕ × X). e.0) (first_left (λ (e : ℕ × X). of e.1) (enumerate_from 0 xs))
 
+-- the place of the best path, counted from 0
 abbrev pub best_place : List BgpPath → Option ℕ
 best_place paths = place_of_best standing paths
 
+-- the place of the best of some standings, counted from 0
 abbrev pub best_standing : List Standing → Option ℕ
 best_standing standings = place_of_best (λ s. s) standings

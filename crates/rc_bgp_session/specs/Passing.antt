@@ -9,15 +9,13 @@ use Rattle.rc_bgp_decide.specs.Decision.{is_internal, is_originated}
 use Rattle.rc_config.specs.Bgp.{address_of}
 use Rattle.rc_config.specs.ByNumber.{with_number}
 use Rattle.rc_config.specs.Members.{router_at}
-use Rattle.rc_config.specs.Named.{named}
 use Rattle.rc_config.specs.declared.bgp.BgpProcess.{BgpProcess}
 use Rattle.rc_config.specs.declared.bgp.Neighbor.{Neighbor}
 use Rattle.rc_config.specs.declared.network.Network.{Network}
 use Rattle.rc_config.specs.declared.route_map.Mention.{Mention}
-use Rattle.rc_config.specs.declared.route_map.RouteMap.{RouteMap}
 use Rattle.rc_config.specs.declared.router_text.RouterText.{RouterText}
 use Rattle.rc_config.specs.declared.sets.MetricType.TheVariants.{Type2}
-use Rattle.rc_policy.specs.Policy.{is_permitted, prefix_list_permits, route_map}
+use Rattle.rc_policy.specs.Policy.{is_permitted, mapped, prefix_list_permits}
 use Rattle.rc_policy.specs.declared.attrs.Attrs.{Attrs}
 use Rattle.rc_route.specs.declared.path.BgpPath.{BgpPath}
 use Rattle.rc_route.specs.declared.path.PathSource.{PathSource}
@@ -47,13 +45,9 @@ attrs_of x = record {
 abbrev pub with_attrs : BgpPath → Attrs → BgpPath
 with_attrs x a = record x { med = a.metric; local_preference = a.local_preference; weight = a.weight; origin = a.origin; as_path = a.as_path; communities = a.communities }
 
-abbrev pub mapped_by : RouterText → RouteMap → BgpPath → Option BgpPath
-mapped_by file map x = option_map (with_attrs x) (route_map file.lists map (attrs_of x))
-
--- what the map that is named makes of a path, if any; one that isn't there rejects
-abbrev pub mapped : RouterText → Option Mention → BgpPath → Option BgpPath
-mapped file None x = Some x
-mapped file (Some map) x = option_and_then (λ m. mapped_by file m x) (named file.route_maps map.name)
+-- what the route map that is named makes of a path, if any; one that is not there rejects
+abbrev pub mapped_path : RouterText → Option Mention → BgpPath → Option BgpPath
+mapped_path file map x = option_map (with_attrs x) (mapped file map (attrs_of x))
 
 -- ---- export
 
@@ -107,13 +101,13 @@ abbrev pub exported : RouterText → ℕ → Neighbor → Session → BgpPath �
 exported file asn n s x =
     if is_withheld s x then None
     else if not (passes_list file n.list_out x.prefix) then None
-    else option_map (as_sent asn s n) (mapped file n.map_out (with_med s x))
+    else option_map (as_sent asn s n) (mapped_path file n.map_out (with_med s x))
 
 -- a router's statement about an address is asked, with its AS
 abbrev pub ask : {X : Type 0} → Network → ℕ → ℕ → (RouterText → ℕ → Neighbor → Option X) → Option X
 ask net r a answer = option_and_then (λ (file : RouterText). option_and_then (λ (process : BgpProcess). option_and_then (answer file process.asn) (with_number address_of a process.neighbors)) file.bgp) (router_at net r)
 
--- the path that the sender advertises over a session, if any
+-- the path that the sender of a session advertises of one of its best, if any
 abbrev pub export : Network → Session → BgpPath → Option BgpPath
 export net s x = ask net s.sender s.receiver_address (λ file asn n. exported file asn n s x)
 
@@ -137,6 +131,7 @@ default_path asn s = record {
   igp_metric = 0;
 }
 
+-- the path of `default-originate` over a session, where its sender has that line for it
 abbrev pub originated_default : Network → Session → Option BgpPath
 originated_default net s = ask net s.sender s.receiver_address (λ file asn n. if n.default_originate then Some (default_path asn s) else None)
 
@@ -160,8 +155,8 @@ abbrev pub imported : RouterText → ℕ → Neighbor → Session → BgpPath �
 imported file asn n s x =
     if list_any (λ a. a == asn) x.as_path then None
     else if not (passes_list file n.list_in x.prefix) then None
-    else option_map (as_received s) (mapped file n.map_in (record x { weight = n.weight }))
+    else option_map (as_received s) (mapped_path file n.map_in (record x { weight = n.weight }))
 
--- the path as the receiver takes it, if it does
+-- the path as the receiver of a session takes it, if it does
 abbrev pub import : Network → Session → BgpPath → Option BgpPath
 import net s x = ask net s.receiver s.sender_address (λ file asn n. imported file asn n s x)

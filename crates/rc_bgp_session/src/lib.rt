@@ -10,5 +10,5 @@ mod policy;
 mod session;
 
 pub use passing::{export, import, originated_default, taken};
-pub use policy::mapped;
-pub use session::{Session, Sessions};
+pub use policy::mapped_path;
+pub use session::Session;

@@ -4,7 +4,7 @@ ghost use Rattle.rc_bgp_decide.specs.Decision.{is_internal, is_originated};
 ghost use Rattle.rc_bgp_session.specs.Passing as spec;
 
 use crate::Session;
-use crate::policy::{mapped, passes_list};
+use crate::policy::{mapped_path, passes_list};
 use rc_as_path::AsPath;
 use rc_base::{Addr, Communities, Origin, Prefix};
 use rc_config::{Neighbor, Network, RouterText};
@@ -164,7 +164,7 @@ fn exported(
         return Ok(None);
     }
     let offered = with_med(session, path)?;
-    let made = mapped(alloc, file, &neighbor.map_out, offered)?;
+    let made = mapped_path(alloc, file, &neighbor.map_out, offered)?;
     match made {
         None => Ok(None),
         Some(made) => {
@@ -286,7 +286,7 @@ fn imported(
     }
     let mut weighted = path;
     weighted.weight = u32::from(neighbor.weight);
-    let made = mapped(alloc, file, &neighbor.map_in, weighted)?;
+    let made = mapped_path(alloc, file, &neighbor.map_in, weighted)?;
     match made {
         None => Ok(None),
         Some(made) => Ok(Some(as_received(session, made))),

@@ -1,6 +1,7 @@
 //! Prefix lists and route maps of a session.
-ghost use Rattle.std.specs.Prelude.{◌≡◌, IfOk};
+ghost use Rattle.std.specs.Prelude.{◌≡◌, IfOk, option_map};
 ghost use Rattle.rc_bgp_session.specs.Passing as spec;
+ghost use Rattle.rc_policy.specs.Policy.{route_map};
 
 use rc_base::Prefix;
 use rc_config::{Mention, MetricType, RouteMap, RouterText};
@@ -80,7 +81,7 @@ fn mapped_by(
     map: &RouteMap,
     path: &BgpPath,
 ) -> Result<Option<BgpPath>, AllocError>
-    ensures { IfOk result (λ made. made ≡ spec.mapped_by file.now map.now path.now) }
+    ensures { IfOk result (λ made. made ≡ option_map (spec.with_attrs path.now) (route_map file.now.lists map.now (spec.attrs_of path.now))) }
 {
     let attrs = attrs_of(path)?;
     let made = apply(alloc, map, &file.lists, attrs)?;
@@ -92,13 +93,13 @@ fn mapped_by(
 
 /// What the route map that is named makes of a path: the path as it is where none is named, and `None` exactly where the map
 /// rejects it or isn't there. It errs only where memory runs out.
-pub fn mapped(
+pub fn mapped_path(
     alloc: Global,
     file: &RouterText,
     map: &Option<Mention>,
     path: BgpPath,
 ) -> Result<Option<BgpPath>, AllocError>
-    ensures { IfOk result (λ made. made ≡ spec.mapped file.now map.now path) }
+    ensures { IfOk result (λ made. made ≡ spec.mapped_path file.now map.now path) }
 {
     match map {
         None => Ok(Some(path)),

@@ -1,5 +1,5 @@
 //! Sessions.
-use rc_base::{Addr, Items, RouterId};
+use rc_base::{Addr, RouterId};
 
 /// One direction of a BGP session (RFC 4271 s.8.2.1): what the sender advertises and the receiver may take.
 #[derive(Clone, Copy)]
@@ -17,6 +17,3 @@ pub struct Session {
     /// Whether the two addresses are on a shared subnet. Off one, a session is up only where each address resolves.
     pub is_shared: bool,
 }
-
-/// The sessions of a network: for each router those to it, by sender, then the sender's address.
-pub type Sessions = Items<Items<Session>>;

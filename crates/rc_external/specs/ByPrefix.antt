@@ -6,7 +6,7 @@ use Rattle.rc_base.specs.Prefix.{Cidr}
 use Rattle.rc_ospf.specs.BoundaryPaths.{BoundaryPath}
 use Rattle.rc_external.specs.AsExternal.{AsExternal}
 use Rattle.rc_external.specs.Costs.{cost_cmp}
-use Rattle.rc_external.specs.Ways.{way_to}
+use Rattle.rc_external.specs.Ways.{external_way_to}
 use Rattle.rc_external.specs.declared.as_external.ExternalRow.{ExternalRow}
 use Rattle.rc_external.specs.declared.way.ExternalWay.{ExternalWay}
 
@@ -23,4 +23,4 @@ with_way None w = w
 with_way (Some v) w = match_ordering (cost_cmp w.cost v.cost) w (record { cost = v.cost; hops = v.hops ++ w.hops }) v
 
 abbrev pub then_way : List BoundaryPath → Option ExternalWay → AsExternal → Option ExternalWay
-then_way paths best e = option_map_or (λ w. Some (with_way best w)) (way_to paths e) best
+then_way paths best e = option_map_or (λ w. Some (with_way best w)) (external_way_to paths e) best

@@ -21,6 +21,7 @@ cost_over e distance = cost_by_type e.metric_type e.metric distance
 abbrev pub cost_key : ExternalCost → List ℕ
 cost_key c = metric_type_number c.metric_type ∷ c.metric ∷ c.distance ∷ []
 
+-- external costs: any of type 1 before any of type 2, then by metric, then by distance
 abbrev pub cost_cmp : ExternalCost → ExternalCost → Ordering
 cost_cmp b c = slice_cmp nat_cmp (cost_key b) (cost_key c)
 

@@ -25,10 +25,10 @@ row_for p (e ∷ es) = Some (record { prefix = p; externals = e ∷ es })
 unfoldable pub by_prefix : List AsExternal → List ExternalRow
 by_prefix sent = filter_map (λ p. row_for p (sent_for p sent)) (in_order prefix_cmp (map prefix_of sent))
 
--- a row for each prefix, by address, then length
+-- one row for each prefix, by address, then length
 abbrev pub IsByPrefix : List ExternalRow → Type 0
 IsByPrefix rows = IsStrictlySortedBy prefix_cmp (map (λ (row : ExternalRow). row.prefix) rows)
 
--- what the routers of a network send from a state
+-- what the AS boundary routers of a network send from a state, by prefix
 abbrev pub externals : Network → List RouterState → List ExternalRow
 externals net old = by_prefix (all_sent net old)

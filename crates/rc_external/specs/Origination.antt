@@ -6,7 +6,6 @@ use Rattle.rc_base.specs.Prefix.{Cidr, same_prefix, default_prefix, is_default}
 use Rattle.rc_base.specs.declared.origin.Origin.TheVariants.{Incomplete}
 use Rattle.rc_config.specs.Classes.{natural_length}
 use Rattle.rc_config.specs.Members.{router_at, router_ids}
-use Rattle.rc_config.specs.Named.{named}
 use Rattle.rc_config.specs.declared.bgp.BgpProcess.{BgpProcess}
 use Rattle.rc_config.specs.declared.network.Network.{Network}
 use Rattle.rc_config.specs.declared.ospf.DefaultInformation.{DefaultInformation}
@@ -14,12 +13,10 @@ use Rattle.rc_config.specs.declared.ospf.OspfProcess.{OspfProcess}
 use Rattle.rc_config.specs.declared.ospf.RedistributedSource.{RedistributedSource}
 use Rattle.rc_config.specs.declared.ospf.RedistributedSource.TheVariants as line
 use Rattle.rc_config.specs.declared.ospf.Redistribution.{Redistribution}
-use Rattle.rc_config.specs.declared.route_map.Mention.{Mention}
-use Rattle.rc_config.specs.declared.route_map.RouteMap.{RouteMap}
 use Rattle.rc_config.specs.declared.router_text.RouterText.{RouterText}
 use Rattle.rc_config.specs.declared.sets.MetricType.{MetricType}
 use Rattle.rc_config.specs.declared.sets.MetricType.TheVariants.{Type2}
-use Rattle.rc_policy.specs.Policy.{route_map}
+use Rattle.rc_policy.specs.Policy.{mapped}
 use Rattle.rc_policy.specs.declared.attrs.Attrs.{Attrs}
 use Rattle.rc_route.specs.declared.path.BgpPath.{BgpPath}
 use Rattle.rc_route.specs.declared.route.Route.{Route}
@@ -85,11 +82,6 @@ attrs_with l p path = record {
 
 abbrev pub attrs_of : List BgpPath → Redistribution → Route → Attrs
 attrs_of paths l x = attrs_with l x.prefix (path_for x.source x.prefix paths)
-
--- what the route map of this name makes of a route; without a name it stays as it is
-abbrev pub mapped : RouterText → Option Mention → Attrs → Option Attrs
-mapped file None a = Some a
-mapped file (Some m) a = option_and_then (λ (map : RouteMap). route_map file.lists map a) (named file.route_maps m.name)
 
 -- what router r sends of a route with these attributes
 abbrev pub external_of : ℕ → Cidr → Attrs → AsExternal

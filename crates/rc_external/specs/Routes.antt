@@ -12,7 +12,7 @@ use Rattle.rc_route.specs.Hops.{hop_cmp}
 use Rattle.rc_route.specs.declared.route.Route.{Route}
 use Rattle.rc_route.specs.declared.route.Source.{Source}
 use Rattle.rc_route.specs.declared.route.Source.TheVariants.{OspfE1, OspfE2}
-use Rattle.rc_external.specs.Ways.{best_way}
+use Rattle.rc_external.specs.Ways.{best_external_way}
 use Rattle.rc_external.specs.declared.as_external.ExternalRow.{ExternalRow}
 use Rattle.rc_external.specs.declared.way.ExternalWay.{ExternalWay}
 
@@ -24,7 +24,7 @@ abbrev pub route_over : Cidr → ExternalWay → Route
 route_over p w = record { prefix = p; source = source_by_type w.cost.metric_type; distance = 110; metric = w.cost.metric; hops = in_order hop_cmp w.hops }
 
 abbrev pub route_to : List BoundaryPath → ExternalRow → Option Route
-route_to paths row = option_map (route_over row.prefix) (best_way paths row.externals)
+route_to paths row = option_map (route_over row.prefix) (best_external_way paths row.externals)
 
 -- a route for each prefix of some rows to which a way leads
 abbrev pub routes_over : List BoundaryPath → List ExternalRow → List Route

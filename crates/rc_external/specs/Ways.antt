@@ -13,24 +13,24 @@ use Rattle.rc_external.specs.declared.way.ExternalWay.{ExternalWay}
 abbrev pub path_to : List BoundaryPath → ℕ → Option BoundaryPath
 path_to paths s = find (λ (b : BoundaryPath). b.router == s) paths
 
-abbrev pub way_over : AsExternal → BoundaryPath → ExternalWay
-way_over e b = record { cost = cost_over e b.cost; hops = b.hops }
+abbrev pub external_way_over : AsExternal → BoundaryPath → ExternalWay
+external_way_over e b = record { cost = cost_over e b.cost; hops = b.hops }
 
-abbrev pub way_to : List BoundaryPath → AsExternal → Option ExternalWay
-way_to paths e = option_map (way_over e) (path_to paths e.boundary)
+abbrev pub external_way_to : List BoundaryPath → AsExternal → Option ExternalWay
+external_way_to paths e = option_map (external_way_over e) (path_to paths e.boundary)
 
 -- the least cost of some ways
-abbrev pub least_cost : ExternalWay → List ExternalWay → ExternalCost
-least_cost w ws = fold (λ c (x : ExternalWay). lower c x.cost) w.cost ws
+abbrev pub lowest_cost : ExternalWay → List ExternalWay → ExternalCost
+lowest_cost w ws = fold (λ c (x : ExternalWay). lower c x.cost) w.cost ws
 
 -- the hops of all ways of a cost
-abbrev pub hops_at : ExternalCost → List ExternalWay → List Hop
-hops_at c ways = flat_map (λ (w : ExternalWay). w.hops) (filter (λ (w : ExternalWay). same_cost c w.cost) ways)
+abbrev pub hops_of_cost : ExternalCost → List ExternalWay → List Hop
+hops_of_cost c ways = flat_map (λ (w : ExternalWay). w.hops) (filter (λ (w : ExternalWay). same_cost c w.cost) ways)
 
 -- the least cost, and the hops of all ways that cost as much
-abbrev pub best_of : List ExternalWay → Option ExternalWay
-best_of [] = None
-best_of (w ∷ ws) = Some (record { cost = least_cost w ws; hops = hops_at (least_cost w ws) (w ∷ ws) })
+abbrev pub best_external_of : List ExternalWay → Option ExternalWay
+best_external_of [] = None
+best_external_of (w ∷ ws) = Some (record { cost = lowest_cost w ws; hops = hops_of_cost (lowest_cost w ws) (w ∷ ws) })
 
-abbrev pub best_way : List BoundaryPath → List AsExternal → Option ExternalWay
-best_way paths sent = best_of (filter_map (way_to paths) sent)
+abbrev pub best_external_way : List BoundaryPath → List AsExternal → Option ExternalWay
+best_external_way paths sent = best_external_of (filter_map (external_way_to paths) sent)

@@ -35,7 +35,7 @@ pub(crate) fn cost_over(external: &External, distance: u32) -> ExternalCost
     }
 }
 
-/// The lower cost first (RFC 2328 s.16.4).
+/// External costs, the lower one first (RFC 2328 s.16.4).
 #[tactic(auto, using(crate::proofs::CostLaws::three_in_row))]
 pub fn compare_costs(a: &ExternalCost, b: &ExternalCost) -> Ordering
     ensures { result ≡ costs.cost_cmp a.now b.now }

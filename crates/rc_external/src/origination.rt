@@ -3,6 +3,7 @@ ghost use Rattle.std.specs.Prelude.{◌≡◌, ◌≤◌, Some, None, IfOk, IfEr
 ghost use Rattle.std.specs.List.{find};
 ghost use Rattle.std.specs.Option.{option_copied};
 ghost use Rattle.rc_base.specs.Prefix.{is_default, same_prefix};
+ghost use Rattle.rc_policy.specs.Policy.{mapped};
 ghost use Rattle.rc_route.specs.Tables.{IsPathList};
 ghost use Rattle.rc_external.specs.AsExternal.{sent_metric};
 ghost use Rattle.rc_external.specs.Origination as spec;
@@ -185,7 +186,7 @@ fn mapped(
     name: &Mention,
     attrs: Attrs,
 ) -> Result<Option<Attrs>, AllocError>
-    ensures { IfOk result (λ made. made ≡ spec.mapped file.now (Some name.now) attrs) }
+    ensures { IfOk result (λ made. made ≡ mapped file.now (Some name.now) attrs) }
 {
     let found = file.route_maps.get(&name.name);
     match found {
@@ -210,7 +211,7 @@ fn sent_through(
     name: &Mention,
     attrs: Attrs,
 ) -> Result<Option<External>, AllocError>
-    ensures { IfOk result (λ sent. sent ≡ option_map (spec.external_of router prefix) (spec.mapped file.now (Some name.now) attrs)) }
+    ensures { IfOk result (λ sent. sent ≡ option_map (spec.external_of router prefix) (mapped file.now (Some name.now) attrs)) }
 {
     match mapped(alloc, file, name, attrs)? {
         Some(attrs) => Ok(Some(external_of(router, prefix, &attrs))),

@@ -5,7 +5,7 @@ ghost use Rattle.rc_external.specs.Externals.{IsByPrefix};
 ghost use Rattle.rc_external.specs.Routes as spec;
 
 use crate::boundary_index::BoundaryIndex;
-use crate::way::best_way;
+use crate::way::best_external_way;
 use crate::{ExternalRow, ExternalWay, Externals};
 use rc_base::{Items, Prefix, RouterId};
 use rc_config::MetricType;
@@ -45,7 +45,7 @@ fn route_to(
 ) -> Result<Option<Route>, AllocError>
     ensures { IfOk result (λ route. route ≡ spec.route_to paths.now row.now) }
 {
-    match best_way(alloc, paths, row.externals.as_slice())? {
+    match best_external_way(alloc, paths, row.externals.as_slice())? {
         Some(way) => Ok(Some(route_over(alloc, row.prefix, &way)?)),
         None => Ok(None),
     }

@@ -55,7 +55,7 @@ fn add_way(
 }
 
 /// The best way to what is sent for a prefix.
-pub(crate) fn best_way(
+pub(crate) fn best_external_way(
     alloc: Global,
     paths: &BoundaryIndex<'_>,
     externals: &[External],

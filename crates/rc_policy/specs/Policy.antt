@@ -17,6 +17,7 @@ use Rattle.rc_config.specs.declared.prefix_list.PrefixList.{PrefixList}
 use Rattle.rc_config.specs.declared.route_map.MapEntry.{MapEntry}
 use Rattle.rc_config.specs.declared.route_map.Mention.{Mention}
 use Rattle.rc_config.specs.declared.route_map.RouteMap.{RouteMap}
+use Rattle.rc_config.specs.declared.router_text.RouterText.{RouterText}
 use Rattle.rc_config.specs.declared.sets.CommunityChange.{CommunityChange}
 use Rattle.rc_config.specs.declared.sets.CommunityChange.TheVariants.{Keep, Replace, Add}
 use Rattle.rc_config.specs.declared.sets.Sets.{Sets}
@@ -41,6 +42,7 @@ has_length (Some ge) (Some le) own len = nat_le ge len && nat_le len le
 abbrev pub matches_prefix : PrefixLine → Cidr → Bool
 matches_prefix l p = contains l.prefix p.network && has_length l.ge l.le l.prefix.len p.len
 
+-- what a prefix list permits: a line matches a prefix inside its own whose length is within its bounds
 abbrev pub prefix_list_permits : PrefixList → Cidr → Bool
 prefix_list_permits list p = first_permits (λ (l : PrefixLine). l.action) (λ l. matches_prefix l p) list.lines
 
@@ -50,10 +52,12 @@ prefix_list_permits list p = first_permits (λ (l : PrefixLine). l.action) (λ l
 abbrev pub community_lines_permit : List CommunityLine → List ℕ → Bool
 community_lines_permit lines communities = first_permits (λ (l : CommunityLine). l.action) (λ (l : CommunityLine). has_all communities l.communities) lines
 
+-- what a community list permits: a line matches where the route has all of its communities (RFC 1997)
 abbrev pub community_list_permits : CommunityList → List ℕ → Bool
 community_list_permits list communities = community_lines_permit list.lines communities
 
 -- ---- access lists, asked for an address alone: a line matches where it is one of the line's sources
+-- what a standard access list permits, asked for an address as the source
 abbrev pub access_list_permits : AccessList → ℕ → Bool
 access_list_permits f addr = first_permits (λ (l : AccessListLine). l.action) (λ (l : AccessListLine). matches_address l.source addr) f.lines
 
@@ -102,6 +106,11 @@ abbrev pub decided : Action → Sets → Attrs → Option Attrs
 decided Permit s a = Some (with_sets s a)
 decided Deny s a = None
 
--- the first entry that matches decides, by rising number, and the end rejects
+-- what a route map makes of a route: the first entry that matches decides, by rising number, and the end rejects
 abbrev pub route_map : Lists → RouteMap → Attrs → Option Attrs
 route_map lists map a = option_and_then (λ (e : MapEntry). decided e.action e.sets a) (find (matches_entry lists a) map.entries)
+
+-- what the route map of a file that is named makes of attributes: without a name they stay as they are, and a map that isn't there rejects
+abbrev pub mapped : RouterText → Option Mention → Attrs → Option Attrs
+mapped file None a = Some a
+mapped file (Some map) a = option_and_then (λ (m : RouteMap). route_map file.lists m a) (named file.route_maps map.name)

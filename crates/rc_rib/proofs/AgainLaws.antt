@@ -10,7 +10,7 @@ use Rattle.rc_bgp.specs.Candidates.{all_best, best_paths}
 use Rattle.rc_bgp.specs.Changes.{CoversChange}
 use Rattle.rc_bgp.specs.Known.{path_at, paths_of, table_of}
 use Rattle.rc_bgp.specs.Own.{own_paths, paths_of_process}
-use Rattle.rc_bgp.specs.Sessions.{is_up, sessions, sessions_of}
+use Rattle.rc_bgp.specs.Sessions.{configured_sessions, is_up, sessions_of}
 use Rattle.rc_bgp_session.specs.declared.session.Session.{Session}
 use Rattle.rc_config.specs.Members.{router_at, router_ids}
 use Rattle.rc_config.specs.declared.network.Network.{Network}
@@ -19,7 +19,7 @@ use Rattle.rc_config.specs.declared.static_route.StaticRoute.{StaticRoute}
 use Rattle.rc_external.specs.AsExternal.{AsExternal}
 use Rattle.rc_external.specs.Externals.{externals}
 use Rattle.rc_external.specs.Routes.{external_routes, route_over, route_to, routes_over}
-use Rattle.rc_external.specs.Ways.{best_of, way_to}
+use Rattle.rc_external.specs.Ways.{best_external_of, external_way_to}
 use Rattle.rc_external.specs.declared.as_external.ExternalRow.{ExternalRow}
 use Rattle.rc_fib.specs.Forwarding.{resolved}
 use Rattle.rc_ospf.specs.declared.model.Internal.{Internal}
@@ -39,12 +39,12 @@ numbered n r less =
 
 -- ---- without a path to a router that sends it nothing comes from outside of the AS
 
-no_ways : (sent : List AsExternal) → filter_map (way_to []) sent ≡ []
+no_ways : (sent : List AsExternal) → filter_map (external_way_to []) sent ≡ []
 no_ways [] = refl
 no_ways (e ∷ es) = no_ways es
 
 no_route : (row : ExternalRow) → route_to [] row ≡ None
-no_route row = ap (λ ways. option_map (route_over row.prefix) (best_of ways)) (no_ways row.externals)
+no_route row = ap (λ ways. option_map (route_over row.prefix) (best_external_of ways)) (no_ways row.externals)
 
 nothing_outside : (rows : List ExternalRow) → routes_over [] rows ≡ []
 nothing_outside [] = refl
@@ -85,7 +85,7 @@ module _ (net : Network) (internal : Internal) (all : List (List Session)) (r : 
       by (Some f) e none = absurd (cc)
 
   -- its best paths in a state that came from an earlier one
-  pub known_paths : all ≡ sessions net internal.links → (state before : List RouterState) → state ≡ next_state net internal before → paths_of state r ≡ best_paths net all before r
+  pub known_paths : all ≡ configured_sessions net internal.links → (state before : List RouterState) → state ≡ next_state net internal before → paths_of state r ≡ best_paths net all before r
   known_paths these state before is = ap (λ all. paths_of all r) is ∙ ap (λ o. option_map_or (λ (s : RouterState). s.paths) o []) (row before) ∙ by (router_at net r) refl
     where
       by : (o : Option RouterText) → router_at net r ≡ o → (option_map_or (router_after net internal before r) o (record { table = []; paths = [] })).paths ≡ best_paths net all before r
@@ -106,7 +106,7 @@ module _ (net : Network) (internal : Internal) (all : List (List Session)) (r : 
   }
 
   -- where it reads no other router
-  alone : (file : RouterText) → all ≡ sessions net internal.links → ReadsNoOthers net internal all r → (old : List RouterState) → router_after net internal old r file ≡ after file (table_of old r) [] []
+  alone : (file : RouterText) → all ≡ configured_sessions net internal.links → ReadsNoOthers net internal all r → (old : List RouterState) → router_after net internal old r file ≡ after file (table_of old r) [] []
   unfolding after
   alone file these others old =
       ap (λ paths. after file (table_of old r) paths (external_routes internal (externals net old) r))
@@ -118,7 +118,7 @@ module _ (net : Network) (internal : Internal) (all : List (List Session)) (r : 
   unfolding after with_lines
   from_file file t u none = ap (with_lines file t) none ∙ sym (ap (with_lines file u) none)
 
-  pub again : all ≡ sessions net internal.links → (state before : List RouterState) (s : RouterState) → state ≡ next_state net internal before → IsUnchanged net internal all state before r s → s ≡ next_router net internal state r
+  pub again : all ≡ configured_sessions net internal.links → (state before : List RouterState) (s : RouterState) → state ≡ next_state net internal before → IsUnchanged net internal all state before r s → s ≡ next_router net internal state r
   again these state before s is same =
       same_Some s (next_router net internal before r) (sym same.known ∙ ap (λ all. slice_get all r) is ∙ row before) ∙ by (router_at net r) same.reads
     where
@@ -148,7 +148,7 @@ same_elements (x ∷ xs) (y ∷ ys) same =
     ap (λ z. z ∷ xs) (same_Some x y (same 0)) ∙ ap (λ zs. y ∷ zs) tails
 
 module _ (net : Network) (internal : Internal) (all : List (List Session)) (state before : List RouterState) where
-  pub settled : all ≡ sessions net internal.links → state ≡ next_state net internal before → length state ≡ length net.routers → AreUnchanged net internal all state before → next_state net internal state ≡ state
+  pub settled : all ≡ configured_sessions net internal.links → state ≡ next_state net internal before → length state ≡ length net.routers → AreUnchanged net internal all state before → next_state net internal state ≡ state
   settled these is as_long same = same_elements (next_state net internal state) state (λ k. at k (dec_lt k (length net.routers)))
     where
       as_many : length (next_state net internal state) ≡ length net.routers

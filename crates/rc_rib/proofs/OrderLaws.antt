@@ -13,7 +13,7 @@ use Rattle.rc_bgp.specs.Known.{is_before, table_of}
 use Rattle.rc_bgp.specs.Learning.{learned_by, learned_route}
 use Rattle.rc_external.specs.Externals.{IsByPrefix}
 use Rattle.rc_external.specs.Routes.{boundaries_of, external_routes, route_over, route_to}
-use Rattle.rc_external.specs.Ways.{best_way}
+use Rattle.rc_external.specs.Ways.{best_external_way}
 use Rattle.rc_external.specs.declared.as_external.ExternalRow.{ExternalRow}
 use Rattle.rc_external.specs.declared.way.ExternalWay.{ExternalWay}
 use Rattle.rc_ospf.specs.BoundaryPaths.{BoundaryPath}
@@ -168,7 +168,7 @@ pub others_in_order : (own : List Cidr) (routes others : List Route) → others 
 others_in_order own routes others is up = subst IsTable (sym is) (left_in_order (λ (x : Route). not (is_own own x.prefix)) routes up)
 
 external_prefix : (paths : List BoundaryPath) (row : ExternalRow) (y : Route) → route_to paths row ≡ Some y → y.prefix ≡ row.prefix
-external_prefix paths row y e = by (best_way paths row.externals) e
+external_prefix paths row y e = by (best_external_way paths row.externals) e
   where
     prefix_in : Option Route → Cidr
     prefix_in None = row.prefix

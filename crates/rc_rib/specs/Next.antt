@@ -6,7 +6,7 @@ use Rattle.rc_base.specs.Prefix.{Cidr, same_prefix}
 use Rattle.rc_bgp.specs.Candidates.{best_paths}
 use Rattle.rc_bgp.specs.Known.{table_of}
 use Rattle.rc_bgp.specs.Learning.{learned_route}
-use Rattle.rc_bgp.specs.Sessions.{sessions}
+use Rattle.rc_bgp.specs.Sessions.{configured_sessions}
 use Rattle.rc_config.specs.declared.network.Network.{Network}
 use Rattle.rc_config.specs.declared.router_text.RouterText.{RouterText}
 use Rattle.rc_config.specs.Members.{router_at, router_ids}
@@ -58,13 +58,14 @@ learned_routes paths = filter_map learned_route paths
 -- what a router of this file knows after a round
 abbrev pub router_after : Network → Internal → List RouterState → ℕ → RouterText → RouterState
 router_after net internal old r file =
-    let best = best_paths net (sessions net internal.links) old r in
+    let best = best_paths net (configured_sessions net internal.links) old r in
     record { table = table_after r file (learned_routes best) (ospf_routes internal (externals net old) r) (table_of old r); paths = best }
 
--- what a router knows after a round in which all read the old state, beside what OSPF gives without any
+-- what a router knows after a round in which all read the old state: its best BGP paths, and for each prefix the route of the least
+-- distance among connected, static, OSPF and BGP ones
 abbrev pub next_router : Network → Internal → List RouterState → ℕ → RouterState
 next_router net internal old r = option_map_or (router_after net internal old r) (router_at net r) (record { table = []; paths = [] })
 
--- a round: all routers read the old state
+-- the state after a round in which all routers read the old one
 abbrev pub next_state : Network → Internal → List RouterState → List RouterState
 next_state net internal old = map (next_router net internal old) (router_ids net)

@@ -1,5 +1,5 @@
 //! What tables are made from.
-use rc_bgp::{Changes, Sessions};
+use rc_bgp::{Changes, ConfiguredSessions};
 use rc_config::Network;
 use rc_external::Externals;
 use rc_ospf::Internal;
@@ -19,8 +19,8 @@ pub struct Inputs<'a> {
     pub network: &'a Network,
     /// What OSPF gives without any table, which no round changes.
     pub internal: &'a Internal,
-    /// The sessions of BGP, which no round changes.
-    pub sessions: &'a Sessions,
+    /// The sessions of BGP that are configured, which no round changes.
+    pub sessions: &'a ConfiguredSessions,
     /// What AS boundary routers send of the tables of the round before.
     pub externals: &'a Externals,
     /// What each router knows after the round before.

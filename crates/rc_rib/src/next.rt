@@ -27,7 +27,7 @@ use crate::merging::merged;
 use crate::outside::{outside_routes, routes_of};
 use crate::{Inputs, Made};
 use rc_base::{Items, RouterId};
-use rc_bgp::{Renewed, Sessions, first_paths, renewed_paths};
+use rc_bgp::{ConfiguredSessions, Renewed, first_paths, renewed_paths};
 use rc_config::{Network, RouterText};
 use rc_fib::Fib;
 use rc_ospf::Internal;
@@ -288,8 +288,8 @@ fn has_no_process(net: &Network, router: RouterId) -> bool
     }
 }
 
-/// Whether there is no session to a router.
-fn has_no_sessions(sessions: &Sessions, router: RouterId) -> bool
+/// Whether no session to a router is configured.
+fn has_no_sessions(sessions: &ConfiguredSessions, router: RouterId) -> bool
     ensures { IsTrue result → sessions_of sessions.now router ≡ [] }
 {
     let found = sessions.as_slice().get(router.index());
