@@ -3,3 +3,4 @@ mod FileFronts
 mod ReadLaws
 mod AnswerLaws
 mod OneAnswer
+mod FoundLaws

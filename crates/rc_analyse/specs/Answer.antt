@@ -62,7 +62,7 @@ pub record IsGiven (files : List File) (r : Request) (g : Given) : Type 0 where
   pub are : AreFound files r found
   pub gives : IsGivenBy found g
 
--- files give one thing to a request, so their answer is one
+-- the files of a folder give one thing to a request, so their answer is one
 abbrev pub HasOneAnswer : Type 0
 HasOneAnswer = (files : List File) (r : Request) (this that : Given) → IsGiven files r this → IsGiven files r that → this ≡ that
 
@@ -78,7 +78,7 @@ IsLacking files r _ = ⊥
 abbrev pub IsAnswer : List File → Request → Status → Option (List ℕ) → Option (List ℕ) → Type 0
 IsAnswer files r answer old new = ((g : Given) × IsGiven files r g × IsWritten (status_of g) (text_of r.ask g) answer old new) ⊎ ((answer ≡ Source) × (new ≡ old)) ⊎ (IsLacking files r answer × (new ≡ old))
 
--- the statuses with which nothing is written
+-- the statuses with which nothing is written: 5, 6 and 8
 abbrev pub IsSilent : Status → Type 0
 IsSilent Nodes = Unit {0}
 IsSilent Source = Unit {0}
@@ -89,6 +89,6 @@ IsSilent _ = ⊥
 abbrev pub IsComplete : List File → Request → Status → Option (List ℕ) → Option (List ℕ) → Type 0
 IsComplete files r answer old new = IsLacking files r answer ⊎ ((g : Given) × IsGiven files r g × (answer ≡ status_of g) × (new ≡ appended old (text_of r.ask g)))
 
--- without a fault of the folder or the sink
+-- without a fault of the folder or the sink the text is written whole with its status, unless something is lacking
 pub record IsCompleteWithout (source sink : Type 0) (files : List File) (r : Request) (answer : Status) (old new : Option (List ℕ)) : Type 0 where
   pub whole : ¬ source → ¬ sink → IsComplete files r answer old new

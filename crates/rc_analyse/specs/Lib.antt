@@ -1,3 +1,4 @@
 pub mod Net
+pub mod Causes
 pub mod Answer
 pub mod Sound

@@ -1,5 +1,5 @@
 //! What the files that are asked about give.
-ghost use Rattle.std.specs.Prelude.{◌≡◌, ◌≢◌, ◌≤◌, [], Ok, Err, IfOk, IfSome, length};
+ghost use Rattle.std.specs.Prelude.{◌≡◌, ◌≢◌, ◌≤◌, [], None, Ok, Err, IfOk, IfErr, IfSome, length};
 ghost use Rattle.rc_config.specs.Lawful.{IsLawful};
 ghost use Rattle.rc_generate.specs.Files.{files};
 ghost use Rattle.rc_outside.specs.Causes.{HasCause};
@@ -7,7 +7,8 @@ ghost use Rattle.rc_words.specs.Request.{AreInRange, IsAskInRange};
 ghost use Rattle.rc_analyse.specs.Answer.{AreFound, HasOneAnswer, MayAsk, dir_of, files_asked};
 ghost use Rattle.rc_analyse.specs.Net.{IsNet};
 ghost use Rattle.rc_answers.specs.Sound.{IsSound, StartsIn};
-ghost use Rattle.rc_analyse.specs.Sound.{IsEndedAs};
+ghost use Rattle.rc_analyse.specs.Sound.{IsEndedAs, IsFoundOf};
+ghost use Rattle.rc_answers.specs.Subject.{subject_of};
 
 use crate::loading::read_network;
 use rc_answers::{Findings, Subject, subject_of};
@@ -79,6 +80,30 @@ fn ended<R: Threads + Sync + AllocGlobal, G: Gate>(
     Ok(Findings::Ended(net, outcome, subject))
 }
 
+/// What a network, or the refusal of one, is found to be. Only a network with such a place needs memory for more.
+fn findings_of<R: Threads + Sync + AllocGlobal, G: Gate>(
+    rt: &R,
+    request: &Request,
+    net: Result<Network, NetRefusal>,
+    gate: &G,
+) -> Result<Findings, AllocError>
+    requires lawful { IfOk net IsLawful }
+    requires limits { AreInRange request.now.limits }
+    ensures found { IfOk result (IsFoundOf request.now net) }
+    ensures refused { IfErr net (λ refusal. result ≡ Ok (Findings.Refused refusal)) }
+    ensures no_place { IfOk net (λ n. subject_of n request.now.ask ≡ None → result ≡ Ok Findings.NoPlace) }
+    ensures sound { IfOk result IsSound }
+{
+    let net = match net {
+        Ok(net) => net,
+        Err(refusal) => return Ok(Findings::Refused(refusal)),
+    };
+    match subject_of(&net, &request.ask) {
+        Some(subject) => ended(rt, net, &request.limits, subject, gate),
+        None => Ok(Findings::NoPlace),
+    }
+}
+
 /// What the files that are asked about are found to be.
 pub(crate) fn analyse_folder<R: Threads + Sync + AllocGlobal, F: Folder, G: Gate>(
     rt: &R,
@@ -93,15 +118,8 @@ pub(crate) fn analyse_folder<R: Threads + Sync + AllocGlobal, F: Folder, G: Gate
     ensures sound { IfOk result IsSound }
     ensures cause { HasCause (F.faults folder.old) (F.faults folder.new) result }
 {
-    let net = match network_asked(rt.alloc(), &request.ask, folder)? {
-        Ok(net) => net,
-        Err(refusal) => return Ok(Findings::Refused(refusal)),
-    };
-    let subject = match subject_of(&net, &request.ask) {
-        Some(subject) => subject,
-        None => return Ok(Findings::NoPlace),
-    };
-    match ended(rt, net, &request.limits, subject, gate) {
+    let net = network_asked(rt.alloc(), &request.ask, folder)?;
+    match findings_of(rt, request, net, gate) {
         Ok(found) => Ok(found),
         Err(_) => Err(SourceError::Memory),
     }

@@ -1,14 +1,15 @@
 //! The models of the configurations of a folder, and their network.
-ghost use Rattle.std.specs.Prelude.{◌≡◌, ◌≤◌, All, List, ℕ, Ok, Err, IsTrue, IsSome, IfOk, IfSome, OnErr, length};
+ghost use Rattle.std.specs.Prelude.{◌≡◌, ◌≢◌, ◌≤◌, All, List, ℕ, Ok, Err, IsTrue, IsSome, IfOk, IfErr, IfSome, OnErr, length};
 ghost use Rattle.rc_outside.specs.Causes.{HasCause};
 ghost use Rattle.rc_outside.specs.Folder.{is_config, bytes_at};
 ghost use Rattle.rc_config.specs.Lawful.{IsLawful, IsLawfulFile};
-ghost use Rattle.rc_analyse.specs.Net.{model_of, models_of, bytes_in, IsNet};
+ghost use Rattle.rc_analyse.specs.Causes.{network_or_refusal, refusal_of};
+ghost use Rattle.rc_analyse.specs.Net.{model_of, models_of, bytes_in, IsNet, IsNetOf};
 
 use crate::listing::config_names;
 use rc_base::{FileName, Items};
 use rc_config::{Network, RouterText};
-use rc_grammar::{ReadError, read_file};
+use rc_grammar::{FileRefusal, ReadError, read_file};
 use rc_network::{BuildError, NetCause, NetRefusal, build};
 use rc_outside::{Folder, SourceError};
 use std::alloc::{AllocError, Global};
@@ -41,6 +42,17 @@ fn refused(
     }
 }
 
+/// The refusal of a file that has no model, or `None` where memory ran out.
+fn refusal_of(error: ReadError) -> Option<FileRefusal>
+    ensures refusal { result ≡ refusal_of error }
+    ensures told { IfSome result (λ refusal. error ≡ ReadError.Refused refusal) }
+{
+    match error {
+        ReadError::Refused(refusal) => Some(refusal),
+        ReadError::Memory => None,
+    }
+}
+
 /// The model of a file's bytes, or its first refusal.
 #[tactic(auto, unfolding(crate::specs::Net::model_of))]
 fn parsed(
@@ -56,10 +68,12 @@ fn parsed(
     }
     match read_file(alloc, bytes) {
         Ok(model) => Ok(Ok(model)),
-        Err(ReadError::Refused(refusal)) => {
+        Err(error) => {
+            let Some(refusal) = refusal_of(error) else {
+                return Err(AllocError);
+            };
             refused(alloc, name, refusal.line, NetCause::File(refusal.cause))
         }
-        Err(ReadError::Memory) => Err(AllocError),
     }
 }
 
@@ -122,6 +136,37 @@ fn read_models<F: Folder>(
     Ok(Ok(models))
 }
 
+/// What was built, or the refusal of it, or that memory ran out.
+fn network_or_refusal(
+    built: Result<Network, BuildError>,
+) -> Result<Result<Network, NetRefusal>, SourceError>
+    ensures { result ≡ network_or_refusal built }
+{
+    match built {
+        Ok(net) => Ok(Ok(net)),
+        Err(BuildError::Refused(refusal)) => Ok(Err(refusal)),
+        Err(BuildError::Memory) => Err(SourceError::Memory),
+    }
+}
+
+/// The network of the models that were read, or the first refusal, which may be that of a file that has none.
+fn network_of(
+    alloc: Global,
+    read: Result<Items<(FileName, RouterText)>, NetRefusal>,
+) -> Result<Result<Network, NetRefusal>, SourceError>
+    requires few { IfOk read (λ models. length models ≤ 512) }
+    requires lawful { IfOk read (λ models. All (λ m. IsLawfulFile m.1) models) }
+    ensures net { IfOk result (IsNetOf read) }
+    ensures refused { IfErr read (λ refusal. result ≡ Ok (Err refusal)) }
+    ensures lawful { IfOk result (λ net. IfOk net IsLawful) }
+    ensures never_failed { result ≢ Err SourceError.Failed }
+{
+    match read {
+        Ok(models) => network_or_refusal(build(alloc, models.into_vec())),
+        Err(refusal) => Ok(Err(refusal)),
+    }
+}
+
 /// The network of the files of a folder, or their first refusal.
 pub(crate) fn read_network<F: Folder>(
     alloc: Global,
@@ -140,17 +185,9 @@ pub(crate) fn read_network<F: Folder>(
     if configs.len() > MOST_FILES {
         return Ok(Err(NetRefusal::TooManyFiles));
     }
-    let said = match read_models(alloc, dir, configs, folder) {
-        Ok(said) => said,
+    let read = match read_models(alloc, dir, configs, folder) {
+        Ok(read) => read,
         Err(error) => return Err(error),
     };
-    let models = match said {
-        Ok(models) => models.into_vec(),
-        Err(refusal) => return Ok(Err(refusal)),
-    };
-    match build(alloc, models) {
-        Ok(net) => Ok(Ok(net)),
-        Err(BuildError::Refused(refusal)) => Ok(Err(refusal)),
-        Err(BuildError::Memory) => Err(SourceError::Memory),
-    }
+    network_of(alloc, read)
 }

@@ -42,7 +42,7 @@ pub fn run<R: Threads + Sync + AllocGlobal, F: Folder, S: Sink, G: Gate>(
     ensures plain { IsTakenWhenPlain (map (λ w. w.now) words.now) }
 
     // Where the files are told, the text and the status are those of the first refusal, or of the place that isn't there, or of
-    // the rounds' outcome with the routes, the walk or the cubes that are asked for.
+    // the rounds' outcome with the routes, the walk or the cubes that are asked for; or of that text a front, where the sink failed.
     ensures answer { IfSome (request_of (map (λ w. w.now) words.now)) (λ r. IfSome (files_asked r.ask (F.told folder.old)) (λ files. IsAnswer files r result (S.told out.old) (S.told out.new))) }
 
     // Where reading or memory failed, or the table of nodes is too small, nothing is written.
@@ -52,8 +52,11 @@ pub fn run<R: Threads + Sync + AllocGlobal, F: Folder, S: Sink, G: Gate>(
     ensures complete { IfSome (request_of (map (λ w. w.now) words.now)) (λ r. IfSome (files_asked r.ask (F.told folder.old)) (λ files.
         IsCompleteWithout (Rose (F.faults folder.old) (F.faults folder.new)) (Rose (S.faults out.old) (S.faults out.new)) files r result (S.told out.old) (S.told out.new))) }
 
+    // Where reading failed: only where the folder counted a fault, and always where it did.
     ensures source_only { result ≡ Status.Source → Rose (F.faults folder.old) (F.faults folder.new) }
     ensures source_always { F.faults folder.old < F.faults folder.new → result ≡ Status.Source }
+
+    // Where writing failed: likewise of the sink.
     ensures sink_only { result ≡ Status.Sink → Rose (S.faults out.old) (S.faults out.new) }
     ensures sink_always { S.faults out.old < S.faults out.new → result ≡ Status.Sink }
 {

@@ -1,5 +1,5 @@
 -- What is shown of findings is one.
-use Rattle.std.proofs.Common.{◌≡◌, ◌∙◌, inl, inr, sym, ap, List, [], ◌∷◌, take}
+use Rattle.std.proofs.Common.{◌≡◌, ◌∙◌, inl, inr, sym, ap, subst, List, [], ◌∷◌, take}
 use Rattle.rc_config.specs.declared.network.Network.{Network}
 use Rattle.rc_base.specs.declared.ending.Ends.{Ends}
 use Rattle.rc_base.specs.declared.header.Header.{Header}
@@ -9,12 +9,15 @@ use Rattle.rc_cubes.specs.declared.cube.Cube.{Cube}
 use Rattle.rc_route.specs.declared.state.RouterState.{RouterState}
 use Rattle.rc_route.specs.declared.outcome.Outcome.{Outcome}
 use Rattle.rc_route.specs.declared.outcome.Outcome.TheVariants as outcome
+use Rattle.rc_reach.proofs.ReachingLaws.{one_set}
 use Rattle.rc_walk.proofs.ShortestLaws.{one_shortest_walk}
 use Rattle.rc_walk.proofs.WalkLaws.{one_first_walk}
 use Rattle.rc_walk.specs.Moves.{DataPlane, plane_of}
 use Rattle.rc_walk.specs.declared.walk.Walk.{Walk}
-use Rattle.rc_answers.specs.Written.{AreExamples, AreWalksOf, IsGivenBy, IsShown, IsShownAtFixed, reaching_set}
-use Rattle.rc_answers.specs.Given.{Given, ended, Shown, walk_of, cubes_of}
+use Rattle.rc_words.specs.Endings.{arrivals}
+use Rattle.rc_answers.specs.Written.{AreExamples, AreExamplesOf, AreWalksOf, IsGivenBy, IsShown, IsShownAtFixed}
+use Rattle.rc_answers.specs.Given.{Given, ended, Shown, walk_of, cubes_of, first_cube_of}
+use Rattle.rc_answers.specs.Texts.{route_count}
 use Rattle.rc_answers.specs.declared.findings.Findings.{Findings}
 use Rattle.rc_answers.specs.declared.findings.Findings.TheVariants as found
 use Rattle.rc_answers.specs.declared.subject.Subject.{Subject}
@@ -38,9 +41,14 @@ module _ (net : Network) where
   shown_at_fixed state AllRouters this that h g = h ∙ sym g
   shown_at_fixed state (OneRouter r) this that h g = h ∙ sym g
   shown_at_fixed state (Packet position header) this that (walk, first, is) (other, first_too, is_too) = is ∙ ap walk_of (one_first_walk (plane_of net state) header position walk other first first_too) ∙ sym is_too
-  shown_at_fixed state (Packets position ends examples) this that (walks, are, is) (others, are_too, is_too) =
-      is ∙ ap (cubes_of (reaching_set net state position ends)) (all_examples (plane_of net state) position ends (take examples (cubes (reaching_set net state position ends))) walks others are are_too) ∙ sym is_too
-  shown_at_fixed state (Made position) this that h g = h ∙ sym g
+  shown_at_fixed state (Packets position ends examples) this that h g =
+      let plane = plane_of net state in
+      let sets : h.set ≡ g.set = one_set plane position ends h.set g.set h.reaches g.reaches in
+      let here : AreExamplesOf plane position ends examples g.set h.walks = subst (λ set. AreExamplesOf plane position ends examples set h.walks) sets h.examples in
+      let walks : h.walks ≡ g.walks = all_examples plane position ends (take examples (cubes g.set)) h.walks g.walks here g.examples in
+      h.are ∙ (λ i. cubes_of (sets i) (walks i)) ∙ sym g.are
+  shown_at_fixed state (Made position) this that h g =
+      h.is ∙ ap (first_cube_of (route_count state)) (one_set (plane_of net state) position arrivals h.set g.set h.reaches g.reaches) ∙ sym g.is
 
   shown_after : (o : Outcome) (subject : Subject) (this that : Shown) → IsShown net o subject this → IsShown net o subject that → this ≡ that
   shown_after (outcome.Fixed k state) subject this that h g = shown_at_fixed state subject this that h g

@@ -4,9 +4,9 @@ use Rattle.rc_base.specs.declared.ending.Ends.{Ends}
 use Rattle.rc_base.specs.declared.header.Header.{Header}
 use Rattle.rc_base.specs.declared.position.Pos.{Pos}
 use Rattle.rc_config.specs.declared.network.Network.{Network}
-use Rattle.rc_edges.specs.Query.{reaching}
 use Rattle.rc_network.specs.declared.refusal.NetRefusal.{NetRefusal}
-use Rattle.rc_trees.specs.Recipes.{tree}
+use Rattle.rc_reach.specs.Reaching.{IsReachingSet}
+use Rattle.rc_trees.specs.Trees.{Tree}
 use Rattle.rc_route.specs.declared.state.RouterState.{RouterState}
 use Rattle.rc_route.specs.declared.outcome.Outcome.{Outcome}
 use Rattle.rc_route.specs.declared.outcome.Outcome.TheVariants.{Fixed, Repeats, Limit}
@@ -15,7 +15,7 @@ use Rattle.rc_walk.specs.Walks.{IsFirstWalk}
 use Rattle.rc_walk.specs.declared.walk.Walk.{Walk}
 use Rattle.rc_words.specs.Endings.{arrivals}
 use Rattle.rc_words.specs.declared.request.Request.{Request}
-use Rattle.rc_answers.specs.Written.{AreExamplesOf, IsGivenBy, IsLackingFor, IsPutAtFixed, IsPutOf, IsShown, IsShownAtFixed, IsWritten, IsWrittenOrMemory, NeedsMore, reaching_set, status_after}
+use Rattle.rc_answers.specs.Written.{AreExamplesOf, AreReachingCubes, IsFirstArriving, IsGivenBy, IsLackingFor, IsPutAtFixed, IsPutOf, IsShown, IsShownAtFixed, IsWritten, IsWrittenOrMemory, NeedsMore, status_after}
 use Rattle.rc_answers.specs.Given.{Shown, refused, ended, nothing, routes_of, walk_of, cubes_of, first_cube_of}
 use Rattle.rc_answers.specs.Texts.{outcome_line, outcome_text, refused_line, route_count}
 use Rattle.rc_answers.specs.declared.findings.Findings.{Findings}
@@ -79,14 +79,21 @@ router_put r net outcome state subject {router} {answer} {old} {new} is put =
     subst (λ s. IsPutAtFixed r net outcome state s answer old new) (sym is) (put_at_fixed r net outcome state (OneRouter router) (routes_of router) refl put)
 
 -- the cubes of what reaches, with the walks of their examples
-pub packets_put : (r : Request) (net : Network) (outcome : Outcome) (state : List RouterState) (plane : DataPlane) (q : Pos) (ends : Ends) (examples : ℕ) (walks shown : List (List Walk)) {answer : Status} {old new : Option (List ℕ)}
-    → plane ≡ plane_of net state → shown ≡ walks → AreExamplesOf plane q ends examples (tree (reaching plane q ends)) walks
-    → IsWrittenOrMemory (status_after outcome) (outcome_text r.ask net outcome (cubes_of (tree (reaching plane q ends)) shown)) answer old new → IsPutAtFixed r net outcome state (Packets q ends examples) answer old new
-packets_put r net outcome state plane q ends examples walks shown {answer} {old} {new} is same are put =
-    put_at_fixed r net outcome state (Packets q ends examples) (cubes_of (reaching_set net state q ends) walks)
-    (walks, subst (λ p. AreExamplesOf p q ends examples (tree (reaching p q ends)) walks) is are, refl)
-    (subst (λ ws. IsWrittenOrMemory (status_after outcome) (outcome_text r.ask net outcome (cubes_of (reaching_set net state q ends) ws)) answer old new) same
-    (subst (λ p. IsWrittenOrMemory (status_after outcome) (outcome_text r.ask net outcome (cubes_of (tree (reaching p q ends)) shown)) answer old new) is put))
+pub packets_put : (r : Request) (net : Network) (outcome : Outcome) (state : List RouterState) (plane : DataPlane) (q : Pos) (ends : Ends) (examples : ℕ) (set : Tree) (walks shown : List (List Walk)) {answer : Status} {old new : Option (List ℕ)}
+    → plane ≡ plane_of net state → shown ≡ walks → IsReachingSet plane q ends set → AreExamplesOf plane q ends examples set walks
+    → IsWrittenOrMemory (status_after outcome) (outcome_text r.ask net outcome (cubes_of set shown)) answer old new → IsPutAtFixed r net outcome state (Packets q ends examples) answer old new
+packets_put r net outcome state plane q ends examples set walks shown {answer} {old} {new} is same reaches are put =
+    let cubes : AreReachingCubes plane q ends examples (cubes_of set walks) = record { set = set; reaches = reaches; walks = walks; examples = are; are = refl } in
+    put_at_fixed r net outcome state (Packets q ends examples) (cubes_of set walks) (subst (λ p. AreReachingCubes p q ends examples (cubes_of set walks)) is cubes)
+    (subst (λ ws. IsWrittenOrMemory (status_after outcome) (outcome_text r.ask net outcome (cubes_of set ws)) answer old new) same put)
+
+-- how many routes there are, and the first cube of what arrives
+pub made_put : (r : Request) (net : Network) (outcome : Outcome) (state : List RouterState) (q : Pos) (routes : ℕ) (set : Tree) {answer : Status} {old new : Option (List ℕ)}
+    → routes ≡ route_count state → IsReachingSet (plane_of net state) q arrivals set
+    → IsWrittenOrMemory (status_after outcome) (outcome_text r.ask net outcome (first_cube_of routes set)) answer old new → IsPutAtFixed r net outcome state (Made q) answer old new
+made_put r net outcome state q routes set is reaches put =
+    let first : IsFirstArriving (plane_of net state) q routes (first_cube_of routes set) = record { set = set; reaches = reaches; is = refl } in
+    put_at_fixed r net outcome state (Made q) (first_cube_of routes set) (subst (λ n. IsFirstArriving (plane_of net state) q n (first_cube_of routes set)) is first) put
 
 -- ---- the line of an outcome tells no route: where none is told behind it either, what is put is the same beside any routes
 
@@ -101,14 +108,13 @@ module _ (r : Request) (net : Network) (k : ℕ) (some other known state : List 
   packets_alone : (q : Pos) (ends : Ends) (examples : ℕ) {answer : Status} {old new : Option (List ℕ)}
       → IsPutAtFixed r net (Fixed k some) state (Packets q ends examples) answer old new → IsPutAtFixed r net (Fixed k other) state (Packets q ends examples) answer old new
   unfolding outcome_line
-  packets_alone q ends examples (inl (shown, (walks, are, is), written)) =
-      inl (shown, (walks, are, is), written_beside shown (cubes_of (reaching_set net state q ends) walks) is refl written)
+  packets_alone q ends examples (inl (shown, cubes, written)) = inl (shown, cubes, written_beside shown (cubes_of cubes.set cubes.walks) cubes.are refl written)
   packets_alone q ends examples (inr lacking) = inr lacking
 
   made_alone : (q : Pos) {answer : Status} {old new : Option (List ℕ)}
       → IsPutAtFixed r net (Fixed k some) state (Made q) answer old new → IsPutAtFixed r net (Fixed k other) state (Made q) answer old new
   unfolding outcome_line
-  made_alone q (inl (shown, is, written)) = inl (shown, is, written_beside shown (first_cube_of (route_count state) (reaching_set net state q arrivals)) is refl written)
+  made_alone q (inl (shown, first, written)) = inl (shown, first, written_beside shown (first_cube_of (route_count state) first.set) first.is refl written)
   made_alone q (inr lacking) = inr lacking
 
   pub packets_beside : (q : Pos) (ends : Ends) (examples : ℕ) {answer : Status} {old new : Option (List ℕ)}

@@ -3,6 +3,7 @@ use Rattle.std.specs.Prelude.{ℕ}
 use Rattle.rc_answers.specs.declared.status.Status.{Status}
 use Rattle.rc_answers.specs.declared.status.Status.TheVariants.{Done, Refused, Usage, Repeats, Limit, Nodes, Source, Sink, Memory, NoPlace}
 
+-- the number of a status, with which the program ends
 abbrev pub status_code : Status → ℕ
 status_code Done = 0
 status_code Refused = 1

@@ -7,3 +7,4 @@ pub mod Sound
 pub mod Lines
 pub mod Rows
 pub mod FirstTry
+pub mod Reached

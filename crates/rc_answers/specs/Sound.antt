@@ -21,6 +21,7 @@ pub record IsSoundEnd (net : Network) (outcome : Outcome) (subject : Subject) : 
   pub state : IsInOrder (length net.routers) outcome
   pub starts : StartsIn net subject
 
+-- what was found is in order, and asks for what the network has
 abbrev pub IsSound : Findings → Type 0
 IsSound (Ended net outcome subject) = IsSoundEnd net outcome subject
 IsSound _ = Unit {0}

@@ -19,6 +19,7 @@ use Rattle.rc_words.specs.declared.request.Ask.TheVariants.{Routes, Trace, Reach
 use Rattle.rc_answers.specs.Given.{Given, refused, no_place, ended, Shown, nothing, routes_of_all, routes_of, walk_of, cubes_of, first_cube_of}
 use Rattle.rc_answers.specs.Subject.{place_text}
 
+-- the usage text
 unfoldable pub usage_text : List ℕ
 usage_text = codes "usage: netcheck routes DIR [--router R]\n"
     ++ codes "       netcheck trace DIR --from PLACE --dst A [--src A] [--proto N] [--sport N] [--dport N]\n"
@@ -86,6 +87,7 @@ head_text (Sample n) = codes "sample " ++ decimal n ++ codes "\n"
 abbrev pub outcome_text : Ask → Network → Outcome → Shown → List ℕ
 outcome_text ask net outcome shown = head_text ask ++ outcome_line outcome ++ shown_text net outcome shown
 
+-- the text of what was found
 abbrev pub text_of : Ask → Given → List ℕ
 text_of ask (refused refusal) = refused_line refusal
 text_of ask no_place = no_place_line (place_text ask)

@@ -10,12 +10,12 @@ use Rattle.rc_bdd.specs.declared.work.SetError.TheVariants.{Full}
 use Rattle.rc_config.specs.declared.network.Network.{Network}
 use Rattle.rc_cubes.specs.Cubes.{cubes}
 use Rattle.rc_cubes.specs.declared.cube.Cube.{Cube}
-use Rattle.rc_edges.specs.Query.{query_nodes, reaching}
+use Rattle.rc_edges.specs.Query.{query_nodes}
 use Rattle.rc_outside.specs.Sink.{appended, AppendsFront}
+use Rattle.rc_reach.specs.Reaching.{IsReachingSet}
 use Rattle.rc_route.specs.declared.state.RouterState.{RouterState}
 use Rattle.rc_route.specs.declared.outcome.Outcome.{Outcome}
 use Rattle.rc_route.specs.declared.outcome.Outcome.TheVariants as outcome
-use Rattle.rc_trees.specs.Recipes.{tree}
 use Rattle.rc_trees.specs.Trees.{Tree, same_tree}
 use Rattle.rc_walk.specs.Moves.{DataPlane, plane_of}
 use Rattle.rc_walk.specs.ShortestWalks.{IsShortestWalk, NoWalkEnds}
@@ -47,9 +47,19 @@ AreExamples plane q ends (c ∷ cs) examples = (walks : List Walk) × (rest : Li
 abbrev pub AreExamplesOf : DataPlane → Pos → Ends → ℕ → Tree → List (List Walk) → Type 0
 AreExamplesOf plane q ends most set examples = AreExamples plane q ends (take most (cubes set)) examples
 
--- the set of the headers that some walk brings from a position to one of the endings
-abbrev pub reaching_set : Network → List RouterState → Pos → Ends → Tree
-reaching_set net state q ends = tree (reaching (plane_of net state) q ends)
+-- the cubes of the headers that some walk brings from a position to one of the endings, and the walks of the examples of the first ones
+pub record AreReachingCubes (plane : DataPlane) (q : Pos) (ends : Ends) (most : ℕ) (shown : Shown) : Type 0 where
+  pub set : Tree
+  pub reaches : IsReachingSet plane q ends set
+  pub walks : List (List Walk)
+  pub examples : AreExamplesOf plane q ends most set walks
+  pub are : shown ≡ cubes_of set walks
+
+-- how many routes there are, and the first cube of the headers that some walk brings from a position to where they arrive
+pub record IsFirstArriving (plane : DataPlane) (q : Pos) (routes : ℕ) (shown : Shown) : Type 0 where
+  pub set : Tree
+  pub reaches : IsReachingSet plane q arrivals set
+  pub is : shown ≡ first_cube_of routes set
 
 -- What is shown of a fixed point, where this is asked: routes, a packet's first walk, the cubes of the headers that reach, or of a made
 -- network its number of routes and the first of the cubes.
@@ -57,9 +67,8 @@ abbrev pub IsShownAtFixed : Network → List RouterState → Subject → Shown �
 IsShownAtFixed net state AllRouters shown = shown ≡ routes_of_all
 IsShownAtFixed net state (OneRouter r) shown = shown ≡ routes_of r
 IsShownAtFixed net state (Packet position header) shown = (walk : Walk) × IsFirstWalk (plane_of net state) header position walk × (shown ≡ walk_of walk)
-IsShownAtFixed net state (Packets position ends examples) shown = (walks : List (List Walk))
-    × AreExamplesOf (plane_of net state) position ends examples (reaching_set net state position ends) walks × (shown ≡ cubes_of (reaching_set net state position ends) walks)
-IsShownAtFixed net state (Made position) shown = shown ≡ first_cube_of (route_count state) (reaching_set net state position arrivals)
+IsShownAtFixed net state (Packets position ends examples) shown = AreReachingCubes (plane_of net state) position ends examples shown
+IsShownAtFixed net state (Made position) shown = IsFirstArriving (plane_of net state) position (route_count state) shown
 
 -- What is shown after the outcome of the rounds, where this is asked. Only a fixed point has routes, walks and sets to show.
 abbrev pub IsShown : Network → Outcome → Subject → Shown → Type 0
@@ -67,7 +76,7 @@ IsShown net (outcome.Fixed k state) subject shown = IsShownAtFixed net state sub
 IsShown net (outcome.Repeats i k) subject shown = shown ≡ nothing
 IsShown net (outcome.Limit n) subject shown = shown ≡ nothing
 
--- what findings give
+-- what was found gives: the first refusal, or that there is no such place, or the outcome and what is shown after it
 abbrev pub IsGivenBy : Findings → Given → Type 0
 IsGivenBy (found.Refused refusal) g = g ≡ refused refusal
 IsGivenBy found.NoPlace g = g ≡ no_place
@@ -80,6 +89,7 @@ status_after (outcome.Fixed k state) = Done
 status_after (outcome.Repeats i k) = Repeats
 status_after (outcome.Limit n) = Limit
 
+-- the status of what was found
 abbrev pub status_of : Given → Status
 status_of (refused refusal) = Refused
 status_of no_place = NoPlace
@@ -89,16 +99,21 @@ status_of (ended net outcome shown) = status_after outcome
 abbrev pub IsWritten : Status → List ℕ → Status → Option (List ℕ) → Option (List ℕ) → Type 0
 IsWritten status text answer old new = ((answer ≡ status) × (new ≡ appended old text)) ⊎ ((answer ≡ Sink) × AppendsFront old new text)
 
--- the same, or nothing is written, where memory ran out before
+-- the text is written with its status, or a front of it where the sink failed; or nothing is, where memory ran out before
 abbrev pub IsWrittenOrMemory : Status → List ℕ → Status → Option (List ℕ) → Option (List ℕ) → Type 0
 IsWrittenOrMemory status text answer old new = IsWritten status text answer old new ⊎ ((answer ≡ Memory) × (new ≡ old))
 
--- a table of so many nodes is too small for what is asked of a fixed point: the operations of the query have more different trees
+-- so many nodes are too few for a query: its operations have more different trees
+abbrev pub AreTooFew : ℕ → DataPlane → Pos → Ends → Type 0
+AreTooFew most plane q ends = most < distinct_count same_tree (query_nodes plane q ends)
+
+-- so many are too few for what is asked of a fixed point
 abbrev pub NeedsMore : ℕ → Network → List RouterState → Subject → Type 0
-NeedsMore most net state (Packets position ends examples) = most < distinct_count same_tree (query_nodes (plane_of net state) position ends)
-NeedsMore most net state (Made position) = most < distinct_count same_tree (query_nodes (plane_of net state) position arrivals)
+NeedsMore most net state (Packets position ends examples) = AreTooFew most (plane_of net state) position ends
+NeedsMore most net state (Made position) = AreTooFew most (plane_of net state) position arrivals
 NeedsMore most net state _ = ⊥
 
+-- the query over what was found needs more different nodes than the table may have
 abbrev pub NeedsMoreNodes : ℕ → Findings → Type 0
 NeedsMoreNodes most (found.Ended net (outcome.Fixed k state) subject) = NeedsMore most net state subject
 NeedsMoreNodes most _ = ⊥

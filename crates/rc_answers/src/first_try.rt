@@ -4,8 +4,8 @@
 //! networks need, and takes longer to make than all else that is done for a small one. So a set is tried in a table first that fits the
 //! size of the network, and where that is full it is made again in the one that the words name. Nobody sees the difference: a
 //! set is one in any table, and each worker passes the gate once in each phase.
-ghost use Rattle.std.specs.Prelude.{IfSome};
-ghost use Rattle.rc_answers.specs.FirstTry.{IsRoom};
+ghost use Rattle.std.specs.Prelude.{◌<◌, IfSome};
+ghost use Rattle.rc_answers.specs.FirstTry.{IsFirstRoom};
 
 use rc_config::{Network, RouterText};
 use rc_outside::Gate;
@@ -50,7 +50,7 @@ fn size_of(net: &Network, state: &State) -> usize {
 /// How many nodes the table of a first try has room for in a network of this size, where there is one. The nodes grow slower than
 /// the routes, since the tables of neighbours are alike.
 fn room_for(size: usize) -> Option<u32>
-    ensures { IfSome result IsRoom }
+    ensures { IfSome result (λ room. 0 < room) }
 {
     if size <= 16_384 {
         Some(65_536)
@@ -65,13 +65,13 @@ fn room_for(size: usize) -> Option<u32>
     }
 }
 
-/// How many nodes the table of a first try has room for, where there is one: fewer than so many.
-pub(crate) fn first_room(net: &Network, state: &State, most: u32) -> Option<u32>
-    ensures { IfSome result IsRoom }
+/// How many nodes the table of a first try has room for, where there is one: fewer than are allowed.
+pub(crate) fn first_room(net: &Network, state: &State, allowed: u32) -> Option<u32>
+    ensures { IfSome result (IsFirstRoom allowed) }
 {
     let room = room_for(size_of(net, state));
     match room {
-        Some(few) if few < most => Some(few),
+        Some(few) if few < allowed => Some(few),
         _ => None,
     }
 }

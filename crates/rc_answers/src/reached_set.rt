@@ -1,15 +1,12 @@
 //! The set of the headers that reach, in a table of its own.
-ghost use Rattle.std.specs.Prelude.{◌≡◌, ◌<◌, ◌≤◌, IfOk, IfErr, IfSome};
-ghost use Rattle.std.specs.Set.{distinct_count};
-ghost use Rattle.rc_bdd.specs.declared.work.SetError.TheVariants.{Full};
+ghost use Rattle.std.specs.Prelude.{◌≡◌, ◌<◌, ◌≤◌, Ok, Err, IfOk, IfErr, IfSome};
 ghost use Rattle.rc_config.specs.Lawful.{IsLawful, IsPosition};
-ghost use Rattle.rc_edges.specs.Query.{query_nodes, reaching};
-ghost use Rattle.rc_nodes.specs.Seats.{IsSeatOf, SeatKnows};
+ghost use Rattle.rc_edges.specs.Query.{query_nodes};
+ghost use Rattle.rc_nodes.specs.Seats.{IsSeatOf};
 ghost use Rattle.rc_topology.specs.Ports.{links_of};
-ghost use Rattle.rc_trees.specs.Recipes.{tree};
-ghost use Rattle.rc_trees.specs.Trees.{same_tree};
 ghost use Rattle.rc_words.specs.Request.{AreInRange};
-ghost use Rattle.rc_answers.specs.FirstTry.{IsRoom};
+ghost use Rattle.rc_answers.specs.FirstTry.{IsFirstRoom, is_full};
+ghost use Rattle.rc_answers.specs.Reached.{HoldsReaching, IsFullAtMost};
 
 use crate::first_try::Onward;
 use rc_base::{Ends, Pos};
@@ -52,6 +49,21 @@ fn table_for<'a>(
     Nodes::new(alloc, most, &query)
 }
 
+/// A set with the table in which it was made, or why it was not made.
+fn in_table<'a>(
+    nodes: Nodes<Query<'a>>,
+    seat: Seat<Query<'a>>,
+    made: Result<Ref, SetError>,
+) -> Result<ReachedSet<'a>, SetError>
+    ensures made { IfOk result (λ r. (r.nodes ≡ nodes.entry) × (r.seat ≡ seat.entry) × (made ≡ Ok r.set)) }
+    ensures error { IfErr result (λ e. made ≡ Err e) }
+{
+    match made {
+        Ok(set) => Ok(ReachedSet { nodes, seat, set }),
+        Err(error) => Err(error),
+    }
+}
+
 /// The headers that some walk brings from a position to one of the endings asked for, in a table of so many nodes.
 fn reached_within<'a, R: Threads + Sync + AllocGlobal, G: Gate>(
     rt: &R,
@@ -69,22 +81,30 @@ fn reached_within<'a, R: Threads + Sync + AllocGlobal, G: Gate>(
     requires lawful { IsLawful plane.now.network }
     requires links { plane.now.links ≡ links_of plane.now.network }
     requires place { IsPosition plane.now.network place.now }
-    ensures seat { IfOk result (λ r. IsSeatOf r.nodes r.seat) }
-    ensures set { IfOk result (λ r. SeatKnows r.seat r.set.index (tree (reaching plane.entry.now place.now ends.now))) }
-    ensures full { IfErr result (λ e. e ≡ Full → most < distinct_count same_tree (query_nodes plane.entry.now place.now ends.now)) }
+    ensures set { IfOk result (HoldsReaching plane.entry.now place.now ends.now) }
+    ensures room { IfOk result (λ r. r.nodes.capacity ≡ most) }
+    ensures full { IfErr result (IsFullAtMost most plane.entry.now place.now ends.now) }
 {
     let Ok((nodes, seat)) = table_for(rt.alloc(), most, plane, place, ends) else {
         return Err(SetError::Memory);
     };
     let (seat, set) = reach(rt, plane, *place, *ends, &nodes, seat, workers, gate);
-    match set {
-        Ok(set) => Ok(ReachedSet { nodes, seat, set }),
-        Err(error) => Err(error),
+    in_table(nodes, seat, set)
+}
+
+/// Whether a table was full, and nothing else was lacking.
+fn is_full(tried: &Result<ReachedSet<'_>, SetError>) -> bool
+    ensures { result ≡ is_full tried.now }
+{
+    match tried {
+        Ok(_) => false,
+        Err(SetError::Full) => true,
+        Err(SetError::Memory) => false,
     }
 }
 
 /// The headers that some walk brings from a position to one of the endings asked for, within these limits. Where a smaller table is
-/// named, they are tried in it first.
+/// named, they are tried in it first, and again in one of all nodes allowed exactly where that one was full.
 pub(crate) fn reached<'a, R: Threads + Sync + AllocGlobal, G: Gate>(
     rt: &R,
     few: Option<u32>,
@@ -94,14 +114,14 @@ pub(crate) fn reached<'a, R: Threads + Sync + AllocGlobal, G: Gate>(
     limits: &Limits,
     gate: &G,
 ) -> Result<ReachedSet<'a>, SetError>
-    requires few { IfSome few IsRoom }
+    requires few { IfSome few (IsFirstRoom limits.now.nodes) }
     requires limits { AreInRange limits.now }
     requires lawful { IsLawful plane.now.network }
     requires links { plane.now.links ≡ links_of plane.now.network }
     requires place { IsPosition plane.now.network place.now }
-    ensures seat { IfOk result (λ r. IsSeatOf r.nodes r.seat) }
-    ensures set { IfOk result (λ r. SeatKnows r.seat r.set.index (tree (reaching plane.entry.now place.now ends.now))) }
-    ensures full { IfErr result (λ e. e ≡ Full → limits.now.nodes < distinct_count same_tree (query_nodes plane.entry.now place.now ends.now)) }
+    ensures set { IfOk result (HoldsReaching plane.entry.now place.now ends.now) }
+    ensures room { IfOk result (λ r. r.nodes.capacity ≤ limits.now.nodes) }
+    ensures full { IfErr result (IsFullAtMost limits.now.nodes plane.entry.now place.now ends.now) }
 {
     let most = limits.nodes;
     let workers = limits.workers;
@@ -109,11 +129,9 @@ pub(crate) fn reached<'a, R: Threads + Sync + AllocGlobal, G: Gate>(
         return reached_within(rt, plane, place, ends, most, workers, gate);
     };
     let onward = Onward::first(gate);
-    match reached_within(rt, plane, place, ends, few, workers, &onward) {
-        Ok(reached) => Ok(reached),
-        Err(SetError::Memory) => Err(SetError::Memory),
-        Err(SetError::Full) => {
-            reached_within(rt, plane, place, ends, most, workers, &onward.second())
-        }
+    let first = reached_within(rt, plane, place, ends, few, workers, &onward);
+    if is_full(&first) {
+        return reached_within(rt, plane, place, ends, most, workers, &onward.second());
     }
+    first
 }

@@ -2,11 +2,10 @@
 //!
 //! The table of nodes, the set and the walks of its examples are all made before the first line is put, and a cube takes no memory: so an
 //! answer is written whole, or it lacks something and nothing is.
-ghost use Rattle.std.specs.Prelude.{◌≡◌, ◌∷◌, ◌++◌, ◌<◌, ◌≤◌, [], true, false, IfOk, IfSome, length};
+ghost use Rattle.std.specs.Prelude.{◌≡◌, ◌∷◌, ◌++◌, ◌<◌, ◌≤◌, [], true, false, IfOk, IfErr, IfSome, length};
 ghost use Rattle.rc_base.specs.declared.ending.Ends.{Ends as EndsModel};
 ghost use Rattle.rc_config.specs.Lawful.{IsLawful, IsPosition};
 ghost use Rattle.rc_cubes.specs.Cubes.{cubes};
-ghost use Rattle.rc_edges.specs.Query.{query_nodes};
 ghost use Rattle.rc_nodes.specs.Seats.{IsKnown, IsSeatOf, Keeps, SeatKnows};
 ghost use Rattle.rc_outside.specs.Causes.{Rose};
 ghost use Rattle.rc_outside.specs.Put.{IsPut};
@@ -17,7 +16,8 @@ ghost use Rattle.rc_walk.specs.Moves.{plane_of};
 ghost use Rattle.rc_words.specs.Endings.{arrivals};
 ghost use Rattle.rc_words.specs.Request.{AreInRange};
 ghost use Rattle.rc_answers.specs.Written.{AreExamplesOf, AreWalksOf, IsPutAtFixed, IsWrittenOrMemory, lacking_of, status_after};
-ghost use Rattle.rc_answers.specs.FirstTry.{IsRoom};
+ghost use Rattle.rc_answers.specs.FirstTry.{IsFirstRoom};
+ghost use Rattle.rc_answers.specs.Reached.{HoldsReaching, IsFullAtMost};
 ghost use Rattle.rc_answers.specs.Texts.{head_text, outcome_line, route_count, routes_line};
 
 use crate::answering::status_after;
@@ -238,8 +238,59 @@ fn write_made<S: Sink, M: May>(
     }
 }
 
-/// Answers which packets reach, over a plane.
+/// Answers which packets reach where their set was made, and else what was lacking for it.
 #[tactic(auto, using(crate::proofs::PutLaws::memory_at_fixed))]
+fn answer_reached_packets<S: Sink>(
+    alloc: Global,
+    request: &Request,
+    net: &Network,
+    outcome: &Outcome,
+    known: Snapshot<State>,
+    plane: &Plane<'_>,
+    position: &Pos,
+    ends: &Ends,
+    examples: u32,
+    reached: Result<ReachedSet<'_>, SetError>,
+    out: &mut S,
+) -> Status
+    requires plane { plane.now ≡ plane_of net.now known.value }
+    requires set { IfOk reached (HoldsReaching plane.now position.now ends.now) }
+    requires full { IfErr reached (IsFullAtMost request.now.limits.nodes plane.now position.now ends.now) }
+    ensures put { IsPutAtFixed request.now net.now outcome.now known.value (Subject.Packets position.now ends.now examples) result (S.told out.old) (S.told out.new) }
+    ensures lacking { IfErr reached.entry (λ e. result ≡ lacking_of e) }
+    ensures sink_only { result ≡ Status.Sink → Rose (S.faults out.old) (S.faults out.new) }
+    ensures sink_always { S.faults out.old < S.faults out.new → result ≡ Status.Sink }
+{
+    let _ = known;
+    let reached = match reached {
+        Ok(reached) => reached,
+        Err(error) => return lacking(error),
+    };
+    let ReachedSet {
+        nodes,
+        mut seat,
+        set,
+    } = reached;
+    let walks = match example_walks(
+        alloc, plane, position, ends, &nodes, &mut seat, set, examples,
+    ) {
+        Ok(walks) => walks,
+        Err(_) => return Status::Memory,
+    };
+    write_packets(
+        alloc,
+        &request.ask,
+        net,
+        outcome,
+        &nodes,
+        &mut seat,
+        set,
+        walks.as_slice(),
+        out,
+    )
+}
+
+/// Answers which packets reach, over a plane.
 fn packets_over<R: Threads + Sync + AllocGlobal, S: Sink, G: Gate>(
     rt: &R,
     request: &Request,
@@ -257,15 +308,53 @@ fn packets_over<R: Threads + Sync + AllocGlobal, S: Sink, G: Gate>(
     requires limits { AreInRange request.now.limits }
     requires lawful { IsLawful net.now }
     requires plane { plane.now ≡ plane_of net.now known.value }
-    requires few { IfSome few IsRoom }
+    requires few { IfSome few (IsFirstRoom request.now.limits.nodes) }
     requires place { IsPosition net.now position.now }
     ensures put { IsPutAtFixed request.now net.now outcome.now known.value (Subject.Packets position.now ends.now examples) result (S.told out.old) (S.told out.new) }
     ensures sink_only { result ≡ Status.Sink → Rose (S.faults out.old) (S.faults out.new) }
     ensures sink_always { S.faults out.old < S.faults out.new → result ≡ Status.Sink }
 {
-    let _ = known;
     let limits = &request.limits;
-    let reached = match reached(rt, few, &*plane, position, ends, limits, gate) {
+    let reached = reached(rt, few, &*plane, position, ends, limits, gate);
+    answer_reached_packets(
+        rt.alloc(),
+        request,
+        net,
+        outcome,
+        known,
+        plane,
+        position,
+        ends,
+        examples,
+        reached,
+        out,
+    )
+}
+
+/// Answers what is shown of a made network where its set was made, and else what was lacking for it.
+#[tactic(auto, using(crate::proofs::PutLaws::memory_at_fixed))]
+fn answer_reached_made<S: Sink>(
+    alloc: Global,
+    request: &Request,
+    net: &Network,
+    outcome: &Outcome,
+    known: Snapshot<State>,
+    routes: u64,
+    position: &Pos,
+    reached: Result<ReachedSet<'_>, SetError>,
+    out: &mut S,
+) -> Status
+    requires routes { routes ≡ route_count known.value }
+    requires set { IfOk reached (HoldsReaching (plane_of net.now known.value) position.now arrivals) }
+    requires full { IfErr reached (IsFullAtMost request.now.limits.nodes (plane_of net.now known.value) position.now arrivals) }
+    ensures put { IsPutAtFixed request.now net.now outcome.now known.value (Subject.Made position.now) result (S.told out.old) (S.told out.new) }
+    ensures lacking { IfErr reached.entry (λ e. result ≡ lacking_of e) }
+    ensures sink_only { result ≡ Status.Sink → Rose (S.faults out.old) (S.faults out.new) }
+    ensures sink_always { S.faults out.old < S.faults out.new → result ≡ Status.Sink }
+{
+    let _ = known;
+    let _ = position;
+    let reached = match reached {
         Ok(reached) => reached,
         Err(error) => return lacking(error),
     };
@@ -274,34 +363,20 @@ fn packets_over<R: Threads + Sync + AllocGlobal, S: Sink, G: Gate>(
         mut seat,
         set,
     } = reached;
-    let walks = match example_walks(
-        rt.alloc(),
-        plane,
-        position,
-        ends,
-        &nodes,
-        &mut seat,
-        set,
-        examples,
-    ) {
-        Ok(walks) => walks,
-        Err(_) => return Status::Memory,
-    };
-    write_packets(
-        rt.alloc(),
+    write_made(
+        alloc,
         &request.ask,
         net,
         outcome,
+        routes,
         &nodes,
         &mut seat,
         set,
-        walks.as_slice(),
         out,
     )
 }
 
 /// Answers what is shown of a made network, over a plane.
-#[tactic(auto, using(crate::proofs::PutLaws::memory_at_fixed))]
 fn made_over<R: Threads + Sync + AllocGlobal, S: Sink, G: Gate>(
     rt: &R,
     request: &Request,
@@ -319,33 +394,24 @@ fn made_over<R: Threads + Sync + AllocGlobal, S: Sink, G: Gate>(
     requires lawful { IsLawful net.now }
     requires plane { plane.now ≡ plane_of net.now known.value }
     requires routes { routes ≡ route_count known.value }
-    requires few { IfSome few IsRoom }
+    requires few { IfSome few (IsFirstRoom request.now.limits.nodes) }
     requires place { IsPosition net.now position.now }
     ensures put { IsPutAtFixed request.now net.now outcome.now known.value (Subject.Made position.now) result (S.told out.old) (S.told out.new) }
     ensures sink_only { result ≡ Status.Sink → Rose (S.faults out.old) (S.faults out.new) }
     ensures sink_always { S.faults out.old < S.faults out.new → result ≡ Status.Sink }
 {
-    let _ = known;
     let ends = arrivals();
     let limits = &request.limits;
-    let reached = match reached(rt, few, &*plane, position, &ends, limits, gate) {
-        Ok(reached) => reached,
-        Err(error) => return lacking(error),
-    };
-    let ReachedSet {
-        nodes,
-        mut seat,
-        set,
-    } = reached;
-    write_made(
+    let reached = reached(rt, few, &*plane, position, &ends, limits, gate);
+    answer_reached_made(
         rt.alloc(),
-        &request.ask,
+        request,
         net,
         outcome,
+        known,
         routes,
-        &nodes,
-        &mut seat,
-        set,
+        position,
+        reached,
         out,
     )
 }

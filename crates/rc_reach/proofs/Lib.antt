@@ -6,3 +6,4 @@ mod Rounding
 mod JoinLaws
 mod AskedLaws
 mod PlaceJoins
+pub mod ReachingLaws

@@ -2,10 +2,8 @@
 use Rattle.std.proofs.Common.{◌≡◌, ◌↔◌, ap, sym, ◌∙◌, subst, ℕ, ◌<◌, true, List, length, Result, Ok, Err, IfErr, arith}
 use Rattle.std.specs.Set.{distinct_count}
 use Rattle.rc_base.proofs.KeepLaws.{In}
-use Rattle.rc_base.specs.Header.{IsHeader}
 use Rattle.rc_base.specs.declared.ending.Ends.{Ends}
 use Rattle.rc_base.specs.declared.ending.Kind.{Kind}
-use Rattle.rc_base.specs.declared.header.Header.{Header}
 use Rattle.rc_base.specs.declared.position.Pos.{Pos}
 use Rattle.rc_bdd.specs.Work.{IsCause}
 use Rattle.rc_bdd.specs.declared.work.SetError.{SetError}
@@ -22,9 +20,10 @@ use Rattle.rc_places.proofs.PlaceLaws.{number_there}
 use Rattle.rc_places.specs.Places.{number_of, position_at}
 use Rattle.rc_reach.proofs.JoinLaws.{may_end, may_rounds, reaching-ending}
 use Rattle.rc_edges.specs.Prepare.{edge_at, ends_at}
+use Rattle.rc_reach.specs.Reaching.{IsReachingSet}
 use Rattle.rc_reach.specs.Rounds.{ending_after, MayEnd, MayRounds}
 use Rattle.rc_trees.specs.Recipes.{tree}
-use Rattle.rc_trees.specs.Trees.{Tree, HasNodes, IsReduced, holds, same_tree}
+use Rattle.rc_trees.specs.Trees.{Tree, HasNodes, holds, same_tree}
 use Rattle.rc_walk.specs.Moves.{DataPlane}
 
 module _ (plane : DataPlane) (place : Pos) (there : IsPosition plane.network place) (n m : ℕ) (is : n ≡ number_of plane.network place) (many : m ≡ length (positions plane.network)) (ends : Ends) where
@@ -52,9 +51,11 @@ module _ (plane : DataPlane) (place : Pos) (there : IsPosition plane.network pla
     place_rounds some asked = subst (λ k. MayRounds may (edge_at plane) k n) (sym many) (may_rounds plane n low ends may has_there some asked)
 
 -- a known result says what reaches
-pub known_reaches : (plane : DataPlane) → IsPlane plane → (place : Pos) → IsPosition plane.network place → (ends : Ends) (nodes : TableView) (seat : SeatView) → IsSeatOf nodes seat → (r : ℕ) → SeatKnows seat r (tree (reaching plane place ends)) → (t : Tree) → SeatKnows seat r t → IsReduced t × ((h : Header) → IsHeader h → (holds t h ≡ true) ↔ IsReaching plane h place ends)
-known_reaches plane ok place there ends nodes seat mine r known t other =
-    (known_reduced seat mine.sound r t other, λ h header. subst (λ u. (holds u h ≡ true) ↔ IsReaching plane h place ends) (one_known seat mine.sound r (tree (reaching plane place ends)) t known other) (result_is_reaching plane ok h header place there ends))
+pub known_reaches : (plane : DataPlane) → IsPlane plane → (place : Pos) → IsPosition plane.network place → (ends : Ends) (nodes : TableView) (seat : SeatView) → IsSeatOf nodes seat → (r : ℕ) → SeatKnows seat r (tree (reaching plane place ends)) → (t : Tree) → SeatKnows seat r t → IsReachingSet plane place ends t
+known_reaches plane ok place there ends nodes seat mine r known t other = record {
+  reduced = known_reduced seat mine.sound r t other;
+  reaches = λ h header. subst (λ u. (holds u h ≡ true) ↔ IsReaching plane h place ends) (one_known seat mine.sound r (tree (reaching plane place ends)) t known other) (result_is_reaching plane ok h header place there ends);
+}
 
 -- where the table is full, more trees may be made than it has slots
 pub full_means_more : {A : Type 0} (r : Result A SetError) (nodes : TableView) (seat : SeatView) → IfErr r (IsCause nodes seat) → IfErr r (λ e. e ≡ Full → nodes.capacity < distinct_count same_tree nodes.may)

@@ -1,3 +1,4 @@
 pub mod Rounds
 pub mod Known
 pub mod Kept
+pub mod Reaching

@@ -7,10 +7,12 @@
 
 mod first;
 mod gather;
+mod laws;
 mod reaching;
 mod result;
 mod round;
 mod rounds;
 mod sends;
 
+pub use laws::one_set_reaches;
 pub use reaching::reach;

@@ -1,21 +1,20 @@
 //! The headers that reach an ending.
-ghost use Rattle.std.specs.Prelude.{◌≡◌, ◌↔◌, ◌<◌, ◌≤◌, true, length, IfOk, IfErr};
+ghost use Rattle.std.specs.Prelude.{◌≡◌, ◌<◌, ◌≤◌, length, IfOk, IfErr};
 ghost use Rattle.std.specs.List.{list_any};
 ghost use Rattle.std.specs.Set.{distinct_count};
-ghost use Rattle.rc_base.specs.Header.{IsHeader};
 ghost use Rattle.rc_base.specs.Positions.{is_among};
-ghost use Rattle.rc_base.specs.declared.header.Header.{Header};
 ghost use Rattle.rc_bdd.specs.Work.{IsCause};
 ghost use Rattle.rc_bdd.specs.declared.work.SetError.TheVariants.{Full};
 ghost use Rattle.rc_config.specs.Lawful.{IsLawful, IsPosition};
 ghost use Rattle.rc_config.specs.Members.{positions};
 ghost use Rattle.rc_base.specs.Endings.{all_kinds};
-ghost use Rattle.rc_edges.specs.Query.{IsReaching, query_nodes, reaching};
+ghost use Rattle.rc_edges.specs.Query.{query_nodes, reaching};
 ghost use Rattle.rc_nodes.specs.Seats.{IsSeatOf, Keeps, SeatKnows};
 ghost use Rattle.rc_places.specs.Places.{number_of};
+ghost use Rattle.rc_reach.specs.Reaching.{IsReachingSet};
 ghost use Rattle.rc_topology.specs.Ports.{links_of};
 ghost use Rattle.rc_trees.specs.Recipes.{tree};
-ghost use Rattle.rc_trees.specs.Trees.{Tree, HasNodes, IsReduced, holds, same_tree};
+ghost use Rattle.rc_trees.specs.Trees.{Tree, HasNodes, same_tree};
 
 use crate::result::ended;
 use crate::rounds::propagate;
@@ -144,7 +143,7 @@ pub fn reach<R: Threads + Sync + AllocGlobal, M: May + Send + Sync, G: Gate>(
     ensures seat { IsSeatOf nodes.now result.0 }
     ensures keeps { Keeps seat result.0 }
     ensures set { IfOk result.1 (λ r. SeatKnows result.0 r.index (tree (reaching plane.now place ends))) }
-    ensures reaches { IfOk result.1 (λ r. (t : Tree) → SeatKnows result.0 r.index t → IsReduced t × ((h : Header) → IsHeader h → (holds t h ≡ true) ↔ IsReaching plane.now h place ends)) }
+    ensures reaches { IfOk result.1 (λ r. (t : Tree) → SeatKnows result.0 r.index t → IsReachingSet plane.now place ends t) }
     ensures cause { IfErr result.1 (IsCause nodes.now result.0) }
     ensures full { IfErr result.1 (λ e. e ≡ Full → nodes.now.capacity < distinct_count same_tree nodes.now.may) }
 {

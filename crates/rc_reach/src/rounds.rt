@@ -73,7 +73,7 @@ pub fn propagate<R: Threads + Sync, M: May + Send + Sync, E: Sends + Sync, G: Ga
         };
         let at_once = is_at_once(number, many, workers);
         let phase = PHASE + 1 + number;
-        let (back, made) = at_once_or_in_turn(
+        let (back, _passed, made) = at_once_or_in_turn(
             rt, alloc, nodes, work, &round, at_once, phase, workers, gate,
         );
         work = back;
