@@ -5,39 +5,56 @@
 //! of them, and those on causes hold. No text goes to standard error.
 #![tactic(auto)]
 
-ghost use Rattle.std.specs.Prelude.{◌≡◌};
+ghost use Rattle.std.specs.Prelude.{◌≡◌, ◌≢◌, [], drop, map, string_bytes, IfErr, IfOk, IsErr};
+ghost use Rattle.std.specs.IoError.{error_kind};
 ghost use Rattle.std.specs.Process.{exit_status};
+ghost use Rattle.std.specs.Vec.Iter.{into_iter_items};
 ghost use Rattle.rc_answers.specs.Codes.{status_code};
+ghost use Rattle.netcheck.specs.Ends.{EndsBy};
 
 use rc_analyse::{Status, run};
 use rc_outside::OpenGate;
 use rc_system::{RealFolder, WriterSink};
-use std::io::Write;
+use std::alloc::{AllocError, Global};
+use std::env::{self, Args};
+use std::io::{self, ErrorKind, Write};
 use std::process::ExitCode;
-use std::rt::{Env, Files};
+use std::rt::Files;
 use std::thread::Threads;
-use std::{env, io};
 
-/// The words after the program's name. Where they can't be read, as words that aren't UTF-8, there are none: the answer
-/// is then the usage, as for all words that aren't taken.
-fn given_words<R: Env + AllocGlobal>(rt: &R) -> io::Result<Vec<String>> {
-    let mut words = Vec::new(rt.alloc());
-    let given = match env::args(rt) {
-        Ok(given) => given,
-        Err(error) if error.kind() == io::ErrorKind::OutOfMemory => return Err(error),
-        Err(_) => return Ok(words),
-    };
-    for word in given.skip(1) {
+/// The words after the program's name, which is the first of those that are given.
+fn words_behind(alloc: Global, given: Args) -> Result<Vec<String>, AllocError>
+    ensures { IfOk result (λ words. words.items ≡ drop 1 (into_iter_items given)) }
+{
+    let mut left = given;
+    let _ = left.next();
+    let mut words = Vec::new(alloc);
+    for word in left {
         words.push(word)?;
     }
     Ok(words)
 }
 
+/// The words after the program's name. Where they can't be read, as words that aren't UTF-8, there are none: the answer
+/// is then the usage, as for all words that aren't taken.
+fn words_of(alloc: Global, given: io::Result<Args>) -> Result<Vec<String>, AllocError>
+    ensures words { IfOk given (λ given. IfOk result (λ words. words.items ≡ drop 1 (into_iter_items given))) }
+    ensures memory { IfErr given (λ e. error_kind e ≡ ErrorKind.OutOfMemory → IsErr result) }
+    ensures unread { IfErr given (λ e. error_kind e ≢ ErrorKind.OutOfMemory → IfOk result (λ words. words.items ≡ [])) }
+{
+    match given {
+        Ok(given) => words_behind(alloc, given),
+        Err(error) if error.kind() == ErrorKind::OutOfMemory => Err(AllocError),
+        Err(_) => Ok(Vec::new(alloc)),
+    }
+}
+
 /// Answers words over the folders of the system, to a writer.
-fn answer_to<R, W>(rt: &R, words: &[&str], writer: W) -> io::Result<Status>
+fn answer_to<R, W>(rt: &R, words: &[&str], writer: W) -> Result<Status, AllocError>
 where
     R: Threads + Sync + AllocGlobal + Files + Clone + Drop,
     W: Write + Drop,
+    ensures { IfOk result (EndsBy (map (λ w. w.now) words.now)) }
 {
     let mut out = WriterSink::new(writer);
     let mut folder = RealFolder::new(rt.clone()?);
@@ -45,9 +62,10 @@ where
 }
 
 /// Answers words to standard output.
-fn answer<R>(rt: &R, given: &[String]) -> io::Result<Status>
+fn answer<R>(rt: &R, given: &[String]) -> Result<Status, AllocError>
 where
     R: Threads + Sync + AllocGlobal + Files + Print + Clone + Drop,
+    ensures { IfOk result (EndsBy (map string_bytes given.now)) }
 {
     let mut words: Vec<&str> = Vec::new(rt.alloc());
     for word in given {
@@ -56,12 +74,17 @@ where
     answer_to(rt, words.as_slice(), io::writer(rt))
 }
 
-fn status_of<R>(rt: &R) -> io::Result<Status>
+/// How the program ends. Before `run` only memory can be wanting.
+fn status_of<R>(rt: &R, given: Result<Vec<String>, AllocError>) -> Status
 where
-    R: Threads + Sync + AllocGlobal + Env + Files + Print + Clone + Drop,
+    R: Threads + Sync + AllocGlobal + Files + Print + Clone + Drop,
+    ensures ends { IfOk given (λ words. result ≢ Status.Memory → EndsBy (map string_bytes words.items) result) }
+    ensures memory { IsErr given → result ≡ Status.Memory }
 {
-    let given = given_words(rt)?;
-    answer(rt, given.as_slice())
+    let Ok(words) = given else {
+        return Status::Memory;
+    };
+    answer(rt, words.as_slice()).unwrap_or(Status::Memory)
 }
 
 /// The exit status of the process: the number of the run's status.
@@ -72,6 +95,6 @@ fn exit_code(status: Status) -> ExitCode
 }
 
 fn main(rt: HostRuntime) -> ExitCode {
-    // Before `run` only memory can be wanting.
-    exit_code(status_of(&rt).unwrap_or(Status::Memory))
+    let given = words_of(rt.alloc(), env::args(&rt));
+    exit_code(status_of(&rt, given))
 }

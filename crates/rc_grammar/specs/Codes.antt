@@ -4,6 +4,7 @@ use Rattle.rc_openings.specs.Reading.{code_of}
 use Rattle.rc_grammar.specs.declared.refusal.FileCause.{FileCause}
 use Rattle.rc_grammar.specs.declared.refusal.FileCause.TheVariants.{Line, LineTooLong, NoHostName, OpenBanner, TooManyInterfaces}
 
+-- the number of a refusal of a file
 abbrev pub cause_code : FileCause → ℕ
 cause_code (Line refusal) = code_of refusal
 cause_code LineTooLong = 5

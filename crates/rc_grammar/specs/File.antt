@@ -135,6 +135,7 @@ pub data IsRefusal (bytes : List ℕ) (refusal : FileRefusal) : Type 0 where
       → step reading line ≡ Err refusal → refusal.line ≡ length before + 1 → IsRefusal bytes refusal
   without_host : (reading : Reading) → with_lines (Ok start) (lines_of bytes) ≡ Ok reading → reading.file.host ≡ None → refusal ≡ record { line = 0; cause = NoHostName } → IsRefusal bytes refusal
 
+-- a file is refused exactly with the refusal of its least line that is refused, or of its host name where all lines are taken
 abbrev pub RefusesTheFirst : Type 0
 RefusesTheFirst = (bytes : List ℕ) (refusal : FileRefusal) → (file_of bytes ≡ Err refusal) ↔ IsRefusal bytes refusal
 

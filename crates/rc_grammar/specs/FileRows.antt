@@ -1,6 +1,6 @@
 -- Whole files with the models that their lines make, by computation.
 use Rattle.std.specs.Fmt.{digits}
-use Rattle.std.specs.Prelude.{◌≡◌, refl, ℕ, true, false, List, [], ◌∷◌, ◌++◌, replicate, map, Some, None, Ok, Err, codes, decimal}
+use Rattle.std.specs.Prelude.{◌≡◌, ◌==◌, if◌then◌else◌, refl, ℕ, true, false, List, [], ◌∷◌, ◌++◌, replicate, map, Some, None, Ok, Err, codes, decimal}
 use Rattle.rc_base.specs.Addr.{mask_len}
 use Rattle.std.specs.List.{range_with_len}
 use Rattle.rc_base.specs.declared.origin.Origin.TheVariants.{Igp}
@@ -16,6 +16,7 @@ use Rattle.rc_openings.specs.Words.{words_of}
 use Rattle.rc_openings.specs.declared.reading.LineRefusal.TheVariants.{BadValue, OutOfPlace}
 use Rattle.rc_lines.specs.Banners.{is_banner}
 use Rattle.rc_config.specs.AccessList.{any_address, host_address, standard_line}
+use Rattle.rc_config.specs.declared.bgp.OspfRedistribution.{OspfRedistribution}
 use Rattle.rc_config.specs.Bgp.{no_lines as no_bgp_lines, no_settings as no_neighbor_settings}
 use Rattle.rc_config.specs.IfType.{type_of}
 use Rattle.rc_config.specs.Interface.{fresh}
@@ -188,7 +189,7 @@ route_maps = refl
 pub ospf_process :
     Makes (codes "hostname X\nrouter ospf 7\n router-id 1.1.1.1\n network 10.0.0.0 0.0.0.255 area 0\n network 10.0.1.0 0.0.0.255 area 0.0.0.3\n passive-interface default\n no passive-interface Serial0/0\n auto-cost reference-bandwidth 1000\n area 0.0.0.3 stub no-summary\n area 3 stub\n redistribute static metric 5 subnets\n redistribute connected\n redistribute static route-map M\n default-information originate always\n log-adjacency-changes\ninterface Serial0/0\n ip ospf cost 10\n ip ospf cost 20\n ip ospf hello-interval 5\n ip ospf network broadcast\n ip ospf network point-to-point\n ip ospf priority 0\n ip ospf 7 area 0.0.1.0\nrouter ospf 7\n network 0.0.0.0 255.255.255.255 area 9\n")
     (record x {
-      interfaces = (codes "Serial0/0", record fresh { ospf = record no_settings { cost = Some 20; hello = Some 5; network = Some PointToPoint; area = Some (record { process = 7; area = 256 }) } }) ∷ [];
+      interfaces = (codes "Serial0/0", record fresh { ospf = record no_settings { cost = Some 20; hello = Some 5; network = Some PointToPoint; areas = record { process = 7; area = 256 } ∷ [] } }) ∷ [];
       ospf = Some (record {
         process = 7;
         router_id = Some 0x01010101;
@@ -257,6 +258,26 @@ pub bgp_redistributions :
     })
 unfolding file_of step decided decisive_row global global_forms global_refused global_ignored interface interface_forms interface_refused interface_ignored access_list access_list_forms access_list_refused access_list_ignored route_map route_map_forms route_map_refused route_map_ignored ospf ospf_forms ospf_refused ospf_ignored bgp bgp_forms bgp_refused bgp_ignored words_of is_banner mask_len type_of protocol_names port_names of_access_lists of_policies of_ospf digits
 bgp_redistributions = refl
+
+-- the lines of two OSPF processes are those of two sources: each keeps its own map, in whichever order they stand
+abbrev of_process : ℕ → ℕ → OspfRedistribution
+of_process process line = record {
+  process = process;
+  kinds = record { internal = true; external_1 = false; external_2 = false };
+  redistribution = record { metric = None; route_map = Some (named (if process == 1 then codes "A" else codes "B") line) };
+}
+
+pub two_processes :
+    Makes (codes "hostname X\nrouter bgp 65001\n redistribute ospf 1 route-map A\n redistribute ospf 2 route-map B\n")
+    (record x { bgp = Some (record (no_bgp_lines 65001) { redistributions = record { connected = None; static_routes = None; ospf = of_process 1 3 ∷ of_process 2 4 ∷ [] } }) })
+unfolding file_of step decided decisive_row global global_forms global_refused global_ignored interface interface_forms interface_refused interface_ignored access_list access_list_forms access_list_refused access_list_ignored route_map route_map_forms route_map_refused route_map_ignored ospf ospf_forms ospf_refused ospf_ignored bgp bgp_forms bgp_refused bgp_ignored words_of is_banner mask_len type_of protocol_names port_names of_access_lists of_policies of_ospf digits
+two_processes = refl
+
+pub two_processes_in_turn :
+    Makes (codes "hostname X\nrouter bgp 65001\n redistribute ospf 2 route-map B\n redistribute ospf 1 route-map A\n")
+    (record x { bgp = Some (record (no_bgp_lines 65001) { redistributions = record { connected = None; static_routes = None; ospf = of_process 1 4 ∷ of_process 2 3 ∷ [] } }) })
+unfolding file_of step decided decisive_row global global_forms global_refused global_ignored interface interface_forms interface_refused interface_ignored access_list access_list_forms access_list_refused access_list_ignored route_map route_map_forms route_map_refused route_map_ignored ospf ospf_forms ospf_refused ospf_ignored bgp bgp_forms bgp_refused bgp_ignored words_of is_banner mask_len type_of protocol_names port_names of_access_lists of_policies of_ospf digits
+two_processes_in_turn = refl
 
 -- a line of a process says nothing where there is none
 pub no_process : after empty (OspfLine (ReferenceBandwidth 5)) ≡ empty

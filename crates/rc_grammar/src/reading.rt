@@ -2,10 +2,10 @@
 //!
 //! What the lines so far have said is changed where it stands, so that a line that is passed over, as most are, costs no more
 //! than a look at its words.
-ghost use Rattle.std.specs.Prelude.{◌≡◌, IfOk, OnOk, Some, None, Ok, Err};
+ghost use Rattle.std.specs.Prelude.{◌≡◌, ◌≢◌, false, IfOk, OnOk, Some, None, Ok, Err};
 ghost use Rattle.std.specs.Option.{option_copied};
 ghost use Rattle.rc_openings.specs.Words.{words_of};
-ghost use Rattle.rc_lines.specs.Lines.{TextLine, lines_of};
+ghost use Rattle.rc_lines.specs.Lines.{TextLine, is_too_long, lines_of};
 ghost use Rattle.rc_config.specs.Lawful.{FitsFile, IsInRange, IsLawfulFile};
 ghost use Rattle.rc_grammar.specs.File.{at_line, failed_at, file_of, interface_of, is_one_too_many, is_passed, open_after, start, step, with_command, with_host, with_lines, with_said, with_text, Gives, IsFit, Leaves, RefusesTheFirst};
 
@@ -130,6 +130,7 @@ impl Reading {
         requires fits { FitsFile self.old.file command }
         requires fit { IsFit self.old.file }
         ensures step { Leaves result self.new (with_command line.now.number self.old command) }
+        ensures memory { result ≡ Err ReadError.Memory → is_one_too_many self.old.file (interface_of command) ≡ false }
         ensures fit { OnOk result (IsFit self.new.file) }
     {
         if is_too_many(&self.file, &command) {
@@ -183,6 +184,7 @@ impl Reading {
     fn put_text(&mut self, line: &Line) -> Result<(), ReadError>
         requires { IsFit self.old.file }
         ensures step { Leaves result self.new (with_text self.old line.now) }
+        ensures memory { result ≡ Err ReadError.Memory → is_passed (words_of line.now.text) ≡ false }
         ensures fit { OnOk result (IsFit self.new.file) }
     {
         if is_passed_over(line) {
@@ -197,6 +199,7 @@ impl Reading {
     fn put_line(&mut self, line: &Line) -> Result<(), ReadError>
         requires { IsFit self.old.file }
         ensures step { Leaves result self.new (step self.old line.now) }
+        ensures memory { result ≡ Err ReadError.Memory → (is_too_long line.now.text ≡ false) × (line.now.part ≡ Part.Plain) }
         ensures fit { OnOk result (IsFit self.new.file) }
     {
         if line.is_too_long() {
@@ -234,6 +237,7 @@ impl Reading {
     fn finished(self) -> Result<RouterText, ReadError>
         requires { IsFit self.file }
         ensures file { Gives result (with_host (Ok self)) }
+        ensures takes_no_memory { result ≢ Err ReadError.Memory }
         ensures lawful { IfOk result IsLawfulFile }
     {
         let Reading { file, block: _ } = self;

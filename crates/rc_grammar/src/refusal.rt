@@ -21,7 +21,7 @@ pub enum FileCause {
 impl FileCause {
     ghost use Rattle.rc_grammar.specs.Codes.{cause_code};
 
-    /// The number that is printed.
+    /// The number of the refusal, which is printed.
     pub fn code(self) -> u8
         ensures { result ≡ cause_code self }
     {

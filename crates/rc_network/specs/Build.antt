@@ -50,7 +50,7 @@ undefined_in m = option_map (λ line. InFile m.0 line Undefined) (undefined_line
 abbrev pub first_undefined : List Model → Option NetRefusal
 first_undefined models = slice_get (filter_map undefined_in models) 0
 
--- the first refusal: of a host name that is there already, in whichever file, before that of an undefined name
+-- the first refusal of a network: of a host name that is there already, in whichever file, before that of an undefined name
 abbrev pub first_refusal : List Model → Option NetRefusal
 first_refusal models = option_or (twice models) (first_undefined models)
 

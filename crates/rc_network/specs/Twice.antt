@@ -21,5 +21,6 @@ pub record FindsTheFirstTwice (models : List Model) : Type 0 where
   pub first : (m : Model) → (first_twice [] models ≡ Some m) ↔ IsFirstTwice models m
   pub none : (first_twice [] models ≡ None) ↔ IsDistinct same_name (hosts models)
 
+-- the host name that is refused is that of the first model whose name an earlier one has, and none is where all differ
 abbrev pub NamesTheFirstTwice : Type 0
 NamesTheFirstTwice = (models : List Model) → FindsTheFirstTwice models

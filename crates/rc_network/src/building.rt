@@ -1,9 +1,9 @@
 //! Models under their host names.
-ghost use Rattle.std.specs.Prelude.{◌≡◌, ◌≤◌, All, IfErr, IfOk, IsSome, OnOk, Some, is_some, length};
+ghost use Rattle.std.specs.Prelude.{◌≡◌, ◌≤◌, All, IfErr, IfOk, IsSome, None, OnOk, Some, Err, is_some, length};
 ghost use Rattle.std.specs.Option.{option_or};
 ghost use Rattle.rc_config.specs.Lawful.{IsLawful, IsLawfulFile};
 ghost use Rattle.rc_config.specs.Named.{named, with_value};
-ghost use Rattle.rc_network.specs.Build.{undefined_in, HasOneNetwork, IsBuilt};
+ghost use Rattle.rc_network.specs.Build.{host_of, undefined_in, HasOneNetwork, IsBuilt};
 ghost use Rattle.rc_network.specs.Step.{nothing, Adds, GathersAll, IsFinished};
 ghost use Rattle.rc_network.specs.Twice.{NamesTheFirstTwice};
 
@@ -96,7 +96,8 @@ impl Gathered {
     /// Puts one more model under its host name.
     fn put_model(&mut self, file: FileName, model: RouterText) -> Result<(), BuildError>
         requires { IsSome model.host }
-        ensures { Adds self.old (file, model) self.new result }
+        ensures adds { Adds self.old (file, model) self.new result }
+        ensures memory { result ≡ Err BuildError.Memory → named self.old.routers (host_of model) ≡ None }
     {
         let host = host_of(&model);
         if self.has(&host.name) {
@@ -122,7 +123,8 @@ impl Gathered {
 
     /// The network of these models, or the refusal of their first undefined name.
     fn finished(self) -> Result<Network, BuildError>
-        ensures { IsFinished self result }
+        ensures finished { IsFinished self result }
+        ensures memory { result ≡ Err BuildError.Memory → self.undefined ≡ None }
     {
         let Gathered {
             mut routers,

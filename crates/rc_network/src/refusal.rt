@@ -21,7 +21,7 @@ pub enum NetCause {
 impl NetCause {
     ghost use Rattle.rc_network.specs.Codes.{net_code};
 
-    /// The number that is printed.
+    /// The number of the refusal, which is printed.
     pub fn code(self) -> u8
         ensures { result ≡ net_code self }
     {

@@ -1,10 +1,14 @@
 //! Standard output, and any other stream of bytes.
-ghost use Rattle.std.specs.Prelude.{◌≡◌, None};
+ghost use Rattle.std.specs.Prelude.{◌≡◌, ◌≤◌, None, OnOk, OnErr};
+ghost use Rattle.std.specs.Io.KnownBytes.{Appends};
+ghost use Rattle.rc_outside.specs.Causes.{Rose};
+ghost use Rattle.rc_outside.specs.Sink.{appended, AppendsFront};
 
 use rc_outside::{Sink, SinkFailed};
 use std::io::Write;
 
-/// A sink over a writer. No clause says which bytes reach the system, so this tells no content.
+/// A sink over a writer. No clause says which bytes reach the system, so this tells no content; where the writer's own clauses tell
+/// what it holds, a piece that is put stands there whole.
 ///
 /// A piece is written before `put` answers: nothing waits in a buffer, so a failure is seen at the piece that it
 /// befalls. A writer that takes nothing of a piece that isn't empty has failed too.
@@ -17,7 +21,8 @@ pub struct WriterSink<W: Write + Drop> {
 impl<W: Write + Drop> WriterSink<W> {
     /// A sink over this writer, which has not failed yet.
     pub fn new(writer: W) -> WriterSink<W>
-        ensures { result.faults ≡ 0 }
+        ensures faults { result.faults ≡ 0 }
+        ensures writer { result.writer ≡ writer }
     {
         WriterSink { writer, faults: 0 }
     }
@@ -35,7 +40,15 @@ impl<W: Write + Drop> Sink for WriterSink<W> {
 
     ghost faults = { λ s. s.faults };
 
-    fn put(&mut self, piece: &[u8]) -> Result<(), SinkFailed> {
+    fn put(&mut self, piece: &[u8]) -> Result<(), SinkFailed>
+        ensures written { OnOk result (Appends (W.contents self.old.writer) (W.contents self.new.writer) piece.now) }
+        // what every sink says
+        ensures ok { None ≡ appended None piece.now }
+        ensures err { OnErr result (AppendsFront None None piece.now) }
+        ensures left { OnOk result (self.new.faults ≡ self.old.faults) }
+        ensures later { self.old.faults ≤ self.new.faults }
+        ensures cause { OnErr result (Rose self.old.faults self.new.faults) }
+    {
         match self.writer.write_all(piece) {
             Ok(()) => Ok(()),
             Err(_) => {

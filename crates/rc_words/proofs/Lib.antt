@@ -11,3 +11,4 @@ mod FirstWord
 mod RequestLaws
 mod PlainTaken
 mod PlainRequest
+mod NoLimits

@@ -20,7 +20,7 @@ only Unreachable = record no_endings { unreachable = true }
 only Exits = record no_endings { exits = true }
 only Delivered = record no_endings { delivered = true }
 
--- the packet comes to its destination: a router takes it, or it leaves onto the subnet that holds it
+-- the endings in which a packet comes to its destination: a router accepts it, or it leaves onto the subnet that holds it
 abbrev pub arrivals : Ends
 arrivals = record no_endings { accepted = true; delivered = true }
 

@@ -12,6 +12,7 @@ pub record RefusesAsClap : Type 0 where
   pub unread : (words : List Text) → texts_are_read (subcommand_of netcheck_app words) ≡ false → request_of words ≡ None
   pub only : (words : List Text) → request_of words ≡ None → (fault_of netcheck_app words ≢ []) ⊎ (texts_are_read (subcommand_of netcheck_app words) ≡ false)
 
+-- the numbers of each request are in the ranges of their options
 abbrev pub KeepsRanges : Type 0
 KeepsRanges = (words : List Text) (r : Request) → request_of words ≡ Some r → AreInRange r.limits × IsAskInRange r.ask
 

@@ -6,3 +6,4 @@ pub mod Laws
 pub mod Rows
 pub mod Endings
 pub mod LineRows
+pub mod Faults

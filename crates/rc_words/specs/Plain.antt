@@ -15,6 +15,7 @@ use Rattle.rc_words.specs.declared.request.Request.{Request}
 
 -- ---- commands and options
 
+-- the commands
 pub data CommandName : Type 0 where
   routes : CommandName
   trace : CommandName
@@ -152,6 +153,8 @@ abbrev pub ArePlainUses : CommandName → List Use → Type 0
 ArePlainUses command [] = Unit {0}
 ArePlainUses command (u ∷ us) = (has_option u.option (options_of command) ≡ true) × IsPlainValue (kind_of u.option) u.value × (is_given u.option us ≡ false) × ArePlainUses command us
 
+-- words in the form of the usage text: an argument that isn't empty and begins with no dash, the command's own options, each at most once
+-- with a value that it takes, and all that it wants
 pub record ArePlain (command : CommandName) (dir : List ℕ) (uses : List Use) : Type 0 where
   pub argument : IsPlainValue (argument_of command) dir
   pub options : ArePlainUses command uses

@@ -129,6 +129,7 @@ pub record IsHeaderInRange (header : Header) : Type 0 where
   pub most_sport : header.sport ≤ 65535
   pub most_dport : header.dport ≤ 65535
 
+-- the numbers of what is asked are in their options' ranges
 abbrev pub IsAskInRange : Ask → Type 0
 IsAskInRange (Routes dir router) = Unit {0}
 IsAskInRange (Trace dir place header) = IsHeaderInRange header

@@ -1,8 +1,9 @@
 //! The request that words make.
-ghost use Rattle.std.specs.Prelude.{◌≡◌, ◌≢◌, ◌<◌, ◌==◌, [], length, map, codes, Some, None, Err, IfOk, IfSome, option_map};
+ghost use Rattle.std.specs.Prelude.{◌≡◌, ◌≢◌, ◌↔◌, ◌<◌, ◌==◌, [], length, map, codes, Some, None, Err, IfOk, IfSome, option_map};
 ghost use Rattle.std.specs.List.{position};
 ghost use Rattle.clap.specs.Words.{fault_of, kind_of, subcommand_of, subcommand_rows_of, found_of, rows_of, first_of};
 ghost use Rattle.rc_words.specs.App.{netcheck_app};
+ghost use Rattle.rc_words.specs.Faults.{fault_by};
 ghost use Rattle.rc_words.specs.Request.{place_cut, place_of, number_at, address_at, place_at, limits_at, header_at, ends_at, routes_at, trace_at, reach_at, sample_at, ask_at, request_at, request_of, AreInRange, IsAskInRange};
 
 use crate::app::netcheck_command;
@@ -158,7 +159,7 @@ fn text_kept(alloc: Global, found: &ArgMatches, name: &str) -> Result<Option<Wor
 
 fn routes_given(alloc: Global, found: &ArgMatches) -> Result<Ask, WordsFault>
     ensures taken { IfOk result (λ ask. routes_at (rows_of (found_of found.now)) ≡ Some ask) }
-    ensures usage { result ≡ Err WordsFault.Usage → routes_at (rows_of (found_of found.now)) ≡ None }
+    ensures usage { (result ≡ Err WordsFault.Usage) ↔ (routes_at (rows_of (found_of found.now)) ≡ None) }
 {
     let Some(dir) = text_given(found, "DIR") else {
         return Err(WordsFault::Usage);
@@ -170,7 +171,7 @@ fn routes_given(alloc: Global, found: &ArgMatches) -> Result<Ask, WordsFault>
 
 fn trace_given(alloc: Global, found: &ArgMatches) -> Result<Ask, WordsFault>
     ensures taken { IfOk result (λ ask. trace_at (rows_of (found_of found.now)) ≡ Some ask) }
-    ensures usage { result ≡ Err WordsFault.Usage → trace_at (rows_of (found_of found.now)) ≡ None }
+    ensures usage { (result ≡ Err WordsFault.Usage) ↔ (trace_at (rows_of (found_of found.now)) ≡ None) }
 {
     let Some(dir) = text_given(found, "DIR") else {
         return Err(WordsFault::Usage);
@@ -187,7 +188,7 @@ fn trace_given(alloc: Global, found: &ArgMatches) -> Result<Ask, WordsFault>
 
 fn reach_given(alloc: Global, found: &ArgMatches) -> Result<Ask, WordsFault>
     ensures taken { IfOk result (λ ask. reach_at (rows_of (found_of found.now)) ≡ Some ask) }
-    ensures usage { result ≡ Err WordsFault.Usage → reach_at (rows_of (found_of found.now)) ≡ None }
+    ensures usage { (result ≡ Err WordsFault.Usage) ↔ (reach_at (rows_of (found_of found.now)) ≡ None) }
 {
     let Some(dir) = text_given(found, "DIR") else {
         return Err(WordsFault::Usage);
@@ -212,7 +213,7 @@ fn reach_given(alloc: Global, found: &ArgMatches) -> Result<Ask, WordsFault>
 
 fn sample_given(found: &ArgMatches) -> Result<Ask, WordsFault>
     ensures taken { IfOk result (λ ask. sample_at (rows_of (found_of found.now)) ≡ Some ask) }
-    ensures usage { result ≡ Err WordsFault.Usage → sample_at (rows_of (found_of found.now)) ≡ None }
+    ensures usage { (result ≡ Err WordsFault.Usage) ↔ (sample_at (rows_of (found_of found.now)) ≡ None) }
 {
     let Some(routers) = number_given(found, "N") else {
         return Err(WordsFault::Usage);
@@ -223,7 +224,7 @@ fn sample_given(found: &ArgMatches) -> Result<Ask, WordsFault>
 // What the command of this name asks.
 fn ask_given(alloc: Global, name: &str, found: &ArgMatches) -> Result<Ask, WordsFault>
     ensures taken { IfOk result (λ ask. ask_at name.now (rows_of (found_of found.now)) ≡ Some ask) }
-    ensures usage { result ≡ Err WordsFault.Usage → ask_at name.now (rows_of (found_of found.now)) ≡ None }
+    ensures usage { (result ≡ Err WordsFault.Usage) ↔ (ask_at name.now (rows_of (found_of found.now)) ≡ None) }
 {
     if name == "routes" {
         routes_given(alloc, found)
@@ -241,25 +242,25 @@ fn ask_given(alloc: Global, name: &str, found: &ArgMatches) -> Result<Ask, Words
 // The request of what clap found: the command's name decides how its matches are read.
 fn request_given(alloc: Global, matches: &ArgMatches) -> Result<Request, WordsFault>
     ensures taken { IfOk result (λ r. request_at (subcommand_rows_of matches.now) ≡ Some r) }
-    ensures usage { result ≡ Err WordsFault.Usage → request_at (subcommand_rows_of matches.now) ≡ None }
+    ensures usage { (result ≡ Err WordsFault.Usage) ↔ (request_at (subcommand_rows_of matches.now) ≡ None) }
 {
     let Some((name, found)) = matches.subcommand() else {
         return Err(WordsFault::Usage);
     };
-    let ask = ask_given(alloc, name, found)?;
     let Some(limits) = limits_given(found) else {
         return Err(WordsFault::Usage);
     };
+    let ask = ask_given(alloc, name, found)?;
     Ok(Request { ask, limits })
 }
 
+// Why clap gave no matches.
 fn fault_from(error: &Error) -> WordsFault
-    ensures { result ≡ WordsFault.Usage → kind_of error.now ≢ ErrorKind.OutOfMemory }
+    ensures { result ≡ fault_by (kind_of error.now) }
 {
-    if error.kind() == ErrorKind::OutOfMemory {
-        WordsFault::Memory
-    } else {
-        WordsFault::Usage
+    match error.kind() {
+        ErrorKind::OutOfMemory => WordsFault::Memory,
+        _ => WordsFault::Usage,
     }
 }
 

@@ -15,7 +15,7 @@ returns-in-Ok-clause-taken c =
 pub returns-in-Ok-clause-usage : goal.returns-in-Ok-clause-usage
 returns-in-Ok-clause-usage c = λ e.
     let words : List Text = map {A = Bor Text} {B = Text} (λ w. w.now) c.args.words.now in
-    when_taken words c.in-Ok.ensures.taken ∙ ap request_at (sym c.in-Ok.ensures.rows) ∙ c.request_given.ensures.usage e
+    when_taken words c.in-Ok.ensures.taken ∙ ap request_at (sym c.in-Ok.ensures.rows) ∙ c.request_given.ensures.usage.0 e
 
 pub returns-in-Ok-clause-in_range : goal.returns-in-Ok-clause-in_range
 returns-in-Ok-clause-in_range c =
