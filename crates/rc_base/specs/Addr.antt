@@ -6,7 +6,7 @@ use Rattle.std.specs.List.{range_with_len}
 abbrev pub leading_bits : ℕ → ℕ → ℕ
 leading_bits len a = a / 2 ^ (32 - len)
 
--- len ones and then zeros
+-- the mask of a length (RFC 950 s.2.1): len ones and then zeros
 abbrev pub mask : ℕ → ℕ
 mask len = 2 ^ 32 - 2 ^ (32 - len)
 
@@ -14,6 +14,6 @@ mask len = 2 ^ 32 - 2 ^ (32 - len)
 unfoldable pub mask_len : ℕ → Option ℕ
 mask_len m = find (λ len. mask len == m) (range_with_len 0 33)
 
--- four decimal octets with dots between them (RFC 1123 s.2.1)
+-- an address as four decimal octets with dots between them (RFC 1123 s.2.1)
 unfoldable pub dotted : ℕ → List ℕ
 dotted a = decimal (a / 2 ^ 24) ++ codes "." ++ decimal (a / 2 ^ 16 % 256) ++ codes "." ++ decimal (a / 2 ^ 8 % 256) ++ codes "." ++ decimal (a % 256)

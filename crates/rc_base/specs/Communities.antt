@@ -19,7 +19,7 @@ has_community numbers n = list_any (λ m. m == n) numbers
 abbrev pub has_all : List ℕ → List ℕ → Bool
 has_all numbers others = list_all (has_community numbers) others
 
--- those of either set
+-- the numbers of either set
 abbrev pub joined : List ℕ → List ℕ → List ℕ
 joined numbers others = community_set (numbers ++ others)
 

@@ -4,7 +4,7 @@ use Rattle.std.specs.Str.{bytes_eq}
 use Rattle.rc_base.specs.declared.ending.Kind.{Kind}
 use Rattle.rc_base.specs.declared.ending.Kind.TheVariants.{DeniedIn, Accepted, NoRoute, NullRouted, DeniedOut, Unreachable, Exits, Delivered}
 
--- all endings, in their order
+-- the eight endings, in their order
 abbrev pub all_kinds : List Kind
 all_kinds = DeniedIn ∷ Accepted ∷ NoRoute ∷ NullRouted ∷ DeniedOut ∷ Unreachable ∷ Exits ∷ Delivered ∷ []
 

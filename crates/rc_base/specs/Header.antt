@@ -2,7 +2,7 @@
 use Rattle.std.specs.Prelude.{◌^◌, ◌<◌}
 use Rattle.rc_base.specs.declared.header.Header.{Header}
 
--- each field fits its bits: two addresses of 32, a protocol of 8, two ports of 16
+-- each field of a header fits its bits: two addresses of 32, a protocol of 8, two ports of 16
 pub record IsHeader (h : Header) : Type 0 where
   pub dst : h.dst < 2 ^ 32
   pub src : h.src < 2 ^ 32

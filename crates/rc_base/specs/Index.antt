@@ -12,7 +12,7 @@ use Rattle.rc_base.specs.declared.position.IfId.{IfId}
 abbrev pub Rows : Type 0
 Rows = List (Cidr × List IfId)
 
--- the members of a prefix, none where it has no row
+-- the interfaces under a prefix, none where it has no row
 abbrev pub members : Rows → Cidr → List IfId
 members rows p = unwrap_or (under rows p) []
 
@@ -24,7 +24,7 @@ ends_with known i = option_map_or (λ last. same_interface last i) (slice_get kn
 abbrev pub with_last : List IfId → IfId → List IfId
 with_last known i = if ends_with known i then known else known ++ i ∷ []
 
--- a prefix with one member more
+-- the rows with one interface more at the end of a prefix, where it isn't the last one there already
 abbrev pub with_member : Rows → Cidr → IfId → Rows
 with_member rows p i = insert_entry prefix_cmp rows p (with_last (members rows p) i)
 

@@ -5,7 +5,7 @@ use Rattle.std.specs.declared.cmp.Ordering.{Ordering}
 use Rattle.std.specs.BTreeSet as sorted
 use Rattle.indexmap.specs.IndexSet as seen
 
--- the elements in the order of cmp, each once
+-- the elements of a list in an order, each once
 abbrev pub in_order : {A : Type 0} → (A → A → Ordering) → List A → List A
 in_order cmp xs = fold (sorted.insert_key cmp) [] xs
 
@@ -13,6 +13,6 @@ in_order cmp xs = fold (sorted.insert_key cmp) [] xs
 abbrev pub first_seen : {A : Type 0} → (A → A → Bool) → List A → List A
 first_seen eq xs = fold (seen.insert_key eq) [] xs
 
--- the list without those elements for which it has a better one
+-- the elements of a list for which it has no better one
 abbrev pub keep : {A : Type 0} → (A → A → Bool) → List A → List A
 keep better xs = filter (λ x. not (list_any (λ y. better y x) xs)) xs

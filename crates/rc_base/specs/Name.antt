@@ -8,10 +8,11 @@ use Rattle.std.proofs.Common.{ap, ◌∙◌}
 abbrev pub is_name_byte : ℕ → Bool
 is_name_byte b = nat_lt 32 b && nat_lt b 127
 
+-- a name: 1 to 63 printable ASCII bytes without a blank
 abbrev pub is_name : List ℕ → Bool
 is_name text = nat_lt 0 (length text) && nat_le (length text) 63 && list_all is_name_byte text
 
--- the name that a text is
+-- the name that a text is, none where it isn't one
 abbrev pub name_of : List ℕ → Option (List ℕ)
 name_of text = if is_name text then Some text else None
 
@@ -19,6 +20,7 @@ name_of text = if is_name text then Some text else None
 abbrev pub name_of_number : ℕ → List ℕ
 name_of_number n = decimal n
 
+-- two names are one, byte by byte
 abbrev pub same_name : List ℕ → List ℕ → Bool
 same_name = pointwise nat_eq
 

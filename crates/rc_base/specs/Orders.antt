@@ -13,6 +13,6 @@ origin_number Igp = 0
 origin_number Egp = 1
 origin_number Incomplete = 2
 
--- by router, then in the order of declaration
+-- interfaces by router, then in the order of declaration
 abbrev pub interface_cmp : IfId → IfId → Ordering
 interface_cmp i j = slice_cmp nat_cmp (i.router ∷ i.index ∷ []) (j.router ∷ j.index ∷ [])

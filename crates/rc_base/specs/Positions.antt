@@ -7,9 +7,11 @@ use Rattle.rc_base.specs.declared.ending.Kind.{Kind}
 use Rattle.rc_base.specs.declared.ending.Kind.TheVariants.{DeniedIn, Accepted, NoRoute, NullRouted, DeniedOut, Unreachable, Exits, Delivered}
 use Rattle.rc_base.specs.declared.ending.Ends.{Ends}
 
+-- two interfaces are one
 abbrev pub same_interface : IfId → IfId → Bool
 same_interface i j = (i.router == j.router) && (i.index == j.index)
 
+-- two positions are one
 abbrev pub same_position : Pos → Pos → Bool
 same_position (Own r) (Own s) = r == s
 same_position (Entering i) (Entering j) = same_interface i j

@@ -32,10 +32,11 @@ covers p q = nat_le p.len q.len && contains p q.network
 abbrev pub prefix_key : Cidr → List ℕ
 prefix_key p = p.network ∷ p.len ∷ []
 
+-- prefixes by address, then length
 abbrev pub prefix_cmp : Cidr → Cidr → Ordering
 prefix_cmp p q = slice_cmp nat_cmp (prefix_key p) (prefix_key q)
 
--- one address and one length
+-- two prefixes are one: one address and one length
 abbrev pub same_prefix : Cidr → Cidr → Bool
 same_prefix = eq_by_cmp prefix_cmp
 
@@ -43,9 +44,10 @@ same_prefix = eq_by_cmp prefix_cmp
 abbrev pub default_prefix : Cidr
 default_prefix = record { network = 0; len = 0 }
 
+-- the prefix is 0.0.0.0/0
 abbrev pub is_default : Cidr → Bool
 is_default p = same_prefix p default_prefix
 
--- the address, a slash and the length
+-- a prefix as its address, a slash and its length
 unfoldable pub prefix_text : Cidr → List ℕ
 prefix_text p = dotted p.network ++ codes "/" ++ decimal p.len

@@ -45,7 +45,7 @@ impl Kind {
         KINDS[index]
     }
 
-    /// The word for it, on the command line and at the end of a walk.
+    /// The word of the ending, on the command line and at the end of a walk.
     pub fn word(self) -> &'static str
         ensures { result.now ≡ kind_word self }
     {

@@ -16,7 +16,7 @@ pub enum Origin {
     Incomplete,
 }
 
-/// By the number of RFC 4271 s.4.3, which is the derived order too.
+/// Origins by the number of RFC 4271 s.4.3, which is the derived order too.
 pub fn compare_origins(a: Origin, b: Origin) -> Ordering
     ensures { result ≡ nat_cmp (origin_number a) (origin_number b) }
 {

@@ -46,7 +46,7 @@ pub struct IfId {
     pub index: usize,
 }
 
-/// By router, then in the order of declaration, which is the derived order too.
+/// Interfaces by router, then in the order of declaration, which is the derived order too.
 pub fn compare_interfaces(a: &IfId, b: &IfId) -> Ordering
     ensures { result ≡ interface_cmp a.now b.now }
 {

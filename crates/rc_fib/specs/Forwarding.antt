@@ -17,7 +17,7 @@ abbrev pub longest_by : {A : Type 0} → (A → Cidr) → List A → ℕ → Opt
 longest_by prefix xs a =
     reduce (λ x y. if nat_lt (prefix x).len (prefix y).len then y else x) (filter (λ x. contains (prefix x) a) xs)
 
--- the route of an address
+-- the route of an address: of those whose prefix holds it the one with the longest (RFC 1812 s.5.2.4.3)
 abbrev pub longest : List Route → ℕ → Option Route
 longest table a = longest_by (λ r. r.prefix) table a
 
@@ -62,7 +62,7 @@ hops_within table zero a = []
 hops_within table (suc depth) a =
     option_map_or (λ (r : Route). resolve_all (hops_within table depth) r.hops) (longest table a) []
 
--- the hops of an address
+-- the hops of an address by its longest prefix: a gateway without an interface is looked up in turn, 16 look-ups deep
 abbrev pub hops_of : List Route → ℕ → List Hop
 hops_of table a = hops_within table 16 a
 
@@ -73,7 +73,7 @@ abbrev pub resolved_within : List Route → ℕ → List Entry
 resolved_within table depth =
     map (λ (r : Route). record { prefix = r.prefix; hops = resolve_all (hops_within table depth) r.hops }) table
 
--- a table with its hops resolved
+-- a table with its hops resolved: for each route the hops of its prefix
 abbrev pub resolved : List Route → List Entry
 resolved table = resolved_within table 15
 
@@ -81,11 +81,11 @@ resolved table = resolved_within table 15
 abbrev pub entry_of : List Entry → ℕ → Option Entry
 entry_of entries a = longest_by (λ (e : Entry). e.prefix) entries a
 
--- the longest prefix that holds an address
+-- the longest prefix of a resolved table that holds an address
 abbrev pub resolved_prefix : List Entry → ℕ → Option Cidr
 resolved_prefix entries a = option_map (λ (e : Entry). e.prefix) (entry_of entries a)
 
--- the hops of an address
+-- the hops of an address in a table whose hops are resolved
 abbrev pub resolved_hops : List Entry → ℕ → List Hop
 resolved_hops entries a = option_map_or (λ (e : Entry). e.hops) (entry_of entries a) []
 

@@ -23,7 +23,7 @@ is_same_bit wildcard a b k = bit_at wildcard k == 1 || bit_at a k == bit_at b k
 unfoldable pub same_bits : ℕ → ℕ → ℕ → ℕ → Bool
 same_bits count wildcard a b = list_all (is_same_bit wildcard a b) (range_with_len 0 count)
 
--- an address of 32 bits passes a test
+-- an address passes a test: each bit whose wildcard bit is 0 is the same
 abbrev pub matches_address : AddressTest → ℕ → Bool
 matches_address t a = same_bits 32 t.wildcard t.addr a
 
@@ -41,19 +41,21 @@ matches_port (Below q) p = nat_lt p q
 matches_port (Above q) p = nat_lt q p
 matches_port (Within low high) p = nat_le low p && nat_le p high
 
--- a header passes all tests of a line
+-- a header passes all tests of a line: protocol, addresses and ports
 unfoldable pub matches : AccessListLine → Header → Bool
 matches l h =
     matches_protocol l.protocol h.proto && matches_address l.source h.src && matches_port l.source_port h.sport && matches_address l.destination h.dst && matches_port l.destination_port h.dport
 
+-- the action is `permit`
 abbrev pub permits : Action → Bool
 permits Permit = true
 permits Deny = false
 
--- the action of the first line that matches, else deny
+-- the action of the first line that matches a header, else deny
 abbrev pub first_action : List AccessListLine → Header → Bool
 first_action lines h = option_map_or (λ (l : AccessListLine). permits l.action) (find (λ l. matches l h) lines) false
 
+-- whether an access list permits a header: by the first line that matches, and the end denies
 abbrev pub verdict : AccessList → Header → Bool
 verdict f h = first_action f.lines h
 
@@ -62,7 +64,8 @@ abbrev pub group_verdict : List AccessListLine → Header → Bool
 group_verdict [] h = true
 group_verdict (l ∷ lines) h = first_action (l ∷ lines) h
 
--- what an access group passes: everything where there is none, or none of its name is there, else what its list passes
+-- whether an access group passes a header: everything where none is named, or no list of its name is there or has a line, else what its
+-- list permits
 abbrev pub passes : List (List ℕ × AccessList) → Option (List ℕ) → Header → Bool
 passes access_lists None h = true
 passes access_lists (Some name) h = option_map_or (λ (f : AccessList). group_verdict f.lines h) (named access_lists name) true

@@ -49,6 +49,6 @@ file_name i = codes "r" ++ three_digits i ++ codes ".cfg"
 abbrev pub file_of : ℕ → ℕ → File
 file_of n i = record { folder = []; name = file_name i; bytes = configuration n i }
 
--- the files of a network of n routers
+-- the files of the made network of n routers
 abbrev pub files : ℕ → List File
 files n = map (file_of n) (range_with_len 0 n)

@@ -12,7 +12,7 @@ use Rattle.rc_lines.specs.declared.banner.Delimiter.TheVariants.{Byte, ControlC}
 use Rattle.rc_lines.specs.declared.banner.Part.{Part}
 use Rattle.rc_lines.specs.declared.banner.Part.TheVariants.{Plain, InBanner, Banner, ShortBanner, OpenBanner}
 
--- the indent: how many blanks lead
+-- how many blanks lead a line
 abbrev pub indent_of : List ℕ → ℕ
 indent_of text = length (take_while is_blank text)
 
@@ -56,6 +56,7 @@ pub record IsShortWithTwoWords (text : List ℕ) : Type 0 where
   pub short : opened text ≡ None → length (words_of text) ≤ 2
   pub few : length (words_of text) ≤ 2 → opened text ≡ None
 
+-- on each text: a banner line has no delimiter exactly where it has fewer than three words
 abbrev pub ShortBannersHaveTwoWords : Type 0
 ShortBannersHaveTwoWords = (text : List ℕ) → IsShortWithTwoWords text
 

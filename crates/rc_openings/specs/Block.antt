@@ -15,7 +15,7 @@ use Rattle.rc_openings.specs.BgpOpenings.{bgp}
 abbrev pub any_line : List Row
 any_line = record { words = []; verdict = Ignored } ∷ []
 
--- a line that no block holds has no openings
+-- the openings of a block, a table for each; a line that no block holds has none
 abbrev pub rows_of : Block → List Row
 rows_of block.Closed = []
 rows_of block.Global = global

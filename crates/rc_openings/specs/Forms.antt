@@ -4,7 +4,8 @@ use Rattle.rc_openings.specs.declared.form.Form.TheVariants as form
 use Rattle.rc_openings.specs.declared.form.Grammar.{Grammar}
 use Rattle.rc_openings.specs.declared.form.Grammar.TheVariants.{General, AccessLists, Policies, Ospf, Bgp}
 
--- access lists; prefix lists, community lists and route maps; OSPF processes; BGP processes; and all else
+-- which grammar reads the lines of a form: that of access lists; of prefix lists, community lists and route maps; of OSPF processes; of
+-- BGP processes; or that of all else
 abbrev pub grammar_of : Form → Grammar
 grammar_of form.AccessList = AccessLists
 grammar_of form.StandardAccessList = AccessLists

@@ -15,7 +15,7 @@ pub record Row : Type 0 where
   pub words : List (List ℕ)
   pub verdict : Verdict
 
--- what an opening of the program says
+-- the row of an opening of the program
 abbrev pub row_of : Opening → Row
 row_of o = record { words = words_of o.text.now; verdict = o.verdict }
 
@@ -34,7 +34,7 @@ ignored front text = map (λ w. record { words = words_of front ++ w ∷ []; ver
 abbrev pub stands_for : List ℕ → List ℕ → Bool
 stands_for token word = bytes_eq token (codes "*") || bytes_eq token word
 
--- the line begins with the words of the opening
+-- the line begins with the words of an opening, in which `*` stands for any one word
 abbrev pub begins_with : List (List ℕ) → List (List ℕ) → Bool
 begins_with line [] = true
 begins_with [] (t ∷ ts) = false
@@ -61,7 +61,7 @@ pub record IsDecisive (rows : List Row) (line : List (List ℕ)) (row : Row) : T
 abbrev pub NoneFits : List Row → List (List ℕ) → Type 0
 NoneFits rows line = (row : Row) → Contains rows row → begins_with line row.words ≡ false
 
--- the decisive row, or none where none fits
+-- the row that was found is the decisive one, or none where none fits
 abbrev pub IsAnswer : List Row → List (List ℕ) → Option Row → Type 0
 IsAnswer rows line None = NoneFits rows line
 IsAnswer rows line (Some row) = IsDecisive rows line row

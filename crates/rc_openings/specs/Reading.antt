@@ -29,12 +29,12 @@ code_of OutOfPlace = 4
 abbrev pub share_a_word : List (List ℕ) → List (List ℕ) → Bool
 share_a_word ws refused = list_any (λ w. list_any (bytes_eq w) refused) ws
 
--- a line that fits no row of its form is not modelled where it has one of the form's refused words
+-- a line that fits no row of its form is not modelled where it has one of the form's refused words, and else has a bad value
 abbrev pub judged : {C : Type 0} → List (List ℕ) → List (List ℕ) → Result C LineRefusal → Result C LineRefusal
 judged refused rest (Err BadValue) = if share_a_word rest refused then Err Unsupported else Err BadValue
 judged refused rest answer = answer
 
--- a line with which no opening of its block begins is out of place where it begins with a form of another one
+-- a line with which no opening of its block begins is out of place where it begins with a form of another block, and else unknown
 abbrev pub unopened : List (List ℕ) → LineRefusal
 unopened line = if begins_form_anywhere line then OutOfPlace else Unknown
 
@@ -99,6 +99,7 @@ IsDecided block line decision =
 abbrev pub decision_of : Block → List (List ℕ) → Decision
 decision_of block own = decision_by own (decisive_row (rows_of block) own)
 
+-- what the openings of its block say of a line, computed
 unfoldable pub decided : Block → List (List ℕ) → Decision
 decided block line = decision_of (read_in block line) (own_words block line)
 
@@ -132,7 +133,7 @@ abbrev pub Fails : {C : Type 0} → LineError → Result C LineRefusal → Type 
 Fails error.Memory answer = Unit {0}
 Fails (error.Refused refusal) answer = answer ≡ Err refusal
 
--- it gave this answer, unless memory ran out
+-- a call gave this answer, unless memory ran out
 abbrev pub Gives : {C : Type 0} → Result C LineError → Result C LineRefusal → Type 0
 Gives (Ok c) answer = answer ≡ Ok c
 Gives (Err e) answer = Fails e answer

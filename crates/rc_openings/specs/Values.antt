@@ -12,6 +12,7 @@ abbrev pub digits_from : ℕ → List ℕ → Option ℕ
 digits_from n [] = Some n
 digits_from n (d ∷ ds) = if is_ascii_digit d then digits_from (10 * n + (d - 48)) ds else None
 
+-- a number up to a limit
 abbrev pub at_most : ℕ → Option ℕ → Option ℕ
 at_most limit None = None
 at_most limit (Some n) = if nat_le n limit then Some n else None
@@ -20,11 +21,11 @@ at_most limit (Some n) = if nat_le n limit then Some n else None
 abbrev pub digits_up_to : ℕ → ℕ → List ℕ → Option ℕ
 digits_up_to most limit word = if nat_lt 0 (length word) && nat_le (length word) most then at_most limit (digits_from 0 word) else None
 
--- one to ten digits, whose number fits 32 bits
+-- the number that a word is: one to ten digits, below 2^32
 abbrev pub number_of : List ℕ → Option ℕ
 number_of word = digits_up_to 10 4294967295 word
 
--- a number of a range, ends included
+-- the number that a word is, within a range, ends included
 abbrev pub number_within : ℕ → ℕ → List ℕ → Option ℕ
 number_within low high word = option_and_then (λ n. if nat_le low n && nat_le n high then Some n else None) (number_of word)
 
@@ -40,7 +41,7 @@ abbrev pub address_of_parts : List (List ℕ) → Option ℕ
 address_of_parts (a ∷ b ∷ c ∷ d ∷ []) = address_of_octets (octet a) (octet b) (octet c) (octet d)
 address_of_parts _ = None
 
--- four octets with dots between them
+-- the address that a word is: four octets with dots between them, of one to three digits each
 abbrev pub address_of : List ℕ → Option ℕ
 address_of word = address_of_parts (slice_split (λ b. b == 46) word)
 
@@ -48,6 +49,7 @@ address_of word = address_of_parts (slice_split (λ b. b == 46) word)
 abbrev pub mask_length_of : List ℕ → Option ℕ
 mask_length_of word = option_and_then mask_len (address_of word)
 
+-- the prefix of an address and a length, where there are both
 abbrev pub prefix_from : Option ℕ → Option ℕ → Option Cidr
 prefix_from (Some a) (Some len) = Some (prefix_at a len)
 prefix_from _ _ = None
@@ -56,11 +58,11 @@ abbrev pub prefix_of_parts : List (List ℕ) → Option Cidr
 prefix_of_parts (a ∷ len ∷ []) = prefix_from (address_of a) (number_within 0 32 len)
 prefix_of_parts _ = None
 
--- an address, a slash and a length: the prefix of this length that holds the address
+-- the prefix that a word is: an address, a slash and a length, of which it is the prefix that holds the address
 abbrev pub prefix_of : List ℕ → Option Cidr
 prefix_of word = prefix_of_parts (slice_split (λ b. b == 47) word)
 
--- the number of an area (RFC 2328 C.2): a number, or a dotted word of that value
+-- the area that a word is (RFC 2328 s.C.2): a number, or an address that stands for its value
 abbrev pub area_of : List ℕ → Option ℕ
 area_of word = option_or (number_of word) (address_of word)
 
@@ -69,9 +71,10 @@ abbrev pub begins_with_letter : List ℕ → Bool
 begins_with_letter [] = false
 begins_with_letter (b ∷ bs) = is_ascii_alphabetic b
 
+-- a name that an interface may have: it begins with a letter
 abbrev pub is_interface_name : List ℕ → Bool
 is_interface_name text = is_name text && begins_with_letter text
 
--- the name of an interface: it begins with a letter
+-- the interface's name that a word is: it begins with a letter
 abbrev pub interface_of : List ℕ → Option (List ℕ)
 interface_of word = if is_interface_name word then Some word else None

@@ -3,7 +3,7 @@ use Rattle.std.specs.Prelude.{ℕ, Bool, true, false, ◌||◌, nat_eq, List, []
 use Rattle.std.specs.List.{slice_split, filter}
 use Rattle.rc_openings.specs.declared.words.Words.{Words}
 
--- space and tab
+-- a blank: space or tab
 abbrev pub is_blank : ℕ → Bool
 is_blank b = nat_eq b 32 || nat_eq b 9
 
@@ -15,14 +15,15 @@ abbrev pub starts_blank : List ℕ → Bool
 starts_blank [] = false
 starts_blank (b ∷ bs) = is_blank b
 
--- the pieces between blanks that are not empty
+-- the words of a text: the pieces between blanks that are not empty
 unfoldable pub words_of : List ℕ → List (List ℕ)
 words_of text = filter has_bytes (slice_split is_blank text)
 
--- the words that are left
+-- the words that a cursor has before it
 abbrev pub words_left : Words → List (List ℕ)
 words_left w = words_of w.text.now
 
+-- a cursor has no word before it
 abbrev pub is_none_left : List (List ℕ) → Bool
 is_none_left [] = true
 is_none_left (w ∷ ws) = false

@@ -80,7 +80,7 @@ pub fn is_form(line: Words, from: usize) -> bool
         || bgp_table().begins_form(words)
 }
 
-/// No two openings of one block decide one line.
+/// A law: no two openings of one block decide one line.
 pub fn one_opening_decides()
     ensures { (block : BlockKind) (line : List (List ℕ)) (r s : Row) → IsDecisive (rows_of block) line r → IsDecisive (rows_of block) line s → r ≡ s }
 {}

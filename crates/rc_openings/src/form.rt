@@ -159,7 +159,7 @@ pub enum Grammar {
 }
 
 impl Form {
-    /// The grammar that reads its lines.
+    /// The grammar that reads the lines of the form.
     pub fn grammar(self) -> Grammar
         ensures { result ≡ grammar_of self }
     {

@@ -19,7 +19,7 @@ pub enum LineRefusal {
 }
 
 impl LineRefusal {
-    /// Its number.
+    /// The number of the refusal.
     pub fn code(self) -> u8
         ensures { result ≡ code_of self }
     {

@@ -14,11 +14,11 @@ positions_of net r = Own r ∷ map Entering (interface_ids net r)
 abbrev pub start_of : Network → ℕ → ℕ
 start_of net r = length (flat_map (positions_of net) (range_with_len 0 r))
 
--- the place of a position
+-- the number of a position: its place among all, in their order
 abbrev pub number_of : Network → Pos → ℕ
 number_of net (Own r) = start_of net r
 number_of net (Entering i) = start_of net i.router + (i.index + 1)
 
--- the position at a place
+-- the position of a number
 abbrev pub position_at : Network → ℕ → Pos
 position_at net p = slice_index_or (positions net) p (Own 0)

@@ -52,7 +52,7 @@ abbrev pub cube_text : Network → Cube → Option (List Walk) → List ℕ
 cube_text net c None = cube_line c
 cube_text net c (Some walks) = cube_line c ++ example_text net c.value walks
 
--- cubes in order, of which the first ones have examples, as many as there are lists of walks
+-- the lines of cubes in order, of which the first ones have examples, as many as there are lists of walks
 abbrev pub cubes_text : Network → List Cube → List (List Walk) → List ℕ
 cubes_text net [] examples = []
 cubes_text net (c ∷ cs) [] = cube_text net c None ++ cubes_text net cs []

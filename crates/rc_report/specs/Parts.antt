@@ -7,7 +7,7 @@ use Rattle.rc_report.specs.declared.part.Part.TheVariants as part
 use Rattle.rc_report.specs.declared.part.Piece.{Piece}
 use Rattle.rc_report.specs.declared.part.Piece.TheVariants as piece
 
--- a number is decimal, an address dotted, a prefix an address, a slash and a length
+-- a part of a line: bytes as they are, a number in decimal, an address dotted, a prefix as address, slash and length
 abbrev pub part_text : Part → List ℕ
 part_text (part.Text text) = text.now
 part_text (part.Number n) = decimal n

@@ -48,6 +48,6 @@ route_line net route = route_head route ++ flat_map (hop_text net) route.hops ++
 unfoldable pub router_line : List ℕ → List ℕ
 router_line name = codes "router " ++ name ++ codes "\n"
 
--- the line of a router, then those of its routes
+-- the line of a router, then one for each of its routes
 unfoldable pub routes_text : Network → ℕ → List Route → List ℕ
 routes_text net router table = router_line (router_name net router) ++ flat_map (route_line net) table

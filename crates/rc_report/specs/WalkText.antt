@@ -18,6 +18,6 @@ unfoldable pub stop_line : Stop → List ℕ
 stop_line (At kind) = codes "end " ++ kind_word kind ++ codes "\n"
 stop_line Loop = codes "end loop\n"
 
--- a line for each position, then how the walk stops
+-- a walk: a line for each position, then how it stops
 unfoldable pub walk_text : Network → Walk → List ℕ
 walk_text net walk = flat_map (position_line net) walk.positions ++ stop_line walk.stop

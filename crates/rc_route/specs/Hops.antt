@@ -9,7 +9,7 @@ use Rattle.rc_route.specs.declared.route.Hop.TheVariants.{Null, Dev, Via}
 use Rattle.rc_route.specs.declared.route.Source.{Source}
 use Rattle.rc_route.specs.declared.route.Source.TheVariants.{Connected, Static, Ebgp, Ospf, OspfIa, OspfE1, OspfE2, Ibgp}
 
--- one kind of hop, and one gateway and interface
+-- two hops are one: one kind, and one gateway and interface
 abbrev pub same_hop : Hop → Hop → Bool
 same_hop Null Null = true
 same_hop (Dev i) (Dev j) = same_interface i j
@@ -24,6 +24,8 @@ hop_key (Dev i) = 1 ∷ i.router ∷ i.index ∷ []
 hop_key (Via g None) = 2 ∷ g ∷ []
 hop_key (Via g (Some i)) = 2 ∷ g ∷ i.router ∷ i.index ∷ []
 
+-- the order of the hops of a route: null, then those without a gateway, then by gateway; at one gateway no interface first, then as
+-- declared
 abbrev pub hop_cmp : Hop → Hop → Ordering
 hop_cmp x y = slice_cmp nat_cmp (hop_key x) (hop_key y)
 

@@ -14,6 +14,7 @@ IsTable table = IsStrictlySortedBy prefix_cmp (map (λ (r : Route). r.prefix) ta
 abbrev pub IsPathList : List BgpPath → Type 0
 IsPathList paths = IsStrictlySortedBy prefix_cmp (map (λ (p : BgpPath). p.prefix) paths)
 
+-- a router's table and its best paths are in order
 pub record IsRouterState (s : RouterState) : Type 0 where
   pub table : IsTable s.table
   pub paths : IsPathList s.paths

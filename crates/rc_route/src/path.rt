@@ -105,7 +105,7 @@ impl BgpPath {
     }
 }
 
-/// In the order of preference among equal paths that a router originates, which is that of `PathSource` too.
+/// Sources of paths in the order of preference among equal paths that a router originates, which is that of `PathSource` too.
 pub fn compare_path_sources(a: PathSource, b: PathSource) -> Ordering
     ensures { result ≡ nat_cmp (path_source_rank a) (path_source_rank b) }
 {

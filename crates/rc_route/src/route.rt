@@ -110,7 +110,7 @@ pub fn same_table(a: &Table, b: &Table) -> bool
     a == b
 }
 
-/// In the order in which the hops of a route stand, which is that of `Hop` as a key of std's maps and sorts too.
+/// Hops in the order in which those of a route stand, which is that of `Hop` as a key of std's maps and sorts too.
 pub fn compare_hops(a: &Hop, b: &Hop) -> Ordering
     ensures { result ≡ hop_cmp a.now b.now }
 {
@@ -126,7 +126,7 @@ pub fn same_hop(a: &Hop, b: &Hop) -> bool
     a == b
 }
 
-/// In the order of preference at one administrative distance, which is that of `Source` too.
+/// Sources in the order of preference at one administrative distance, which is that of `Source` too.
 pub fn compare_sources(a: Source, b: Source) -> Ordering
     ensures { result ≡ nat_cmp (source_rank a) (source_rank b) }
 {

@@ -10,10 +10,11 @@ use Rattle.rc_topology.specs.Topology.{Topology}
 use Rattle.rc_topology.specs.declared.port.Port.{Port}
 
 module _ (links : Topology) where
-  -- the interfaces of a router
+  -- what is kept of the interfaces of a router
   abbrev pub ports_at : ℕ → List Port
   ports_at r = option_map_or (λ ports. ports) (slice_get links.ports r) []
 
+  -- what is kept of an interface, none where there is no such one
   abbrev pub port_at : IfId → Option Port
   port_at i = slice_get (ports_at i.router) i.index
 

@@ -45,10 +45,11 @@ ports_of file = map (port_of file.interfaces) file.interfaces
 unfoldable pub all_ports : Network → List (List Port)
 all_ports net = map (λ e. ports_of e.1) net.routers
 
--- the links of a network
+-- the links of a network: what is kept of each router's interfaces, in the network's order
 unfoldable pub links_of : Network → Topology
 links_of net = record { ports = map (λ e. ports_of e.1) net.routers }
 
+-- the type of loopbacks
 abbrev pub is_loopback_type : Option IfType → Bool
 is_loopback_type (Some Loopback) = true
 is_loopback_type _ = false
@@ -57,9 +58,11 @@ abbrev pub is_serial_type : Option IfType → Bool
 is_serial_type (Some Serial) = true
 is_serial_type _ = false
 
+-- the interface is a loopback
 abbrev pub is_loopback : Port → Bool
 is_loopback p = is_loopback_type p.kind
 
+-- the interface is a serial line
 abbrev pub is_serial : Port → Bool
 is_serial p = is_serial_type p.kind
 
@@ -67,7 +70,7 @@ is_serial p = is_serial_type p.kind
 abbrev pub link_prefixes : Port → List Cidr
 link_prefixes p = if is_loopback p then [] else p.prefixes
 
--- the address is one of its own
+-- the address is one of the interface's own
 abbrev pub owns : ℕ → Port → Bool
 owns a p = list_any (λ (b : PortAddr). a == b.addr) p.addresses
 

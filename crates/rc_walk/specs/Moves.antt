@@ -26,7 +26,7 @@ pub record DataPlane : Type 0 where
   pub links : Topology
   pub fibs : List (List Entry)
 
--- a network in a state
+-- what forwards packets, of a network in a state
 abbrev pub plane_of : Network → List RouterState → DataPlane
 plane_of net state = record { network = net; links = links_of net; fibs = map (λ (s : RouterState). resolved s.table) state }
 
@@ -39,6 +39,7 @@ pub record ArePrepared (fibs : List (List Entry)) : Type 0 where
   pub resolved : HasResolvedHops fibs
   pub in_order : All IsInOrder fibs
 
+-- the router at a position
 abbrev pub router_of : Pos → ℕ
 router_of (Own r) = r
 router_of (Entering i) = i.router
@@ -77,7 +78,7 @@ module _ (net : Network) (h : Header) where
   is_let_out (Own r) i = true
   is_let_out (Entering j) i = passes_at net Out h i
 
--- a router's table
+-- a router's table with its hops resolved
 abbrev pub fib_of : DataPlane → ℕ → List Entry
 fib_of plane r = unwrap_or (slice_get plane.fibs r) []
 
@@ -103,6 +104,6 @@ module _ (plane : DataPlane) (h : Header) (q : Pos) where
   moves_inside =
       if is_own plane.links (router_of q) h.dst then End Accepted ∷ [] else moves_by_hops (resolved_hops (fib_of plane (router_of q)) h.dst)
 
-  -- the moves at a position, in order
+  -- the moves of a packet at a position, in order (RFC 1812 s.5.2): to further positions, or to an ending
   abbrev pub moves : List Move
   moves = if is_let_in plane.network h q then moves_inside else End DeniedIn ∷ []

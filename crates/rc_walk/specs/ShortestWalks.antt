@@ -66,7 +66,7 @@ module _ (plane : DataPlane) (h : Header) where
       pub chosen : AreChoices q steps kind choices
       pub once : IsDistinct same_position (q ∷ steps)
 
-    -- no other choices of such a walk come before its own
+    -- a walk to an ending that is asked for, of which no other such walk's choices come before its own
     pub record IsShortestWalk (q : Pos) (w : Walk) : Type 0 where
       pub choices : List ℕ
       pub walk : IsWalkTo q w choices
@@ -88,6 +88,7 @@ module _ (plane : DataPlane) (h : Header) where
     fewest_from zero few q = rest_of few q
     fewest_from (suc more) few q = elim (rest_of few q) as (λ _. Option Rest) [ Some rest ↦ Some rest | None ↦ fewest_from more (suc few) q ]
 
-    -- behind the first position each one enters a router, by an interface of its own: no walk has more (`there_is_a_shortest_walk`)
+    -- the shortest walk to an ending that is asked for, computed: behind the first position each one enters a router by an interface of
+    -- its own, so that there are no more of these than interfaces (`there_is_a_shortest_walk`)
     abbrev pub shortest_walk : Pos → Option Walk
     shortest_walk q = option_map (λ (r : Rest). record { positions = q ∷ r.0; stop = At r.1 }) (fewest_from (length (all_ids plane.links)) 0 q)
