@@ -100,6 +100,17 @@ const IN_CIRCLES: [NamedText<'_>; 2] = [
     ),
 ];
 
+/// Three workers pass in each of the three rounds of two routers, so the third worker passes too, whose share is one of the two.
+#[test]
+fn three_workers_pass_in_three_rounds(rt: HostRuntime) -> Result<(), Fail> {
+    let gate = counting(3);
+    let status = ended_at(&rt, &IN_CIRCLES, "routes d --workers 3", &gate)?;
+    let passes = gate.passes.load(Ordering::SeqCst);
+    let wrong = gate.wrong.load(Ordering::SeqCst);
+    assert!(rt; status == Status::Done && passes == 9 && wrong == 0);
+    Ok(())
+}
+
 /// Asserts that two workers of a run are at the gate at once in a phase.
 fn check_meets(rt: &impl Host, line: &str, phase: u32) -> Result<(), Fail> {
     let gate = MeetGate::new(phase);

@@ -13,13 +13,15 @@ use std::{fs, io};
 
 // ---- folders
 
-/// A file, a link to it and one that leads nowhere, each of a configuration's name, and a folder of such a name.
+/// A file, a link to it, one that leads nowhere and one to a folder, each of a configuration's name, and a folder of such a name.
 fn make_files<R: Files + AllocGlobal>(rt: &R) -> Result<(), Fail> {
     let _ = fs::remove_dir_all(rt, "tried");
     fs::create_dir(rt, "tried")?;
     fs::write(rt, "tried/a.cfg", "hostname R1\n")?;
     symlink(rt, "a.cfg", "tried/b.cfg")?;
     fs::create_dir(rt, "tried/c.cfg")?;
+    symlink(rt, "gone.cfg", "tried/d.cfg")?;
+    symlink(rt, "c.cfg", "tried/e.cfg")?;
     Ok(())
 }
 
@@ -66,12 +68,13 @@ fn listings_fail<R: Files + AllocGlobal + Abort + Clone + Drop>(
     }
 }
 
-/// A folder that isn't there, a file in the place of a folder, a link that leads nowhere, and a file that isn't there.
+/// A folder that isn't there, a file in the place of a folder, a link that can't be followed, since it leads to itself, and a file
+/// that isn't there.
 fn failures_are_counted<R: Files + AllocGlobal + Abort + Clone + Drop>(
     rt: &R,
     folder: &mut RealFolder<R>,
 ) -> Result<(), Fail> {
-    symlink(rt, "gone.cfg", "tried/d.cfg")?;
+    symlink(rt, "f.cfg", "tried/f.cfg")?;
     listings_fail(rt, folder, &[("none", 1), ("tried/a.cfg", 2), ("tried", 3)]);
     let failed = folder.read(rt.alloc(), "tried", "none.cfg", 100).err();
     assert!(rt; failed == Some(SourceError::Failed) && folder.faults() == 4);
