@@ -1,0 +1,130 @@
+"""What the scripts of this folder share: the built program, times, memory, made folders and the made network of `sample`."""
+import os
+import subprocess
+import sys
+import tempfile
+import time
+
+HERE = os.path.dirname(os.path.realpath(__file__))
+# Where `rt ci` leaves the proved program, and where `./netcheck` keeps it.
+PLACES = [os.path.join(HERE, place) for place in ("../crates/netcheck/out/netcheck", "../.netcheck/proved/netcheck")]
+BUILT = [place for place in PLACES if os.access(place, os.X_OK)]
+PROGRAM = max(BUILT, key=os.path.getmtime, default=None)
+MB = 1_000_000
+SMALL = "255.255.255.252"
+RING = 10 << 24
+CHORDS = RING + (1 << 16)
+
+
+def start(main):
+    """Calls the script's main, where there is a program to time."""
+    if PROGRAM is None:
+        print(f"bench/{os.path.basename(sys.argv[0])}: the program is not built; ./netcheck builds it")
+    else:
+        main()
+
+
+def dotted(address):
+    return ".".join(str(address >> shift & 255) for shift in (24, 16, 8, 0))
+
+
+def interface(number, address, mask, settings=()):
+    return [f"interface GigabitEthernet0/{number}", f" ip address {dotted(address)} {mask}", *settings]
+
+
+def text_of(lines):
+    """The bytes of a configuration of these lines."""
+    return ("\n".join(lines) + "\n").encode()
+
+
+def write(folder, files):
+    """Writes configurations into a folder, and gives their paths."""
+    paths = []
+    for number, data in enumerate(files):
+        paths.append(os.path.join(folder, f"r{number:03}.cfg"))
+        with open(paths[-1], "wb") as file:
+            file.write(data)
+    return paths
+
+
+def size_of(files):
+    return f"{sum(len(data) for data in files) / MB:.2f} MB"
+
+
+def run(command):
+    """The time of a run in seconds, the lines that it wrote and what it ended with."""
+    begun = time.perf_counter()
+    done = subprocess.run(command, stdout=subprocess.PIPE, stderr=subprocess.DEVNULL)
+    return time.perf_counter() - begun, done.stdout.decode("utf-8", "replace").splitlines(), done.returncode
+
+
+def best(command, runs=5):
+    """The least time of some runs in seconds, and what the last wrote and ended with."""
+    all_runs = [run(command) for _ in range(runs)]
+    return min(took for took, _, _ in all_runs), *all_runs[-1][1:]
+
+
+def best_of(*words, runs=5):
+    """The same of the program with these words."""
+    return best([PROGRAM, *words], runs)
+
+
+def by_turns(command, other, turns=15):
+    """The least times of two commands that are run by turns, and whether both wrote the same."""
+    pairs = [(run(command), run(other)) for _ in range(turns)]
+    return min(a[0] for a, _ in pairs), min(b[0] for _, b in pairs), all(a[1] == b[1] for a, b in pairs)
+
+
+def peak(command):
+    """The most memory in MB that a run held, or None where the command time isn't there to tell."""
+    # A child that Python starts counts Python's own memory; one that time starts doesn't.
+    with tempfile.NamedTemporaryFile() as said:
+        try:
+            subprocess.run(["/usr/bin/time", "-f", "%M", "-o", said.name, *command], stdout=subprocess.DEVNULL, stderr=subprocess.DEVNULL)
+            return int(said.read().split()[-1]) * 1024 / MB
+        except (OSError, IndexError, ValueError):
+            return None
+
+
+def megabytes(held):
+    return "not known" if held is None else f"{held:.1f} MB"
+
+
+def answer(lines, status):
+    """The first line of an answer, and its status."""
+    return f"{lines[0] if lines else 'none'} (status {status}"
+
+
+def chord(router, count):
+    """The address of a router on its chord, if it has one."""
+    half = count // 2
+    if router < half and router % 8 == 0:
+        return CHORDS + 4 * router + 1
+    if half <= router < 2 * half and (router - half) % 8 == 0:
+        return CHORDS + 4 * (router - half) + 2
+    return None
+
+
+def sample_router(router, count):
+    """The configuration of a router of the made network of `sample`."""
+    filters = router % 4 == 1
+    addresses = [RING + 4 * router + 1, RING + 4 * ((router - 1) % count) + 2, chord(router, count)]
+    lines = [f"hostname r{router:03}"]
+    for number, address in enumerate(addresses):
+        lines += [] if address is None else interface(number, address, SMALL)
+    lines += ["interface GigabitEthernet0/3", f" ip address 172.{16 + router // 256}.{router % 256}.1 255.255.255.0"]
+    lines += [" ip access-group 101 out"] if filters else []
+    lines += ["router ospf 1", " passive-interface GigabitEthernet0/3", " network 0.0.0.0 255.255.255.255 area 0"]
+    if filters:
+        lines += ["access-list 101 deny tcp any any eq telnet", "access-list 101 permit ip any any"]
+    return text_of(lines)
+
+
+def plain(folder):
+    """The plain C++ program, built into a folder, or None where it can't be."""
+    program = os.path.join(folder, "plain")
+    try:
+        subprocess.run(["g++", "-O3", "-march=native", "-std=c++17", "-o", program, os.path.join(HERE, "plain.cpp")], check=True)
+    except (OSError, subprocess.CalledProcessError):
+        return None
+    return program
