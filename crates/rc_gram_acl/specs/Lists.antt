@@ -65,15 +65,14 @@ line_at list kind None action words = no_entry (entry kind 1 action words)
 abbrev pub line_of : RouterText → List ℕ → AccessListKind → Option ℕ → Action → List (List ℕ) → Answer
 line_of file list kind written action words = line_at list kind (sequence_in file list kind written) action words
 
--- the same of the list of this kind whose name is its number
+-- the same of the list whose name is its number, which has a kind
 abbrev pub numbered_line : RouterText → ℕ → Option AccessListKind → Action → List (List ℕ) → Answer
 numbered_line file n (Some kind) action words = line_of file (name_of_number n) kind None action words
-numbered_line file n None action words = no_entry (entry Standard 1 action words)
+numbered_line file n None action words = Err BadValue
 
 abbrev pub numbered_by : RouterText → Option ℕ → Option Action → List (List ℕ) → Answer
 numbered_by file (Some n) (Some action) words = numbered_line file n (kind_of_number n) action words
-numbered_by file None (Some action) words = no_entry (entry Standard 1 action words)
-numbered_by file number None words = Err BadValue
+numbered_by file _ _ words = Err BadValue
 
 -- `access-list N remark ..`, which has no effect and takes every number, and `access-list N permit|deny ..`
 abbrev pub numbered : RouterText → List (List ℕ) → Answer

@@ -138,7 +138,7 @@ fn numbered_line(
 {
     let kind = kind_of_number(number);
     match kind {
-        None => Err(refusal_of(AccessListKind::Standard, action, words)),
+        None => Err(LineRefusal::BadValue),
         Some(kind) => line_of(file, Name::of_number(number), kind, None, action, words),
     }
 }
@@ -157,8 +157,7 @@ fn numbered_by(
 {
     match (number, action) {
         (Some(number), Some(action)) => numbered_line(file, number, action, words),
-        (None, Some(action)) => Err(refusal_of(AccessListKind::Standard, action, words)),
-        (_, None) => Err(LineRefusal::BadValue),
+        _ => Err(LineRefusal::BadValue),
     }
 }
 

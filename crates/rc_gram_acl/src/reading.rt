@@ -9,11 +9,32 @@ use crate::lists::{line_of, numbered, opened};
 use crate::refused::refused_words;
 use rc_config::{AccessListKind, Action, Command, Context, OpenBlock, PortTest, RouterText};
 use rc_lines::Line;
-use rc_openings::{Decision, Form, LineError, LineRefusal, Words, judged, number_in_front};
+use rc_openings::{
+    AccessListForm, Decision, Form, LineError, LineRefusal, Words, judged, number_in_front,
+};
+
+/// One more line of the list in whose block it stands, behind `permit` or `deny`.
+fn line_in(
+    block: &OpenBlock,
+    file: &RouterText,
+    written: Option<u32>,
+    action: Action,
+    behind: Words,
+) -> Result<Command, LineRefusal>
+    requires { HasLawfulLists file.now }
+    ensures row { result ≡ reading.line_in block.now file.now written action (words_left behind.entry) }
+    ensures in_range { IfOk result IsInRange }
+    ensures fits { IfOk result (FitsFile file.now) }
+{
+    match *block {
+        OpenBlock::AccessList(list, kind) => line_of(file, list, kind, written, action, behind),
+        _ => Err(LineRefusal::BadValue),
+    }
+}
 
 /// The row of a form, where this sequence number is written in front of the line.
 fn row(
-    form: Form,
+    form: AccessListForm,
     block: &OpenBlock,
     file: &RouterText,
     written: Option<u32>,
@@ -24,30 +45,25 @@ fn row(
     ensures in_range { IfOk result IsInRange }
     ensures fits { IfOk result (FitsFile file.now) }
 {
-    match (form, *block) {
-        (Form::AccessList, _) => numbered(file, behind),
-        (Form::StandardAccessList, _) => opened(file, AccessListKind::Standard, behind),
-        (Form::ExtendedAccessList, _) => opened(file, AccessListKind::Extended, behind),
-        (Form::Permit, OpenBlock::AccessList(list, kind)) => {
-            line_of(file, list, kind, written, Action::Permit, behind)
-        }
-        (Form::Deny, OpenBlock::AccessList(list, kind)) => {
-            line_of(file, list, kind, written, Action::Deny, behind)
-        }
-        (Form::Remark, _) => Ok(Command::Remark),
-        _ => Err(LineRefusal::BadValue),
+    match form {
+        AccessListForm::Numbered => numbered(file, behind),
+        AccessListForm::Standard => opened(file, AccessListKind::Standard, behind),
+        AccessListForm::Extended => opened(file, AccessListKind::Extended, behind),
+        AccessListForm::Permit => line_in(block, file, written, Action::Permit, behind),
+        AccessListForm::Deny => line_in(block, file, written, Action::Deny, behind),
+        AccessListForm::Remark => Ok(Command::Remark),
     }
 }
 
 /// The words that make a line of a form one that isn't modelled, where it fits no row.
 #[tactic(auto, unfolding(rc_openings::specs::Words::words_of))]
-fn refused_behind(form: Form) -> Words<'static>
+fn refused_behind(form: AccessListForm) -> Words<'static>
     ensures { words_left result ≡ reading.refused_behind form }
 {
     match form {
-        Form::AccessList => refused_words(),
-        Form::Permit => refused_words(),
-        Form::Deny => refused_words(),
+        AccessListForm::Numbered => refused_words(),
+        AccessListForm::Permit => refused_words(),
+        AccessListForm::Deny => refused_words(),
         _ => Words::new(b""),
     }
 }
@@ -58,19 +74,13 @@ fn written_at(block: &OpenBlock, line: Words) -> Option<u32>
 {
     match block {
         OpenBlock::AccessList(_, _) => number_in_front(line),
-        OpenBlock::Closed => None,
-        OpenBlock::Global => None,
-        OpenBlock::Interface(_) => None,
-        OpenBlock::Map(_, _) => None,
-        OpenBlock::Ospf => None,
-        OpenBlock::Bgp => None,
-        OpenBlock::Ignored => None,
+        _ => None,
     }
 }
 
 /// What a line of a form says by its words behind the opening.
 fn row_answer(
-    form: Form,
+    form: AccessListForm,
     block: &OpenBlock,
     file: &RouterText,
     written: Option<u32>,
@@ -90,9 +100,9 @@ fn row_answer(
     )
 }
 
-/// The same where the line stands.
-fn answer(
-    form: Form,
+/// What a line of this form says where it stands, by its words behind the opening that decides it.
+pub fn read_form(
+    form: AccessListForm,
     behind: Words,
     line: &Line,
     block: &OpenBlock,
@@ -111,25 +121,7 @@ fn answer(
     }
 }
 
-/// What a line of this form says where it stands, by its words behind the opening that decides it. Forms of other grammars
-/// are a bad value.
-pub fn read_form(
-    form: Form,
-    behind: Words,
-    line: &Line,
-    context: Context,
-) -> Result<Command, LineError>
-    requires { HasLawfulLists context.file.now }
-    ensures row { Gives result (reading.row_answer context.entry.block context.entry.file.now (reading.written_at context.entry.block (words_of line.now.text)) form (words_left behind.entry)) }
-    ensures takes_no_memory { result ≢ Err LineError.Memory }
-    ensures in_range { IfOk result IsInRange }
-    ensures fits { IfOk result (FitsFile context.entry.file.now) }
-{
-    let Context { block, file } = context;
-    answer(form, behind, line, &block, file)
-}
-
-/// What a line says in this block, where its form is one of access lists.
+/// What a line says in this block, where its form is one of access lists. Forms of other grammars are a bad value.
 fn read_in(line: &Line, block: &OpenBlock, file: &RouterText) -> Result<Command, LineError>
     requires { HasLawfulLists file.now }
     ensures exact { Gives result (reading.says block.now file.now (words_of line.now.text)) }
@@ -140,7 +132,10 @@ fn read_in(line: &Line, block: &OpenBlock, file: &RouterText) -> Result<Command,
     match block.kind().decided(line.words()) {
         Decision::Passed => Ok(Command::Passed),
         Decision::Refused(refusal) => Err(LineError::Refused(refusal)),
-        Decision::Form(form, behind) => answer(form, behind, line, block, file),
+        Decision::Form(Form::AccessList(form), behind) => read_form(
+            form, behind, line, block, file,
+        ),
+        Decision::Form(_, _) => Err(LineError::Refused(LineRefusal::BadValue)),
     }
 }
 

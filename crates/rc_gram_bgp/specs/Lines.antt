@@ -9,9 +9,6 @@ use Rattle.rc_config.specs.declared.bgp.BgpLine.{BgpLine}
 use Rattle.rc_config.specs.declared.bgp.BgpLine.TheVariants.{RouterId, Network, Neighbor, RedistributeConnected, RedistributeStatic, RedistributeOspf}
 use Rattle.rc_config.specs.declared.bgp.NeighborSetting.{NeighborSetting}
 use Rattle.rc_openings.specs.Values.{address_of, mask_length_of, prefix_from}
-use Rattle.rc_openings.specs.declared.form.Form.{Form}
-use Rattle.rc_openings.specs.declared.form.Form.TheVariants as form
-use Rattle.rc_gram_bgp.specs.NeighborLines.{neighbor_of, setting_of}
 use Rattle.rc_gram_bgp.specs.Redistributions.{options, ospf_redistribution}
 
 -- `bgp router-id A`
@@ -46,12 +43,3 @@ redistribute_static number behind = option_map RedistributeStatic (options numbe
 
 abbrev pub redistribute_ospf : ℕ → List (List ℕ) → Option BgpLine
 redistribute_ospf number behind = option_map RedistributeOspf (ospf_redistribution number behind)
-
--- by the number and all words of the line, and by those behind the opening
-abbrev pub line_of : ℕ → Form → List (List ℕ) → List (List ℕ) → Option BgpLine
-line_of number form.BgpRouterId line behind = router_id behind
-line_of number form.BgpNetwork line behind = network behind
-line_of number form.BgpRedistributeConnected line behind = redistribute_connected number behind
-line_of number form.BgpRedistributeStatic line behind = redistribute_static number behind
-line_of number form.BgpRedistributeOspf line behind = redistribute_ospf number behind
-line_of number f line behind = about (neighbor_of line) (setting_of number f behind)

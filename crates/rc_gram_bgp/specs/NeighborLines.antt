@@ -5,12 +5,10 @@ use Rattle.std.specs.Str.{bytes_eq}
 use Rattle.rc_base.specs.Name.{name_of}
 use Rattle.rc_config.specs.DirectionWord.{direction_of}
 use Rattle.rc_config.specs.declared.bgp.NeighborSetting.{NeighborSetting}
-use Rattle.rc_config.specs.declared.bgp.NeighborSetting.TheVariants.{RemoteAs, UpdateSource, EbgpMultihop, Shutdown, NextHopSelf, DefaultOriginate, SendCommunity, Weight, RouteMap, PrefixList}
+use Rattle.rc_config.specs.declared.bgp.NeighborSetting.TheVariants.{RemoteAs, UpdateSource, EbgpMultihop, SendCommunity, Weight, RouteMap, PrefixList}
 use Rattle.rc_config.specs.declared.interface.Direction.{Direction}
 use Rattle.rc_config.specs.declared.route_map.Mention.{Mention}
 use Rattle.rc_openings.specs.Values.{address_of, interface_of, number_of, number_within}
-use Rattle.rc_openings.specs.declared.form.Form.{Form}
-use Rattle.rc_openings.specs.declared.form.Form.TheVariants as form
 
 -- `neighbor A ..`: A, by all words of the line
 abbrev pub neighbor_of : List (List ℕ) → Option ℕ
@@ -73,17 +71,3 @@ list_in _ _ = None
 abbrev pub prefix_list : ℕ → List (List ℕ) → Option NeighborSetting
 prefix_list number (name ∷ way ∷ []) = list_in (mention_of number name) (direction_of way)
 prefix_list number _ = None
-
--- by the number of the line and the words behind its opening
-abbrev pub setting_of : ℕ → Form → List (List ℕ) → Option NeighborSetting
-setting_of number form.NeighborRemoteAs behind = remote_as behind
-setting_of number form.NeighborUpdateSource behind = update_source behind
-setting_of number form.NeighborEbgpMultihop behind = ebgp_multihop behind
-setting_of number form.NeighborShutdown behind = alone Shutdown behind
-setting_of number form.NeighborNextHopSelf behind = alone NextHopSelf behind
-setting_of number form.NeighborDefaultOriginate behind = alone DefaultOriginate behind
-setting_of number form.NeighborSendCommunity behind = send_community behind
-setting_of number form.NeighborWeight behind = weight behind
-setting_of number form.NeighborRouteMap behind = route_map number behind
-setting_of number form.NeighborPrefixList behind = prefix_list number behind
-setting_of number _ behind = None

@@ -1,8 +1,11 @@
 -- What a line of BGP says where it stands.
-use Rattle.std.specs.Prelude.{ℕ, List, [], ◌∷◌, codes}
+use Rattle.std.specs.Prelude.{ℕ, List, [], ◌∷◌, Err, codes}
 use Rattle.rc_openings.specs.Reading.{FormRows, SaysBy, said_by, judged}
+use Rattle.rc_openings.specs.declared.form.BgpForm.{BgpForm}
+use Rattle.rc_openings.specs.declared.form.BgpForm.TheVariants as form
 use Rattle.rc_openings.specs.declared.form.Form.{Form}
-use Rattle.rc_openings.specs.declared.form.Form.TheVariants as form
+use Rattle.rc_openings.specs.declared.form.Form.TheVariants.{Bgp}
+use Rattle.rc_openings.specs.declared.reading.LineRefusal.TheVariants.{BadValue}
 use Rattle.rc_config.specs.OpenBlock.{block_at}
 use Rattle.rc_config.specs.declared.command.Command.{Command}
 use Rattle.rc_config.specs.declared.command.Command.TheVariants.{Passed}
@@ -14,21 +17,26 @@ abbrev pub refused_options : List (List ℕ)
 refused_options = codes "tag" ∷ codes "nssa-only" ∷ codes "metric-type" ∷ []
 
 -- the words that make a line of a form one that isn't modelled, where it fits no row
-abbrev pub refused_words : Form → List (List ℕ)
-refused_words form.BgpNetwork = codes "route-map" ∷ codes "backdoor" ∷ []
+abbrev pub refused_words : BgpForm → List (List ℕ)
+refused_words form.Network = codes "route-map" ∷ codes "backdoor" ∷ []
 refused_words form.NeighborDefaultOriginate = codes "route-map" ∷ []
-refused_words form.BgpRedistributeConnected = refused_options
-refused_words form.BgpRedistributeStatic = refused_options
-refused_words form.BgpRedistributeOspf = refused_options
+refused_words form.RedistributeConnected = refused_options
+refused_words form.RedistributeStatic = refused_options
+refused_words form.RedistributeOspf = refused_options
 refused_words _ = []
 
 -- what a line of a form says, by its number and all its words, and by those behind the opening
-abbrev pub row_answer : RouterText → ℕ → List (List ℕ) → Form → List (List ℕ) → Answer
+abbrev pub row_answer : RouterText → ℕ → List (List ℕ) → BgpForm → List (List ℕ) → Answer
 row_answer file number line f behind = judged (refused_words f) behind (row file number line f behind)
+
+-- the same of every form: those of other grammars have no row here
+abbrev pub answer_of : RouterText → ℕ → List (List ℕ) → Form → List (List ℕ) → Answer
+answer_of file number line (Bgp f) behind = row_answer file number line f behind
+answer_of file number line _ behind = Err BadValue
 
 -- the rows for the line of this number and these words in a file
 abbrev pub rows_in : RouterText → ℕ → List (List ℕ) → FormRows Command
-rows_in file number line = record { answer = row_answer file number line; passed = Passed }
+rows_in file number line = record { answer = answer_of file number line; passed = Passed }
 
 -- the line says this where it stands: the opening with most words decides
 abbrev pub Says : OpenBlock → RouterText → ℕ → List (List ℕ) → Answer → Type 0

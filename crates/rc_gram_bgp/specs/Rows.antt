@@ -3,16 +3,18 @@ use Rattle.std.specs.Prelude.{ℕ, ◌==◌, Bool, false, List, [], ◌∷◌, O
 use Rattle.std.specs.Str.{bytes_eq}
 use Rattle.rc_config.specs.declared.bgp.BgpLine.{BgpLine}
 use Rattle.rc_config.specs.declared.bgp.BgpProcess.{BgpProcess}
+use Rattle.rc_config.specs.declared.bgp.NeighborSetting.{NeighborSetting}
+use Rattle.rc_config.specs.declared.bgp.NeighborSetting.TheVariants.{Shutdown, NextHopSelf, DefaultOriginate}
 use Rattle.rc_config.specs.declared.command.Command.{Command}
 use Rattle.rc_config.specs.declared.command.Command.TheVariants as command
 use Rattle.rc_config.specs.declared.router_text.RouterText.{RouterText}
 use Rattle.rc_openings.specs.Values.{number_within}
-use Rattle.rc_openings.specs.declared.form.Form.{Form}
-use Rattle.rc_openings.specs.declared.form.Form.TheVariants as form
+use Rattle.rc_openings.specs.declared.form.BgpForm.{BgpForm}
+use Rattle.rc_openings.specs.declared.form.BgpForm.TheVariants as form
 use Rattle.rc_openings.specs.declared.reading.LineRefusal.{LineRefusal}
 use Rattle.rc_openings.specs.declared.reading.LineRefusal.TheVariants.{Unsupported, BadValue}
-use Rattle.rc_gram_bgp.specs.Lines.{line_of}
-use Rattle.rc_gram_bgp.specs.NeighborLines.{neighbor_of}
+use Rattle.rc_gram_bgp.specs.Lines.{about, network, redistribute_connected, redistribute_ospf, redistribute_static, router_id}
+use Rattle.rc_gram_bgp.specs.NeighborLines.{alone, ebgp_multihop, neighbor_of, prefix_list, remote_as, route_map, send_community, update_source, weight}
 
 abbrev pub Answer : Type 0
 Answer = Result Command LineRefusal
@@ -40,17 +42,34 @@ abbrev pub in_block : Option BgpLine → Answer
 in_block (Some line) = Ok (command.BgpLine line)
 in_block None = Err BadValue
 
+-- what a line sets for the neighbour that it is about, by all its words
+abbrev pub sets : List (List ℕ) → Option NeighborSetting → Answer
+sets line setting = in_block (about (neighbor_of line) setting)
+
 abbrev pub is_extended : List (List ℕ) → Bool
 is_extended (w ∷ []) = bytes_eq w (codes "extended")
 is_extended _ = false
 
 -- `neighbor A send-community extended` has no effect, and undoes nothing
-abbrev pub send_community : ℕ → List (List ℕ) → List (List ℕ) → Answer
-send_community number line behind = if is_extended behind then activate (neighbor_of line) [] else in_block (line_of number form.NeighborSendCommunity line behind)
+abbrev pub communities : List (List ℕ) → List (List ℕ) → Answer
+communities line behind = if is_extended behind then activate (neighbor_of line) [] else sets line (send_community behind)
 
--- what a line of a form says, by its number and all its words, and by those behind the opening; forms of other grammars have no row here
-abbrev pub row : RouterText → ℕ → List (List ℕ) → Form → List (List ℕ) → Answer
+-- what a line of a form says, by its number and all its words, and by those behind the opening
+abbrev pub row : RouterText → ℕ → List (List ℕ) → BgpForm → List (List ℕ) → Answer
 row file number line form.RouterBgp behind = router_bgp file behind
+row file number line form.RouterId behind = in_block (router_id behind)
+row file number line form.Network behind = in_block (network behind)
+row file number line form.NeighborRemoteAs behind = sets line (remote_as behind)
+row file number line form.NeighborUpdateSource behind = sets line (update_source behind)
+row file number line form.NeighborEbgpMultihop behind = sets line (ebgp_multihop behind)
+row file number line form.NeighborNextHopSelf behind = sets line (alone NextHopSelf behind)
+row file number line form.NeighborShutdown behind = sets line (alone Shutdown behind)
+row file number line form.NeighborDefaultOriginate behind = sets line (alone DefaultOriginate behind)
 row file number line form.NeighborActivate behind = activate (neighbor_of line) behind
-row file number line form.NeighborSendCommunity behind = send_community number line behind
-row file number line f behind = in_block (line_of number f line behind)
+row file number line form.NeighborSendCommunity behind = communities line behind
+row file number line form.NeighborRouteMap behind = sets line (route_map number behind)
+row file number line form.NeighborPrefixList behind = sets line (prefix_list number behind)
+row file number line form.NeighborWeight behind = sets line (weight behind)
+row file number line form.RedistributeConnected behind = in_block (redistribute_connected number behind)
+row file number line form.RedistributeStatic behind = in_block (redistribute_static number behind)
+row file number line form.RedistributeOspf behind = in_block (redistribute_ospf number behind)

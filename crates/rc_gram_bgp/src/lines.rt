@@ -3,14 +3,13 @@ ghost use Rattle.std.specs.Prelude.{◌≡◌};
 ghost use Rattle.rc_openings.specs.Words.{words_left};
 ghost use Rattle.rc_gram_bgp.specs.Lines as lines;
 
-use crate::neighbor_lines::{neighbor_of, setting_of};
 use crate::redistributions::{options, ospf_redistribution};
 use rc_base::{Addr, Prefix};
 use rc_config::{BgpLine, NeighborSetting, natural_len};
-use rc_openings::{Form, Words, prefix_under, word_addr};
+use rc_openings::{Words, prefix_under, word_addr};
 
 /// `bgp router-id A`
-fn router_id(mut words: Words) -> Option<BgpLine>
+pub(crate) fn router_id(mut words: Words) -> Option<BgpLine>
     ensures { result ≡ lines.router_id (words_left words.entry) }
 {
     match (words.next_word(), words.next_word()) {
@@ -45,7 +44,7 @@ fn network_of(prefix: Option<Prefix>) -> Option<BgpLine>
 }
 
 /// `network A [mask M]`
-fn network(mut words: Words) -> Option<BgpLine>
+pub(crate) fn network(mut words: Words) -> Option<BgpLine>
     ensures { result ≡ lines.network (words_left words.entry) }
 {
     let Some(address) = words.next_word() else {
@@ -61,7 +60,7 @@ fn network(mut words: Words) -> Option<BgpLine>
 }
 
 /// What a line sets for a neighbour.
-fn about(address: Option<Addr>, setting: Option<NeighborSetting>) -> Option<BgpLine>
+pub(crate) fn about(address: Option<Addr>, setting: Option<NeighborSetting>) -> Option<BgpLine>
     ensures { result ≡ lines.about address setting }
 {
     match (address, setting) {
@@ -71,7 +70,7 @@ fn about(address: Option<Addr>, setting: Option<NeighborSetting>) -> Option<BgpL
 }
 
 /// `redistribute connected`
-fn redistribute_connected(number: u64, words: Words) -> Option<BgpLine>
+pub(crate) fn redistribute_connected(number: u64, words: Words) -> Option<BgpLine>
     ensures { result ≡ lines.redistribute_connected number (words_left words.entry) }
 {
     match options(number, words) {
@@ -81,7 +80,7 @@ fn redistribute_connected(number: u64, words: Words) -> Option<BgpLine>
 }
 
 /// `redistribute static`
-fn redistribute_static(number: u64, words: Words) -> Option<BgpLine>
+pub(crate) fn redistribute_static(number: u64, words: Words) -> Option<BgpLine>
     ensures { result ≡ lines.redistribute_static number (words_left words.entry) }
 {
     match options(number, words) {
@@ -91,25 +90,11 @@ fn redistribute_static(number: u64, words: Words) -> Option<BgpLine>
 }
 
 /// `redistribute ospf`
-fn redistribute_ospf(number: u64, words: Words) -> Option<BgpLine>
+pub(crate) fn redistribute_ospf(number: u64, words: Words) -> Option<BgpLine>
     ensures { result ≡ lines.redistribute_ospf number (words_left words.entry) }
 {
     match ospf_redistribution(number, words) {
         Some(redistribution) => Some(BgpLine::RedistributeOspf(redistribution)),
         None => None,
-    }
-}
-
-/// The line of a form, where it fits its row: by its number and all its words, and by those behind the opening.
-pub(crate) fn line_of(number: u64, form: Form, line: Words, behind: Words) -> Option<BgpLine>
-    ensures { result ≡ lines.line_of number form (words_left line.entry) (words_left behind.entry) }
-{
-    match form {
-        Form::BgpRouterId => router_id(behind),
-        Form::BgpNetwork => network(behind),
-        Form::BgpRedistributeConnected => redistribute_connected(number, behind),
-        Form::BgpRedistributeStatic => redistribute_static(number, behind),
-        Form::BgpRedistributeOspf => redistribute_ospf(number, behind),
-        _ => about(neighbor_of(line), setting_of(number, form, behind)),
     }
 }

@@ -5,7 +5,7 @@ ghost use Rattle.rc_gram_bgp.specs.NeighborLines as lines;
 
 use rc_base::{Addr, Name};
 use rc_config::{Direction, Mention, NeighborSetting, direction_of};
-use rc_openings::{Form, Words, number_in, word_addr, word_interface, word_u32};
+use rc_openings::{Words, number_in, word_addr, word_interface, word_u32};
 
 /// The neighbour that a line is about, by all words of the line: the opening fits any word in its place.
 pub(crate) fn neighbor_of(mut line: Words) -> Option<Addr>
@@ -18,7 +18,7 @@ pub(crate) fn neighbor_of(mut line: Words) -> Option<Addr>
 }
 
 /// `remote-as N`
-fn remote_as(mut words: Words) -> Option<NeighborSetting>
+pub(crate) fn remote_as(mut words: Words) -> Option<NeighborSetting>
     ensures { result ≡ lines.remote_as (words_left words.entry) }
 {
     match (words.next_word(), words.next_word()) {
@@ -31,7 +31,7 @@ fn remote_as(mut words: Words) -> Option<NeighborSetting>
 }
 
 /// `update-source IF`
-fn update_source(mut words: Words) -> Option<NeighborSetting>
+pub(crate) fn update_source(mut words: Words) -> Option<NeighborSetting>
     ensures { result ≡ lines.update_source (words_left words.entry) }
 {
     match (words.next_word(), words.next_word()) {
@@ -44,7 +44,7 @@ fn update_source(mut words: Words) -> Option<NeighborSetting>
 }
 
 /// `ebgp-multihop [N]`
-fn ebgp_multihop(mut words: Words) -> Option<NeighborSetting>
+pub(crate) fn ebgp_multihop(mut words: Words) -> Option<NeighborSetting>
     ensures { result ≡ lines.ebgp_multihop (words_left words.entry) }
 {
     match (words.next_word(), words.next_word()) {
@@ -58,7 +58,7 @@ fn ebgp_multihop(mut words: Words) -> Option<NeighborSetting>
 }
 
 /// A setting whose opening is the whole line.
-fn alone(setting: NeighborSetting, mut words: Words) -> Option<NeighborSetting>
+pub(crate) fn alone(setting: NeighborSetting, mut words: Words) -> Option<NeighborSetting>
     ensures { result ≡ lines.alone setting (words_left words.entry) }
 {
     match words.next_word() {
@@ -68,7 +68,7 @@ fn alone(setting: NeighborSetting, mut words: Words) -> Option<NeighborSetting>
 }
 
 /// `weight N`
-fn weight(mut words: Words) -> Option<NeighborSetting>
+pub(crate) fn weight(mut words: Words) -> Option<NeighborSetting>
     ensures { result ≡ lines.weight (words_left words.entry) }
 {
     match (words.next_word(), words.next_word()) {
@@ -87,7 +87,7 @@ fn sends_communities(word: &[u8]) -> bool
 }
 
 /// `send-community [standard|both]`
-fn send_community(mut words: Words) -> Option<NeighborSetting>
+pub(crate) fn send_community(mut words: Words) -> Option<NeighborSetting>
     ensures { result ≡ lines.send_community (words_left words.entry) }
 {
     match (words.next_word(), words.next_word()) {
@@ -117,7 +117,7 @@ fn map_in(map: Option<Mention>, direction: Option<Direction>) -> Option<Neighbor
 }
 
 /// `route-map NAME in|out`
-fn route_map(number: u64, mut words: Words) -> Option<NeighborSetting>
+pub(crate) fn route_map(number: u64, mut words: Words) -> Option<NeighborSetting>
     ensures { result ≡ lines.route_map number (words_left words.entry) }
 {
     match (words.next_word(), words.next_word(), words.next_word()) {
@@ -136,31 +136,11 @@ fn list_in(list: Option<Mention>, direction: Option<Direction>) -> Option<Neighb
 }
 
 /// `prefix-list NAME in|out`
-fn prefix_list(number: u64, mut words: Words) -> Option<NeighborSetting>
+pub(crate) fn prefix_list(number: u64, mut words: Words) -> Option<NeighborSetting>
     ensures { result ≡ lines.prefix_list number (words_left words.entry) }
 {
     match (words.next_word(), words.next_word(), words.next_word()) {
         (Some(name), Some(way), None) => list_in(mention_of(number, name), direction_of(way)),
-        _ => None,
-    }
-}
-
-/// What a line of a form sets for the neighbour that it is about, where it fits its row: by its number, and by the words
-/// behind the opening.
-pub(crate) fn setting_of(number: u64, form: Form, behind: Words) -> Option<NeighborSetting>
-    ensures { result ≡ lines.setting_of number form (words_left behind.entry) }
-{
-    match form {
-        Form::NeighborRemoteAs => remote_as(behind),
-        Form::NeighborUpdateSource => update_source(behind),
-        Form::NeighborEbgpMultihop => ebgp_multihop(behind),
-        Form::NeighborShutdown => alone(NeighborSetting::Shutdown, behind),
-        Form::NeighborNextHopSelf => alone(NeighborSetting::NextHopSelf, behind),
-        Form::NeighborDefaultOriginate => alone(NeighborSetting::DefaultOriginate, behind),
-        Form::NeighborSendCommunity => send_community(behind),
-        Form::NeighborWeight => weight(behind),
-        Form::NeighborRouteMap => route_map(number, behind),
-        Form::NeighborPrefixList => prefix_list(number, behind),
         _ => None,
     }
 }

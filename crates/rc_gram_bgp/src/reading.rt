@@ -8,25 +8,30 @@ ghost use Rattle.rc_gram_bgp.specs.Reading as reading;
 use crate::rows::row;
 use rc_config::{Command, Context, OpenBlock, RouterText};
 use rc_lines::Line;
-use rc_openings::{Decision, Form, LineError, Words, judged};
+use rc_openings::{BgpForm, Decision, Form, LineError, LineRefusal, Words, judged};
 
 /// The words that make a line of a form one that isn't modelled, where it fits no row.
 #[tactic(auto, unfolding(rc_openings::specs::Words::words_of))]
-fn refused_words(form: Form) -> Words<'static>
+fn refused_words(form: BgpForm) -> Words<'static>
     ensures { words_left result ≡ reading.refused_words form }
 {
     match form {
-        Form::BgpNetwork => Words::new(b"route-map backdoor"),
-        Form::NeighborDefaultOriginate => Words::new(b"route-map"),
-        Form::BgpRedistributeConnected => Words::new(b"tag nssa-only metric-type"),
-        Form::BgpRedistributeStatic => Words::new(b"tag nssa-only metric-type"),
-        Form::BgpRedistributeOspf => Words::new(b"tag nssa-only metric-type"),
+        BgpForm::Network => Words::new(b"route-map backdoor"),
+        BgpForm::NeighborDefaultOriginate => Words::new(b"route-map"),
+        BgpForm::RedistributeConnected => Words::new(b"tag nssa-only metric-type"),
+        BgpForm::RedistributeStatic => Words::new(b"tag nssa-only metric-type"),
+        BgpForm::RedistributeOspf => Words::new(b"tag nssa-only metric-type"),
         _ => Words::new(b""),
     }
 }
 
-/// What a line of a form says, by its number and all its words, and by those behind the opening.
-fn answer(form: Form, behind: Words, line: &Line, file: &RouterText) -> Result<Command, LineError>
+/// What a line of this form says, by its words behind the opening that decides it, and by its number and all its words.
+pub fn read_form(
+    form: BgpForm,
+    behind: Words,
+    line: &Line,
+    file: &RouterText,
+) -> Result<Command, LineError>
     ensures row { Gives result (reading.row_answer file.now line.now.number (words_of line.now.text) form (words_left behind.entry)) }
     ensures takes_no_memory { result ≢ Err LineError.Memory }
     ensures in_range { IfOk result IsInRange }
@@ -39,23 +44,7 @@ fn answer(form: Form, behind: Words, line: &Line, file: &RouterText) -> Result<C
     }
 }
 
-/// What a line of this form says where it stands, by its words behind the opening that decides it. Forms of other grammars
-/// are a bad value.
-pub fn read_form(
-    form: Form,
-    behind: Words,
-    line: &Line,
-    context: Context,
-) -> Result<Command, LineError>
-    ensures row { Gives result (reading.row_answer context.entry.file.now line.now.number (words_of line.now.text) form (words_left behind.entry)) }
-    ensures takes_no_memory { result ≢ Err LineError.Memory }
-    ensures in_range { IfOk result IsInRange }
-    ensures fits { IfOk result (FitsFile context.entry.file.now) }
-{
-    answer(form, behind, line, context.file)
-}
-
-/// What a line says in this block, where its form is one of BGP.
+/// What a line says in this block, where its form is one of BGP. Forms of other grammars are a bad value.
 fn read_in(line: &Line, block: &OpenBlock, file: &RouterText) -> Result<Command, LineError>
     ensures exact { Gives result (reading.says block.now file.now line.now.number (words_of line.now.text)) }
     ensures takes_no_memory { result ≢ Err LineError.Memory }
@@ -65,7 +54,8 @@ fn read_in(line: &Line, block: &OpenBlock, file: &RouterText) -> Result<Command,
     match block.kind().decided(line.words()) {
         Decision::Passed => Ok(Command::Passed),
         Decision::Refused(refusal) => Err(LineError::Refused(refusal)),
-        Decision::Form(form, behind) => answer(form, behind, line, file),
+        Decision::Form(Form::Bgp(form), behind) => read_form(form, behind, line, file),
+        Decision::Form(_, _) => Err(LineError::Refused(LineRefusal::BadValue)),
     }
 }
 

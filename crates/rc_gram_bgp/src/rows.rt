@@ -7,11 +7,16 @@ ghost use Rattle.rc_config.specs.Bgp.{IsAsn};
 ghost use Rattle.rc_config.specs.Lawful.{FitsFile, IsInRange};
 ghost use Rattle.rc_gram_bgp.specs.Rows as rows;
 
-use crate::lines::line_of;
-use crate::neighbor_lines::neighbor_of;
+use crate::lines::{
+    about, network, redistribute_connected, redistribute_ospf, redistribute_static, router_id,
+};
+use crate::neighbor_lines::{
+    alone, ebgp_multihop, neighbor_of, prefix_list, remote_as, route_map, send_community,
+    update_source, weight,
+};
 use rc_base::Addr;
-use rc_config::{BgpLine, BgpProcess, Command, RouterText};
-use rc_openings::{Form, LineRefusal, Words, number_in};
+use rc_config::{BgpLine, BgpProcess, Command, NeighborSetting, RouterText};
+use rc_openings::{BgpForm, LineRefusal, Words, number_in};
 
 /// The number of an AS that a word is, from 1 on.
 fn word_asn(word: &[u8]) -> Option<u32>
@@ -73,6 +78,15 @@ fn in_block(line: Option<BgpLine>) -> Result<Command, LineRefusal>
     }
 }
 
+/// What a line sets for the neighbour that it is about.
+fn sets(line: Words, setting: Option<NeighborSetting>) -> Result<Command, LineRefusal>
+    ensures row { result ≡ rows.sets (words_left line.entry) setting }
+    ensures in_range { IfOk result IsInRange }
+    ensures fits { (file : RouterText) → IfOk result (FitsFile file) }
+{
+    in_block(about(neighbor_of(line), setting))
+}
+
 fn is_extended(mut words: Words) -> bool
     ensures { result ≡ rows.is_extended (words_left words.entry) }
 {
@@ -95,21 +109,21 @@ fn without_effect(address: Option<Addr>) -> Result<Command, LineRefusal>
 }
 
 /// `neighbor A send-community [standard|both|extended]`
-fn send_community(number: u64, line: Words, behind: Words) -> Result<Command, LineRefusal>
-    ensures row { result ≡ rows.send_community number (words_left line.entry) (words_left behind.entry) }
+fn communities(line: Words, behind: Words) -> Result<Command, LineRefusal>
+    ensures row { result ≡ rows.communities (words_left line.entry) (words_left behind.entry) }
     ensures in_range { IfOk result IsInRange }
     ensures fits { (file : RouterText) → IfOk result (FitsFile file) }
 {
     if is_extended(behind) {
         without_effect(neighbor_of(line))
     } else {
-        in_block(line_of(number, Form::NeighborSendCommunity, line, behind))
+        sets(line, send_community(behind))
     }
 }
 
 /// What a line of a form says, by its number and all its words, and by those behind the opening.
 pub(crate) fn row(
-    form: Form,
+    form: BgpForm,
     file: &RouterText,
     number: u64,
     line: Words,
@@ -120,9 +134,24 @@ pub(crate) fn row(
     ensures fits { IfOk result (FitsFile file.now) }
 {
     match form {
-        Form::RouterBgp => router_bgp(file, behind),
-        Form::NeighborActivate => activate(neighbor_of(line), behind),
-        Form::NeighborSendCommunity => send_community(number, line, behind),
-        _ => in_block(line_of(number, form, line, behind)),
+        BgpForm::RouterBgp => router_bgp(file, behind),
+        BgpForm::RouterId => in_block(router_id(behind)),
+        BgpForm::Network => in_block(network(behind)),
+        BgpForm::NeighborRemoteAs => sets(line, remote_as(behind)),
+        BgpForm::NeighborUpdateSource => sets(line, update_source(behind)),
+        BgpForm::NeighborEbgpMultihop => sets(line, ebgp_multihop(behind)),
+        BgpForm::NeighborNextHopSelf => sets(line, alone(NeighborSetting::NextHopSelf, behind)),
+        BgpForm::NeighborShutdown => sets(line, alone(NeighborSetting::Shutdown, behind)),
+        BgpForm::NeighborDefaultOriginate => {
+            sets(line, alone(NeighborSetting::DefaultOriginate, behind))
+        }
+        BgpForm::NeighborActivate => activate(neighbor_of(line), behind),
+        BgpForm::NeighborSendCommunity => communities(line, behind),
+        BgpForm::NeighborRouteMap => sets(line, route_map(number, behind)),
+        BgpForm::NeighborPrefixList => sets(line, prefix_list(number, behind)),
+        BgpForm::NeighborWeight => sets(line, weight(behind)),
+        BgpForm::RedistributeConnected => in_block(redistribute_connected(number, behind)),
+        BgpForm::RedistributeStatic => in_block(redistribute_static(number, behind)),
+        BgpForm::RedistributeOspf => in_block(redistribute_ospf(number, behind)),
     }
 }

@@ -2,7 +2,11 @@
 use Rattle.std.specs.Prelude.{ℕ, true, false, List, [], Err}
 use Rattle.rc_openings.specs.Reading.{FormRows, SaysBy, said_by, judged}
 use Rattle.rc_openings.specs.declared.form.Form.{Form}
-use Rattle.rc_openings.specs.declared.form.Form.TheVariants as form
+use Rattle.rc_openings.specs.declared.form.Form.TheVariants.{General, Interface}
+use Rattle.rc_openings.specs.declared.form.GeneralForm.{GeneralForm}
+use Rattle.rc_openings.specs.declared.form.GeneralForm.TheVariants as general
+use Rattle.rc_openings.specs.declared.form.InterfaceForm.{InterfaceForm}
+use Rattle.rc_openings.specs.declared.form.InterfaceForm.TheVariants as form
 use Rattle.rc_openings.specs.declared.reading.LineRefusal.TheVariants.{BadValue}
 use Rattle.rc_config.specs.OpenBlock.{block_at}
 use Rattle.rc_config.specs.declared.command.Command.{Command}
@@ -14,38 +18,59 @@ use Rattle.rc_config.specs.declared.ospf.NetworkType.TheVariants.{Broadcast, Poi
 use Rattle.rc_gram_if.specs.Ospf as ospf
 use Rattle.rc_gram_if.specs.Rows as rows
 
--- the row of a form, to the line of this number and these words; forms of other grammars have none here
-abbrev pub row : Form → OpenBlock → RouterText → ℕ → List (List ℕ) → List (List ℕ) → rows.Answer
-row form.Hostname block file number line behind = rows.hostname file number behind
-row form.Interface block file number line behind = rows.interface number behind
-row form.IpAddress (place.Interface owner) file number line behind = rows.ip_address owner behind
-row form.Shutdown (place.Interface owner) file number line behind = rows.shutdown owner true behind
-row form.NoShutdown (place.Interface owner) file number line behind = rows.shutdown owner false behind
-row form.Bandwidth (place.Interface owner) file number line behind = rows.bandwidth owner behind
-row form.AccessGroup (place.Interface owner) file number line behind = rows.access_group owner behind
-row form.StaticRoute block file number line behind = rows.static_route behind
-row form.OspfCost (place.Interface owner) file number line behind = ospf.sets owner (ospf.cost behind)
-row form.OspfHelloInterval (place.Interface owner) file number line behind = ospf.sets owner (ospf.hello_interval behind)
-row form.OspfDeadInterval (place.Interface owner) file number line behind = ospf.sets owner (ospf.dead_interval behind)
-row form.OspfNetworkBroadcast (place.Interface owner) file number line behind = ospf.sets owner (ospf.network_type Broadcast behind)
-row form.OspfNetworkPointToPoint (place.Interface owner) file number line behind = ospf.sets owner (ospf.network_type PointToPoint behind)
-row form.OspfArea (place.Interface owner) file number line behind = ospf.sets owner (ospf.area line)
-row _ block file number line behind = Err BadValue
+-- the row of a form that stands in no block, to the line of this number
+abbrev pub general_row : GeneralForm → RouterText → ℕ → List (List ℕ) → rows.Answer
+general_row general.Hostname file number behind = rows.hostname file number behind
+general_row general.Interface file number behind = rows.interface number behind
+general_row general.StaticRoute file number behind = rows.static_route behind
+
+-- The row of a form in the block of an interface, by all words of the line and those behind the opening. `ip ospf network` with another
+-- word fits no row.
+abbrev pub interface_row : InterfaceForm → List ℕ → List (List ℕ) → List (List ℕ) → rows.Answer
+interface_row form.IpAddress owner line behind = rows.ip_address owner behind
+interface_row form.Shutdown owner line behind = rows.shutdown owner true behind
+interface_row form.NoShutdown owner line behind = rows.shutdown owner false behind
+interface_row form.Bandwidth owner line behind = rows.bandwidth owner behind
+interface_row form.AccessGroup owner line behind = rows.access_group owner behind
+interface_row form.OspfCost owner line behind = ospf.sets owner (ospf.cost behind)
+interface_row form.OspfHelloInterval owner line behind = ospf.sets owner (ospf.hello_interval behind)
+interface_row form.OspfDeadInterval owner line behind = ospf.sets owner (ospf.dead_interval behind)
+interface_row form.OspfNetworkType owner line behind = Err BadValue
+interface_row form.OspfNetworkBroadcast owner line behind = ospf.sets owner (ospf.network_type Broadcast behind)
+interface_row form.OspfNetworkPointToPoint owner line behind = ospf.sets owner (ospf.network_type PointToPoint behind)
+interface_row form.OspfArea owner line behind = ospf.sets owner (ospf.area line)
+
+-- the same in any block: in one of no interface a line fits no row
+abbrev pub row_in : OpenBlock → InterfaceForm → List (List ℕ) → List (List ℕ) → rows.Answer
+row_in (place.Interface owner) f line behind = interface_row f owner line behind
+row_in _ f line behind = Err BadValue
 
 -- the words that make a line of a form one that isn't modelled, where it fits no row
-abbrev pub refused_words : Form → List (List ℕ)
-refused_words form.StaticRoute = rows.refused_in_route
-refused_words form.OspfNetworkType = ospf.refused_types
-refused_words form.OspfDeadInterval = ospf.refused_intervals
-refused_words _ = []
+abbrev pub refused_in_general : GeneralForm → List (List ℕ)
+refused_in_general general.StaticRoute = rows.refused_in_route
+refused_in_general _ = []
+
+abbrev pub refused_in_interface : InterfaceForm → List (List ℕ)
+refused_in_interface form.OspfNetworkType = ospf.refused_types
+refused_in_interface form.OspfDeadInterval = ospf.refused_intervals
+refused_in_interface _ = []
 
 -- what a line of a form says by its words behind the opening
-abbrev pub row_answer : OpenBlock → RouterText → ℕ → List (List ℕ) → Form → List (List ℕ) → rows.Answer
-row_answer block file number line f behind = judged (refused_words f) behind (row f block file number line behind)
+abbrev pub general_answer : RouterText → ℕ → GeneralForm → List (List ℕ) → rows.Answer
+general_answer file number f behind = judged (refused_in_general f) behind (general_row f file number behind)
+
+abbrev pub interface_answer : OpenBlock → List (List ℕ) → InterfaceForm → List (List ℕ) → rows.Answer
+interface_answer block line f behind = judged (refused_in_interface f) behind (row_in block f line behind)
+
+-- forms of other grammars have no row here
+abbrev pub answer_of : OpenBlock → RouterText → ℕ → List (List ℕ) → Form → List (List ℕ) → rows.Answer
+answer_of block file number line (General f) behind = general_answer file number f behind
+answer_of block file number line (Interface f) behind = interface_answer block line f behind
+answer_of block file number line _ behind = Err BadValue
 
 -- the rows for the line of this number and these words, at a place
 abbrev pub rows_at : OpenBlock → RouterText → ℕ → List (List ℕ) → FormRows Command
-rows_at block file number line = record { answer = row_answer block file number line; passed = Passed }
+rows_at block file number line = record { answer = answer_of block file number line; passed = Passed }
 
 -- the line says this where it stands: the opening with most words decides
 abbrev pub Says : OpenBlock → RouterText → ℕ → List (List ℕ) → rows.Answer → Type 0

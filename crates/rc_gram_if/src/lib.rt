@@ -10,4 +10,4 @@ mod reading;
 mod route_options;
 mod rows;
 
-pub use reading::{read_form, read_line};
+pub use reading::{read_general_form, read_interface_form, read_line};

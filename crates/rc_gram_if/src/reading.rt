@@ -13,97 +13,167 @@ use crate::rows::{
     access_group, bandwidth, hostname, interface, ip_address, refused_in_route, shutdown,
     static_route,
 };
+use rc_base::Name;
 use rc_config::{Command, Context, NetworkType, OpenBlock, RouterText};
 use rc_lines::Line;
-use rc_openings::{Decision, Form, LineError, LineRefusal, Words, judged};
+use rc_openings::{
+    Decision, Form, GeneralForm, InterfaceForm, LineError, LineRefusal, Words, judged,
+};
 
-/// The row of a form, to a line.
-fn row(
-    form: Form,
-    block: &OpenBlock,
+/// The row of a form that stands in no block, to the line of this number.
+fn general_row(
+    form: GeneralForm,
     file: &RouterText,
-    line: &Line,
+    number: u64,
     behind: Words,
 ) -> Result<Command, LineRefusal>
-    ensures row { result ≡ reading.row form block.now file.now line.now.number (words_of line.now.text) (words_left behind.entry) }
+    ensures row { result ≡ reading.general_row form file.now number (words_left behind.entry) }
     ensures own { IfOk result IsOwn }
 {
-    match (form, *block) {
-        (Form::Hostname, _) => hostname(file, line.number(), behind),
-        (Form::Interface, _) => interface(line.number(), behind),
-        (Form::IpAddress, OpenBlock::Interface(owner)) => ip_address(owner, behind),
-        (Form::Shutdown, OpenBlock::Interface(owner)) => shutdown(owner, true, behind),
-        (Form::NoShutdown, OpenBlock::Interface(owner)) => shutdown(owner, false, behind),
-        (Form::Bandwidth, OpenBlock::Interface(owner)) => bandwidth(owner, behind),
-        (Form::AccessGroup, OpenBlock::Interface(owner)) => access_group(owner, behind),
-        (Form::StaticRoute, _) => static_route(behind),
-        (Form::OspfCost, OpenBlock::Interface(owner)) => sets(owner, cost(behind)),
-        (Form::OspfHelloInterval, OpenBlock::Interface(owner)) => sets(
-            owner,
-            hello_interval(behind),
-        ),
-        (Form::OspfDeadInterval, OpenBlock::Interface(owner)) => sets(owner, dead_interval(behind)),
-        (Form::OspfNetworkBroadcast, OpenBlock::Interface(owner)) => {
+    match form {
+        GeneralForm::Hostname => hostname(file, number, behind),
+        GeneralForm::Interface => interface(number, behind),
+        GeneralForm::StaticRoute => static_route(behind),
+    }
+}
+
+/// The row of a form in the block of an interface, by all words of the line and those behind the opening.
+fn interface_row(
+    form: InterfaceForm,
+    owner: Name,
+    line: Words,
+    behind: Words,
+) -> Result<Command, LineRefusal>
+    ensures row { result ≡ reading.interface_row form owner (words_left line.entry) (words_left behind.entry) }
+    ensures own { IfOk result IsOwn }
+{
+    match form {
+        InterfaceForm::IpAddress => ip_address(owner, behind),
+        InterfaceForm::Shutdown => shutdown(owner, true, behind),
+        InterfaceForm::NoShutdown => shutdown(owner, false, behind),
+        InterfaceForm::Bandwidth => bandwidth(owner, behind),
+        InterfaceForm::AccessGroup => access_group(owner, behind),
+        InterfaceForm::OspfCost => sets(owner, cost(behind)),
+        InterfaceForm::OspfHelloInterval => sets(owner, hello_interval(behind)),
+        InterfaceForm::OspfDeadInterval => sets(owner, dead_interval(behind)),
+        InterfaceForm::OspfNetworkType => Err(LineRefusal::BadValue),
+        InterfaceForm::OspfNetworkBroadcast => {
             sets(owner, network_type(NetworkType::Broadcast, behind))
         }
-        (Form::OspfNetworkPointToPoint, OpenBlock::Interface(owner)) => {
+        InterfaceForm::OspfNetworkPointToPoint => {
             sets(owner, network_type(NetworkType::PointToPoint, behind))
         }
-        (Form::OspfArea, OpenBlock::Interface(owner)) => sets(owner, area(line.words())),
+        InterfaceForm::OspfArea => sets(owner, area(line)),
+    }
+}
+
+/// The same in any block: in one of no interface a line fits no row.
+fn row_in(
+    block: &OpenBlock,
+    form: InterfaceForm,
+    line: Words,
+    behind: Words,
+) -> Result<Command, LineRefusal>
+    ensures row { result ≡ reading.row_in block.now form (words_left line.entry) (words_left behind.entry) }
+    ensures own { IfOk result IsOwn }
+{
+    match *block {
+        OpenBlock::Interface(owner) => interface_row(form, owner, line, behind),
         _ => Err(LineRefusal::BadValue),
     }
 }
 
 /// The words that make a line of a form one that isn't modelled, where it fits no row.
 #[tactic(auto, unfolding(rc_openings::specs::Words::words_of))]
-fn refused_words(form: Form) -> Words<'static>
-    ensures { words_left result ≡ reading.refused_words form }
+fn refused_in_general(form: GeneralForm) -> Words<'static>
+    ensures { words_left result ≡ reading.refused_in_general form }
 {
     match form {
-        Form::StaticRoute => refused_in_route(),
-        Form::OspfNetworkType => refused_types(),
-        Form::OspfDeadInterval => refused_intervals(),
+        GeneralForm::StaticRoute => refused_in_route(),
         _ => Words::new(b""),
     }
 }
 
-/// What a line of a form says by its words behind the opening, where it stands.
-fn answer(
-    form: Form,
+/// The same in the block of an interface.
+#[tactic(auto, unfolding(rc_openings::specs::Words::words_of))]
+fn refused_in_interface(form: InterfaceForm) -> Words<'static>
+    ensures { words_left result ≡ reading.refused_in_interface form }
+{
+    match form {
+        InterfaceForm::OspfNetworkType => refused_types(),
+        InterfaceForm::OspfDeadInterval => refused_intervals(),
+        _ => Words::new(b""),
+    }
+}
+
+/// What a line of a form that stands in no block says by its words behind the opening.
+fn general_answer(
+    form: GeneralForm,
     behind: Words,
     line: &Line,
-    block: &OpenBlock,
     file: &RouterText,
 ) -> Result<Command, LineError>
-    ensures row { Gives result (reading.row_answer block.now file.now line.now.number (words_of line.now.text) form (words_left behind.entry)) }
+    ensures row { Gives result (reading.general_answer file.now line.now.number form (words_left behind.entry)) }
     ensures takes_no_memory { result ≢ Err LineError.Memory }
     ensures own { IfOk result IsOwn }
 {
-    let said = row(form, block, file, line, behind);
-    match judged(said, behind, refused_words(form)) {
+    let said = general_row(form, file, line.number(), behind);
+    match judged(said, behind, refused_in_general(form)) {
         Ok(command) => Ok(command),
         Err(refusal) => Err(LineError::Refused(refusal)),
     }
 }
 
-/// What a line of this form says where it stands, by its words behind the opening that decides it. Forms of other grammars
-/// are a bad value.
-pub fn read_form(
-    form: Form,
+/// The same in the block of an interface.
+fn interface_answer(
+    form: InterfaceForm,
+    behind: Words,
+    line: &Line,
+    block: &OpenBlock,
+) -> Result<Command, LineError>
+    ensures row { Gives result (reading.interface_answer block.now (words_of line.now.text) form (words_left behind.entry)) }
+    ensures takes_no_memory { result ≢ Err LineError.Memory }
+    ensures own { IfOk result IsOwn }
+{
+    let said = row_in(block, form, line.words(), behind);
+    match judged(said, behind, refused_in_interface(form)) {
+        Ok(command) => Ok(command),
+        Err(refusal) => Err(LineError::Refused(refusal)),
+    }
+}
+
+/// What a line of this form says, by its words behind the opening that decides it.
+pub fn read_general_form(
+    form: GeneralForm,
     behind: Words,
     line: &Line,
     context: Context,
 ) -> Result<Command, LineError>
-    ensures row { Gives result (reading.row_answer context.entry.block context.entry.file.now line.now.number (words_of line.now.text) form (words_left behind.entry)) }
+    ensures row { Gives result (reading.general_answer context.entry.file.now line.now.number form (words_left behind.entry)) }
     ensures takes_no_memory { result ≢ Err LineError.Memory }
     ensures in_range { IfOk result IsInRange }
     ensures fits { IfOk result (FitsFile context.entry.file.now) }
 {
-    let Context { block, file } = context;
-    answer(form, behind, line, &block, file)
+    general_answer(form, behind, line, context.file)
 }
 
-/// What a line says in this block, where its form is one of this grammar.
+/// What a line of this form says where it stands, by its words behind the opening that decides it.
+pub fn read_interface_form(
+    form: InterfaceForm,
+    behind: Words,
+    line: &Line,
+    context: Context,
+) -> Result<Command, LineError>
+    ensures row { Gives result (reading.interface_answer context.entry.block (words_of line.now.text) form (words_left behind.entry)) }
+    ensures takes_no_memory { result ≢ Err LineError.Memory }
+    ensures in_range { IfOk result IsInRange }
+    ensures fits { IfOk result (FitsFile context.entry.file.now) }
+{
+    let Context { block, file: _ } = context;
+    interface_answer(form, behind, line, &block)
+}
+
+/// What a line says in this block, where its form is one of this grammar. Forms of other grammars are a bad value.
 fn read_in(line: &Line, block: &OpenBlock, file: &RouterText) -> Result<Command, LineError>
     ensures exact { Gives result (reading.says block.now file.now line.now.number (words_of line.now.text)) }
     ensures takes_no_memory { result ≢ Err LineError.Memory }
@@ -112,7 +182,11 @@ fn read_in(line: &Line, block: &OpenBlock, file: &RouterText) -> Result<Command,
     match block.kind().decided(line.words()) {
         Decision::Passed => Ok(Command::Passed),
         Decision::Refused(refusal) => Err(LineError::Refused(refusal)),
-        Decision::Form(form, behind) => answer(form, behind, line, block, file),
+        Decision::Form(Form::General(form), behind) => general_answer(form, behind, line, file),
+        Decision::Form(Form::Interface(form), behind) => {
+            interface_answer(form, behind, line, block)
+        }
+        Decision::Form(_, _) => Err(LineError::Refused(LineRefusal::BadValue)),
     }
 }
 

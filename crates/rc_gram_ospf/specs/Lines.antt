@@ -6,11 +6,9 @@ use Rattle.std.specs.Str.{bytes_eq}
 use Rattle.rc_config.specs.declared.ospf.OspfLine.{OspfLine}
 use Rattle.rc_config.specs.declared.ospf.OspfLine.TheVariants.{RouterId, Network, PassiveDefault, Passive, ReferenceBandwidth, Stub, Redistribute, DefaultInformation}
 use Rattle.rc_config.specs.declared.ospf.RedistributedSource.{RedistributedSource}
-use Rattle.rc_config.specs.declared.ospf.RedistributedSource.TheVariants.{Connected, Static, Bgp}
+use Rattle.rc_config.specs.declared.ospf.RedistributedSource.TheVariants.{Bgp}
 use Rattle.rc_config.specs.declared.sets.MetricType.{MetricType}
 use Rattle.rc_openings.specs.Values.{address_of, area_of, interface_of, number_of, number_within}
-use Rattle.rc_openings.specs.declared.form.Form.{Form}
-use Rattle.rc_openings.specs.declared.form.Form.TheVariants as form
 use Rattle.rc_gram_ospf.specs.RedistributeOptions.{metric_type_of, options_in}
 use Rattle.rc_gram_ospf.specs.declared.redistribute_options.RedistributeOptions.{RedistributeOptions}
 
@@ -101,19 +99,3 @@ default_measured always words = default_typed always None words
 abbrev pub default_information : List (List ℕ) → Option OspfLine
 default_information [] = default_measured false []
 default_information (w ∷ rest) = if bytes_eq w (codes "always") then default_measured true rest else default_measured false (w ∷ rest)
-
--- What a line of a form says, the line of this number and of these words. `no passive-interface default` names an interface `default`,
--- and leaves what the others are.
-abbrev pub line_of : Form → ℕ → List (List ℕ) → List (List ℕ) → Option OspfLine
-line_of form.OspfRouterId number line behind = router_id behind
-line_of form.OspfNetwork number line behind = network behind
-line_of form.PassiveInterface number line behind = passive_interface true behind
-line_of form.NoPassiveInterface number line behind = passive_interface false behind
-line_of form.PassiveInterfaceDefault number line behind = passive_default behind
-line_of form.ReferenceBandwidth number line behind = reference_bandwidth behind
-line_of form.StubArea number line behind = stub_area line
-line_of form.OspfRedistributeConnected number line behind = redistribute Connected number behind
-line_of form.OspfRedistributeStatic number line behind = redistribute Static number behind
-line_of form.OspfRedistributeBgp number line behind = redistribute_bgp number behind
-line_of form.DefaultInformationOriginate number line behind = default_information behind
-line_of _ number line behind = None

@@ -1,6 +1,6 @@
 //! The lines in the block of an OSPF process, by the words behind their openings. A line that fits no row is none.
 ghost use Rattle.std.specs.Prelude.{◌≡◌, ◌≤◌, IfSome, option_map};
-ghost use Rattle.rc_openings.specs.Words.{words_left, words_of};
+ghost use Rattle.rc_openings.specs.Words.{words_left};
 ghost use Rattle.rc_config.specs.Ospf.{IsLawfulOspfLine};
 ghost use Rattle.rc_gram_ospf.specs.Lines as lines;
 
@@ -10,11 +10,10 @@ use rc_config::{
     DefaultInformation, Mention, MetricType, OspfLine, OspfNetwork, RedistributedSource,
     Redistribution, StubArea,
 };
-use rc_lines::Line;
-use rc_openings::{Form, Words, number_in, word_addr, word_area, word_interface, word_u32};
+use rc_openings::{Words, number_in, word_addr, word_area, word_interface, word_u32};
 
 /// `router-id A`
-fn router_id(mut words: Words) -> Option<OspfLine>
+pub(crate) fn router_id(mut words: Words) -> Option<OspfLine>
     ensures row { result ≡ lines.router_id (words_left words.entry) }
     ensures lawful { IfSome result IsLawfulOspfLine }
 {
@@ -42,7 +41,7 @@ fn network_in(address: Option<Addr>, wildcard: Option<Addr>, area: Option<u32>) 
 }
 
 /// `network A W area N`
-fn network(mut words: Words) -> Option<OspfLine>
+pub(crate) fn network(mut words: Words) -> Option<OspfLine>
     ensures row { result ≡ lines.network (words_left words.entry) }
     ensures lawful { IfSome result IsLawfulOspfLine }
 {
@@ -60,7 +59,7 @@ fn network(mut words: Words) -> Option<OspfLine>
 }
 
 /// `passive-interface IF`, or `no passive-interface IF`
-fn passive_interface(passive: bool, mut words: Words) -> Option<OspfLine>
+pub(crate) fn passive_interface(passive: bool, mut words: Words) -> Option<OspfLine>
     ensures row { result ≡ lines.passive_interface passive (words_left words.entry) }
     ensures lawful { IfSome result IsLawfulOspfLine }
 {
@@ -74,7 +73,7 @@ fn passive_interface(passive: bool, mut words: Words) -> Option<OspfLine>
 }
 
 /// `passive-interface default`
-fn passive_default(mut words: Words) -> Option<OspfLine>
+pub(crate) fn passive_default(mut words: Words) -> Option<OspfLine>
     ensures row { result ≡ lines.passive_default (words_left words.entry) }
     ensures lawful { IfSome result IsLawfulOspfLine }
 {
@@ -85,7 +84,7 @@ fn passive_default(mut words: Words) -> Option<OspfLine>
 }
 
 /// `auto-cost reference-bandwidth N`
-fn reference_bandwidth(mut words: Words) -> Option<OspfLine>
+pub(crate) fn reference_bandwidth(mut words: Words) -> Option<OspfLine>
     ensures row { result ≡ lines.reference_bandwidth (words_left words.entry) }
     ensures lawful { IfSome result IsLawfulOspfLine }
 {
@@ -124,7 +123,7 @@ fn stub_in(area: Option<u32>, no_summary: Option<bool>) -> Option<OspfLine>
 }
 
 /// `area N stub [no-summary]`, by all words of the line: the opening fits any word in the place of N.
-fn stub_area(mut line: Words) -> Option<OspfLine>
+pub(crate) fn stub_area(mut line: Words) -> Option<OspfLine>
     ensures row { result ≡ lines.stub_area (words_left line.entry) }
     ensures lawful { IfSome result IsLawfulOspfLine }
 {
@@ -160,7 +159,11 @@ fn redistributed(source: RedistributedSource, number: u64, options: Redistribute
 }
 
 /// `redistribute connected ..` and `redistribute static ..`, with options in any order, each at most once.
-fn redistribute(source: RedistributedSource, number: u64, behind: Words) -> Option<OspfLine>
+pub(crate) fn redistribute(
+    source: RedistributedSource,
+    number: u64,
+    behind: Words,
+) -> Option<OspfLine>
     ensures row { result ≡ lines.redistribute source number (words_left behind.entry) }
     ensures lawful { IfSome result IsLawfulOspfLine }
 {
@@ -171,7 +174,7 @@ fn redistribute(source: RedistributedSource, number: u64, behind: Words) -> Opti
 }
 
 /// `redistribute bgp N ..`, N the number of an AS.
-fn redistribute_bgp(number: u64, mut words: Words) -> Option<OspfLine>
+pub(crate) fn redistribute_bgp(number: u64, mut words: Words) -> Option<OspfLine>
     ensures row { result ≡ lines.redistribute_bgp number (words_left words.entry) }
     ensures lawful { IfSome result IsLawfulOspfLine }
 {
@@ -228,7 +231,7 @@ fn default_measured(always: bool, words: Words) -> Option<OspfLine>
 }
 
 /// `default-information originate [always] [metric N] [metric-type 1|2]`, in this order.
-fn default_information(words: Words) -> Option<OspfLine>
+pub(crate) fn default_information(words: Words) -> Option<OspfLine>
     ensures row { result ≡ lines.default_information (words_left words.entry) }
     ensures lawful { IfSome result IsLawfulOspfLine }
 {
@@ -236,34 +239,5 @@ fn default_information(words: Words) -> Option<OspfLine>
     match rest.next_word() {
         Some(word) if word == b"always".as_slice() => default_measured(true, rest),
         _ => default_measured(false, words),
-    }
-}
-
-/// What a line of a form says, where it fits its row.
-pub(crate) fn line_of(form: Form, line: &Line, behind: Words) -> Option<OspfLine>
-    ensures row { result ≡ lines.line_of form line.now.number (words_of line.now.text) (words_left behind.entry) }
-    ensures lawful { IfSome result IsLawfulOspfLine }
-{
-    match form {
-        Form::OspfRouterId => router_id(behind),
-        Form::OspfNetwork => network(behind),
-        Form::PassiveInterface => passive_interface(true, behind),
-        Form::NoPassiveInterface => passive_interface(false, behind),
-        Form::PassiveInterfaceDefault => passive_default(behind),
-        Form::ReferenceBandwidth => reference_bandwidth(behind),
-        Form::StubArea => stub_area(line.words()),
-        Form::OspfRedistributeConnected => redistribute(
-            RedistributedSource::Connected,
-            line.number(),
-            behind,
-        ),
-        Form::OspfRedistributeStatic => redistribute(
-            RedistributedSource::Static,
-            line.number(),
-            behind,
-        ),
-        Form::OspfRedistributeBgp => redistribute_bgp(line.number(), behind),
-        Form::DefaultInformationOriginate => default_information(behind),
-        _ => None,
     }
 }

@@ -9,9 +9,15 @@ ghost use Rattle.rc_gram_ospf.specs.Rows as rows;
 use crate::rows::row_answer;
 use rc_config::{Command, Context, OpenBlock, RouterText};
 use rc_lines::Line;
-use rc_openings::{Decision, Form, LineError, Words};
+use rc_openings::{Decision, Form, LineError, LineRefusal, OspfForm, Words};
 
-fn answer(form: Form, behind: Words, line: &Line, file: &RouterText) -> Result<Command, LineError>
+/// What a line of this form says, by its words behind the opening that decides it.
+pub fn read_form(
+    form: OspfForm,
+    behind: Words,
+    line: &Line,
+    file: &RouterText,
+) -> Result<Command, LineError>
     ensures row { Gives result (rows.row_answer file.now line.now.number (words_of line.now.text) form (words_left behind.entry)) }
     ensures takes_no_memory { result ≢ Err LineError.Memory }
     ensures in_range { IfOk result IsInRange }
@@ -23,23 +29,7 @@ fn answer(form: Form, behind: Words, line: &Line, file: &RouterText) -> Result<C
     }
 }
 
-/// What a line of this form says where it stands, by its words behind the opening that decides it. Forms of other grammars
-/// are a bad value.
-pub fn read_form(
-    form: Form,
-    behind: Words,
-    line: &Line,
-    context: Context,
-) -> Result<Command, LineError>
-    ensures row { Gives result (rows.row_answer context.entry.file.now line.now.number (words_of line.now.text) form (words_left behind.entry)) }
-    ensures takes_no_memory { result ≢ Err LineError.Memory }
-    ensures in_range { IfOk result IsInRange }
-    ensures fits { IfOk result (FitsFile context.entry.file.now) }
-{
-    answer(form, behind, line, context.file)
-}
-
-/// What a line says in this block, where its form is one of OSPF.
+/// What a line says in this block, where its form is one of OSPF. Forms of other grammars are a bad value.
 fn read_in(line: &Line, block: &OpenBlock, file: &RouterText) -> Result<Command, LineError>
     ensures exact { Gives result (reading.says block.now file.now line.now.number (words_of line.now.text)) }
     ensures takes_no_memory { result ≢ Err LineError.Memory }
@@ -49,7 +39,8 @@ fn read_in(line: &Line, block: &OpenBlock, file: &RouterText) -> Result<Command,
     match block.kind().decided(line.words()) {
         Decision::Passed => Ok(Command::Passed),
         Decision::Refused(refusal) => Err(LineError::Refused(refusal)),
-        Decision::Form(form, behind) => answer(form, behind, line, file),
+        Decision::Form(Form::Ospf(form), behind) => read_form(form, behind, line, file),
+        Decision::Form(_, _) => Err(LineError::Refused(LineRefusal::BadValue)),
     }
 }
 

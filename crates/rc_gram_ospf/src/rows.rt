@@ -6,10 +6,13 @@ ghost use Rattle.rc_config.specs.Lawful.{FitsFile, IsInRange};
 ghost use Rattle.rc_config.specs.Ospf.{IsLawfulOspfLine, IsOspfNumber};
 ghost use Rattle.rc_gram_ospf.specs.Rows as rows;
 
-use crate::lines::line_of;
-use rc_config::{Command, OspfLine, OspfProcess, RouterText};
+use crate::lines::{
+    default_information, network, passive_default, passive_interface, redistribute,
+    redistribute_bgp, reference_bandwidth, router_id, stub_area,
+};
+use rc_config::{Command, OspfLine, OspfProcess, RedistributedSource, RouterText};
 use rc_lines::Line;
-use rc_openings::{Form, LineRefusal, Words, judged, number_in};
+use rc_openings::{LineRefusal, OspfForm, Words, judged, number_in};
 
 /// The process of this number, where it is the one that is there or the first one.
 fn opened(known: Option<&OspfProcess>, process: u32) -> Result<Command, LineRefusal>
@@ -53,34 +56,53 @@ fn in_block(line: Option<OspfLine>) -> Result<Command, LineRefusal>
 }
 
 /// The row of a form, to a line.
-fn row(form: Form, file: &RouterText, line: &Line, behind: Words) -> Result<Command, LineRefusal>
+fn row(
+    form: OspfForm,
+    file: &RouterText,
+    line: &Line,
+    behind: Words,
+) -> Result<Command, LineRefusal>
     ensures row { result ≡ rows.row file.now line.now.number (words_of line.now.text) form (words_left behind.entry) }
     ensures in_range { IfOk result IsInRange }
     ensures fits { IfOk result (FitsFile file.now) }
 {
     match form {
-        Form::RouterOspf => router_ospf(file, behind),
-        _ => in_block(line_of(form, line, behind)),
+        OspfForm::RouterOspf => router_ospf(file, behind),
+        OspfForm::RouterId => in_block(router_id(behind)),
+        OspfForm::Network => in_block(network(behind)),
+        OspfForm::StubArea => in_block(stub_area(line.words())),
+        OspfForm::PassiveInterface => in_block(passive_interface(true, behind)),
+        OspfForm::NoPassiveInterface => in_block(passive_interface(false, behind)),
+        OspfForm::PassiveInterfaceDefault => in_block(passive_default(behind)),
+        OspfForm::ReferenceBandwidth => in_block(reference_bandwidth(behind)),
+        OspfForm::RedistributeConnected => {
+            in_block(redistribute(RedistributedSource::Connected, line.number(), behind))
+        }
+        OspfForm::RedistributeStatic => {
+            in_block(redistribute(RedistributedSource::Static, line.number(), behind))
+        }
+        OspfForm::RedistributeBgp => in_block(redistribute_bgp(line.number(), behind)),
+        OspfForm::DefaultInformationOriginate => in_block(default_information(behind)),
     }
 }
 
 /// The words that make a line of a form one that isn't modelled, where it fits no row.
 #[tactic(auto, unfolding(rc_openings::specs::Words::words_of, crate::specs::Rows::refused_words))]
-fn refused_words(form: Form) -> Words<'static>
+fn refused_words(form: OspfForm) -> Words<'static>
     ensures { words_left result ≡ rows.refused_words form }
 {
     match form {
-        Form::OspfRedistributeConnected => Words::new(b"tag nssa-only"),
-        Form::OspfRedistributeStatic => Words::new(b"tag nssa-only"),
-        Form::OspfRedistributeBgp => Words::new(b"tag nssa-only"),
-        Form::DefaultInformationOriginate => Words::new(b"route-map"),
+        OspfForm::RedistributeConnected => Words::new(b"tag nssa-only"),
+        OspfForm::RedistributeStatic => Words::new(b"tag nssa-only"),
+        OspfForm::RedistributeBgp => Words::new(b"tag nssa-only"),
+        OspfForm::DefaultInformationOriginate => Words::new(b"route-map"),
         _ => Words::new(b""),
     }
 }
 
 /// What a line of a form says, by its words behind the opening.
 pub(crate) fn row_answer(
-    form: Form,
+    form: OspfForm,
     file: &RouterText,
     line: &Line,
     behind: Words,

@@ -7,7 +7,7 @@ use Rattle.rc_config.specs.declared.community_list.CommunityLine.{CommunityLine}
 use Rattle.rc_config.specs.declared.access_list.Action.{Action}
 use Rattle.rc_config.specs.declared.access_list.Action.TheVariants.{Permit, Deny}
 use Rattle.rc_gram_policy.specs.Lines.{Answer, numbered_answer, standard_answer}
-use Rattle.rc_gram_policy.specs.Refused.{refused_words}
+use Rattle.rc_gram_policy.specs.Refused.{refused_in_list}
 
 abbrev SaysNumbered : List ℕ → Answer (List ℕ × CommunityLine) → Type 0
 SaysNumbered text answer = numbered_answer (words_of text) ≡ answer
@@ -27,7 +27,7 @@ pub numbered :
     × SaysNumbered (codes "0 permit 7") (Err BadValue)
     × SaysNumbered (codes "100 permit 7") (Err BadValue)
     × SaysNumbered (codes "C permit 7") (Err BadValue)
-unfolding words_of digits refused_words
+unfolding words_of digits refused_in_list
 numbered = (refl, refl, refl, refl, refl, refl)
 
 -- by name, a number too; communities are a set
@@ -36,7 +36,7 @@ pub by_name :
     × SaysStandard (codes "007 deny no-advertise") (of_list (codes "007") Deny (0xffffff02 ∷ []))
     × SaysStandard (codes "C permit 30 10 0:20 10") (of_list (codes "C") Permit (10 ∷ 20 ∷ 30 ∷ []))
     × SaysStandard (codes "permit permit 0") (of_list (codes "permit") Permit (0 ∷ []))
-unfolding words_of refused_words
+unfolding words_of refused_in_list
 by_name = (refl, refl, refl, refl)
 
 -- an action and one community or more
@@ -51,7 +51,7 @@ pub misfits :
     × SaysStandard (codes "C permit 65000:1 foo 65000:2") (Err BadValue)
     × SaysNumbered (codes "1 permit") (Err BadValue)
     × SaysNumbered [] (Err BadValue)
-unfolding words_of digits refused_words
+unfolding words_of digits refused_in_list
 misfits = (refl, refl, refl, refl, refl, refl, refl, refl, refl, refl)
 
 -- words whose meaning isn't modelled, wherever they stand in a line that doesn't fit
@@ -66,5 +66,5 @@ pub not_modelled :
     × SaysStandard (codes "C permit 65000:1 exact-match") (Err Unsupported)
     × SaysStandard (codes "internet permit 65000:1") (of_list (codes "internet") Permit (4259840001 ∷ []))
     × SaysStandard (codes "C permit Internet") (Err BadValue)
-unfolding words_of digits refused_words
+unfolding words_of digits refused_in_list
 not_modelled = (refl, refl, refl, refl, refl, refl, refl, refl, refl, refl)

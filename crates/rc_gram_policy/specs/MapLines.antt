@@ -7,8 +7,8 @@ use Rattle.rc_base.specs.Communities.{community_set}
 use Rattle.rc_base.specs.Name.{name_of}
 use Rattle.rc_base.specs.declared.origin.Origin.TheVariants.{Igp, Incomplete}
 use Rattle.rc_openings.specs.Values.{number_within}
-use Rattle.rc_openings.specs.declared.form.Form.{Form}
-use Rattle.rc_openings.specs.declared.form.Form.TheVariants as form
+use Rattle.rc_openings.specs.declared.form.MapEntryForm.{MapEntryForm}
+use Rattle.rc_openings.specs.declared.form.MapEntryForm.TheVariants as form
 use Rattle.rc_config.specs.ActionWord.{action_of}
 use Rattle.rc_config.specs.declared.access_list.Action.{Action}
 use Rattle.rc_config.specs.declared.map_line.MapLine.{MapLine}
@@ -75,25 +75,22 @@ if_few numbers = if nat_le (length numbers) 10 then Some numbers else None
 abbrev pub prepended : List (List ℕ) → Option (List ℕ)
 prepended words = option_and_then if_few (values_of as_number_of words)
 
--- what a line of a `set` form sets
-abbrev pub set_row : Form → List (List ℕ) → Option SetLine
-set_row form.SetLocalPreference words = option_map set.LocalPreference (number_alone 4294967295 words)
-set_row form.SetMetric words = option_map set.Metric (number_alone 4294967295 words)
-set_row form.SetMetricType1 words = if_alone (set.MetricType Type1) words
-set_row form.SetMetricType2 words = if_alone (set.MetricType Type2) words
-set_row form.SetWeight words = option_map set.Weight (number_alone 65535 words)
-set_row form.SetOriginIgp words = if_alone (set.Origin Igp) words
-set_row form.SetOriginIncomplete words = if_alone (set.Origin Incomplete) words
-set_row form.SetCommunity words = community_change words
-set_row form.PrependAsPath words = option_map set.Prepend (prepended words)
-set_row _ words = None
+-- a line that sets something
+abbrev pub set_line : Option SetLine → Option MapLine
+set_line set = option_map Set set
 
-abbrev pub set_line : Form → List (List ℕ) → Option MapLine
-set_line f words = option_map Set (set_row f words)
-
--- what a line of this number says in the block of a route map; `set origin` with another word fits no row
-abbrev pub map_row : ℕ → Form → List (List ℕ) → Option MapLine
+-- what a line of this number says in the block of an entry of a route map; `set origin` with another word fits no row
+abbrev pub map_row : ℕ → MapEntryForm → List (List ℕ) → Option MapLine
 map_row line form.MatchAddress words = match_row AccessList line words
 map_row line form.MatchPrefixList words = match_row PrefixList line words
 map_row line form.MatchCommunity words = match_community line words
-map_row line f words = set_line f words
+map_row line form.SetLocalPreference words = set_line (option_map set.LocalPreference (number_alone 4294967295 words))
+map_row line form.SetMetric words = set_line (option_map set.Metric (number_alone 4294967295 words))
+map_row line form.SetMetricType1 words = set_line (if_alone (set.MetricType Type1) words)
+map_row line form.SetMetricType2 words = set_line (if_alone (set.MetricType Type2) words)
+map_row line form.SetWeight words = set_line (option_map set.Weight (number_alone 65535 words))
+map_row line form.SetOrigin words = None
+map_row line form.SetOriginIgp words = set_line (if_alone (set.Origin Igp) words)
+map_row line form.SetOriginIncomplete words = set_line (if_alone (set.Origin Incomplete) words)
+map_row line form.SetCommunity words = set_line (community_change words)
+map_row line form.PrependAsPath words = set_line (option_map set.Prepend (prepended words))

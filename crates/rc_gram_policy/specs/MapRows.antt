@@ -2,8 +2,8 @@
 use Rattle.std.specs.Prelude.{◌≡◌, refl, ℕ, true, false, List, [], ◌∷◌, ◌++◌, replicate, Ok, Err, codes}
 use Rattle.rc_base.specs.declared.origin.Origin.TheVariants.{Igp, Incomplete}
 use Rattle.rc_openings.specs.Words.{words_of}
-use Rattle.rc_openings.specs.declared.form.Form.{Form}
-use Rattle.rc_openings.specs.declared.form.Form.TheVariants as form
+use Rattle.rc_openings.specs.declared.form.MapEntryForm.{MapEntryForm}
+use Rattle.rc_openings.specs.declared.form.MapEntryForm.TheVariants as form
 use Rattle.rc_openings.specs.declared.reading.LineRefusal.TheVariants.{Unsupported, BadValue}
 use Rattle.rc_config.specs.declared.access_list.Action.{Action}
 use Rattle.rc_config.specs.declared.access_list.Action.TheVariants.{Permit, Deny}
@@ -15,13 +15,13 @@ use Rattle.rc_config.specs.declared.map_line.SetLine.TheVariants as set
 use Rattle.rc_config.specs.declared.sets.MetricType.TheVariants.{Type1, Type2}
 use Rattle.rc_gram_policy.specs.declared.map_opening.OpenedEntry.{OpenedEntry}
 use Rattle.rc_gram_policy.specs.Lines.{Answer, map_answer, opening_answer}
-use Rattle.rc_gram_policy.specs.Refused.{refused_words}
+use Rattle.rc_gram_policy.specs.Refused.{refused_in_entry}
 
 abbrev Opens : List ℕ → Answer OpenedEntry → Type 0
 Opens text answer = opening_answer (words_of text) ≡ answer
 
 -- line 9 of a file, of this form, says this by the words behind its opening
-abbrev Says : Form → List ℕ → Answer MapLine → Type 0
+abbrev Says : MapEntryForm → List ℕ → Answer MapLine → Type 0
 Says f text answer = map_answer 9 f (words_of text) ≡ answer
 
 abbrev sets : SetLine → Answer MapLine
@@ -56,7 +56,7 @@ pub matches :
     × Says form.MatchCommunity [] (Err BadValue)
     × Says form.MatchAddress (codes "A " ++ replicate 64 65) (Err BadValue)
     × Says form.MatchPrefixList (replicate 64 65 ++ codes " P") (Err BadValue)
-unfolding words_of refused_words
+unfolding words_of refused_in_entry
 matches = (refl, refl, refl, refl, refl, refl, refl, refl, refl, refl)
 
 -- a list of communities isn't matched exactly; that is a name to other openings
@@ -65,7 +65,7 @@ pub exact :
     × Says form.MatchCommunity (codes "exact-match") (Err Unsupported)
     × Says form.MatchCommunity (codes "exact-match 7") (Err Unsupported)
     × Says form.MatchAddress (codes "exact-match") (Ok (Match AccessList (codes "exact-match" ∷ []) 9))
-unfolding words_of refused_words
+unfolding words_of refused_in_entry
 exact = (refl, refl, refl, refl)
 
 -- each number at the ends of its range
@@ -82,7 +82,7 @@ pub numbers :
     × Says form.SetWeight (codes "0") (sets (set.Weight 0))
     × Says form.SetWeight (codes "65535") (sets (set.Weight 65535))
     × Says form.SetWeight (codes "65536") (Err BadValue)
-unfolding words_of refused_words
+unfolding words_of refused_in_entry
 numbers = (refl, refl, refl, refl, refl, refl, refl, refl, refl, refl, refl, refl)
 
 -- openings that say all
@@ -99,7 +99,7 @@ pub choices :
     × Says form.SetOrigin (codes "egp 100") (Err Unsupported)
     × Says form.SetOrigin (codes "bgp") (Err BadValue)
     × Says form.SetOrigin [] (Err BadValue)
-unfolding words_of refused_words
+unfolding words_of refused_in_entry
 choices = (refl, refl, refl, refl, refl, refl, refl, refl, refl, refl, refl, refl)
 
 -- one community or more, as a set, with `additive` at the end or without
@@ -118,7 +118,7 @@ pub communities :
     × Says form.SetCommunity (codes "65000:2 internet") (Err Unsupported)
     × Says form.SetCommunity (codes "local-AS additive") (Err Unsupported)
     × Says form.SetCommunity (codes "exact-match") (Err Unsupported)
-unfolding words_of refused_words
+unfolding words_of refused_in_entry
 communities = (refl, refl, refl, refl, refl, refl, refl, refl, refl, refl, refl, refl, refl, refl)
 
 -- one to ten numbers of AS in their order, also one that comes again
@@ -133,12 +133,5 @@ pub prepended :
     × Says form.PrependAsPath (codes "4294967296") (Err BadValue)
     × Says form.PrependAsPath (codes "last-as 3") (Err Unsupported)
     × Says form.PrependAsPath (codes "1 last-as") (Err Unsupported)
-unfolding words_of refused_words
+unfolding words_of refused_in_entry
 prepended = (refl, refl, refl, refl, refl, refl, refl, refl, refl, refl)
-
--- lines of other forms are no lines of a map
-pub other_forms :
-    Says form.PrefixList (codes "P permit 10.0.0.0/8") (Err BadValue)
-    × Says form.Permit (codes "7") (Err BadValue)
-unfolding words_of refused_words
-other_forms = (refl, refl)

@@ -2,21 +2,23 @@
 use Rattle.std.specs.Prelude.{ℕ, List, [], if◌then◌else◌, codes}
 use Rattle.rc_openings.specs.Reading.{share_a_word}
 use Rattle.rc_openings.specs.Words.{words_of}
-use Rattle.rc_openings.specs.declared.form.Form.{Form}
-use Rattle.rc_openings.specs.declared.form.Form.TheVariants as form
+use Rattle.rc_openings.specs.declared.form.MapEntryForm.{MapEntryForm}
+use Rattle.rc_openings.specs.declared.form.MapEntryForm.TheVariants as form
 use Rattle.rc_openings.specs.declared.reading.LineRefusal.{LineRefusal}
 use Rattle.rc_openings.specs.declared.reading.LineRefusal.TheVariants.{Unsupported, BadValue}
 
--- of each form, these words anywhere behind its opening
-unfoldable pub refused_words : Form → List (List ℕ)
-refused_words form.CommunityList = words_of (codes "internet local-AS none exact-match")
-refused_words form.StandardCommunityList = words_of (codes "internet local-AS none exact-match")
-refused_words form.SetCommunity = words_of (codes "internet local-AS none exact-match")
-refused_words form.MatchCommunity = words_of (codes "exact-match")
-refused_words form.PrependAsPath = words_of (codes "last-as")
-refused_words form.SetOrigin = words_of (codes "egp")
-refused_words _ = []
+-- these words anywhere in a line of a community list
+unfoldable pub refused_in_list : List (List ℕ)
+refused_in_list = words_of (codes "internet local-AS none exact-match")
 
--- why a line of a form that fits no row is refused
-abbrev pub refusal_of : Form → List (List ℕ) → LineRefusal
-refusal_of f words = if share_a_word words (refused_words f) then Unsupported else BadValue
+-- of each form of the entries of a route map, these words anywhere behind its opening
+unfoldable pub refused_in_entry : MapEntryForm → List (List ℕ)
+refused_in_entry form.SetCommunity = words_of (codes "internet local-AS none exact-match")
+refused_in_entry form.MatchCommunity = words_of (codes "exact-match")
+refused_in_entry form.PrependAsPath = words_of (codes "last-as")
+refused_in_entry form.SetOrigin = words_of (codes "egp")
+refused_in_entry _ = []
+
+-- why a line that fits no row is refused, where these words aren't modelled
+abbrev pub refusal_of : List (List ℕ) → List (List ℕ) → LineRefusal
+refusal_of refused words = if share_a_word words refused then Unsupported else BadValue

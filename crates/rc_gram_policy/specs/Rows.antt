@@ -1,8 +1,9 @@
 -- The rows of prefix lists, community lists and route maps (IOS `ip prefix-list`, `ip community-list` and `route-map`): the command
 -- that a line of each form is, by its words behind the opening. A line that fits no row is BadValue.
 use Rattle.std.specs.Prelude.{ℕ, List, Result, Ok, Err}
-use Rattle.rc_openings.specs.declared.form.Form.{Form}
-use Rattle.rc_openings.specs.declared.form.Form.TheVariants as form
+use Rattle.rc_openings.specs.declared.form.MapEntryForm.{MapEntryForm}
+use Rattle.rc_openings.specs.declared.form.PolicyForm.{PolicyForm}
+use Rattle.rc_openings.specs.declared.form.PolicyForm.TheVariants as form
 use Rattle.rc_openings.specs.declared.reading.LineRefusal.{LineRefusal}
 use Rattle.rc_openings.specs.declared.reading.LineRefusal.TheVariants.{BadValue}
 use Rattle.rc_config.specs.declared.command.Command.{Command}
@@ -29,16 +30,14 @@ community_command (list, line) = command.CommunityLine list line
 abbrev pub opening_command : OpenedEntry → Command
 opening_command e = command.MapOpened e.map e.number e.action
 
--- `ip prefix-list NAME ..`, `ip community-list N ..`, `ip community-list standard NAME ..` and `route-map NAME ..`; forms of other
--- grammars have no row here
-abbrev pub list_answer : RouterText → Form → List (List ℕ) → Result Command LineRefusal
+-- `ip prefix-list NAME ..`, `ip community-list N ..`, `ip community-list standard NAME ..` and `route-map NAME ..`
+abbrev pub list_answer : RouterText → PolicyForm → List (List ℕ) → Result Command LineRefusal
 list_answer file form.PrefixList behind = said prefix_command (prefix_answer file.lists.prefix_lists behind)
 list_answer file form.CommunityList behind = said community_command (numbered_answer behind)
 list_answer file form.StandardCommunityList behind = said community_command (standard_answer behind)
 list_answer file form.RouteMap behind = said opening_command (opening_answer behind)
-list_answer file _ behind = Err BadValue
 
--- what a line of a form says, the line of this number: in the block of an entry it is one of the entry's
-abbrev pub row_answer : OpenBlock → RouterText → ℕ → Form → List (List ℕ) → Result Command LineRefusal
-row_answer (place.Map map entry) file number f behind = said (command.MapLine map entry) (map_answer number f behind)
-row_answer _ file number f behind = list_answer file f behind
+-- a line of this number in the block of an entry of a route map; in another block it fits no row
+abbrev pub entry_answer : OpenBlock → ℕ → MapEntryForm → List (List ℕ) → Result Command LineRefusal
+entry_answer (place.Map map entry) number f behind = said (command.MapLine map entry) (map_answer number f behind)
+entry_answer _ number f behind = Err BadValue

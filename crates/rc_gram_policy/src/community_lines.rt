@@ -7,10 +7,10 @@ ghost use Rattle.rc_openings.specs.Reading.{Gives};
 ghost use Rattle.rc_gram_policy.specs.Lines.{numbered_answer, standard_answer};
 
 use crate::communities::read_communities;
-use crate::refused::refusal_of;
+use crate::refused::{refusal_of, refused_in_list};
 use rc_base::{Communities, Name};
 use rc_config::{Action, CommunityLine, action_of};
-use rc_openings::{Form, LineError, Words, number_in};
+use rc_openings::{LineError, Words, number_in};
 use std::alloc::{AllocError, Global};
 
 /// The line of an action and the communities behind it.
@@ -110,7 +110,7 @@ pub(crate) fn read_numbered_community_line(
 {
     match numbered_row(alloc, words) {
         Ok(Some(line)) => Ok(line),
-        Ok(None) => Err(LineError::Refused(refusal_of(Form::CommunityList, words))),
+        Ok(None) => Err(LineError::Refused(refusal_of(refused_in_list(), words))),
         Err(_) => Err(LineError::Memory),
     }
 }
@@ -124,7 +124,7 @@ pub(crate) fn read_standard_community_line(
 {
     match standard_row(alloc, words) {
         Ok(Some(line)) => Ok(line),
-        Ok(None) => Err(LineError::Refused(refusal_of(Form::StandardCommunityList, words))),
+        Ok(None) => Err(LineError::Refused(refusal_of(refused_in_list(), words))),
         Err(_) => Err(LineError::Memory),
     }
 }

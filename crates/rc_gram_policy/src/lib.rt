@@ -18,4 +18,4 @@ mod refused;
 mod rows;
 mod values;
 
-pub use reading::{read_form, read_line};
+pub use reading::{read_entry_form, read_line, read_list_form};

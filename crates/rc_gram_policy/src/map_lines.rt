@@ -1,5 +1,5 @@
 //! The lines in the block of a route map.
-ghost use Rattle.std.specs.Prelude.{◌≡◌, ◌≤◌, IfOk, IfSome};
+ghost use Rattle.std.specs.Prelude.{◌≡◌, ◌≤◌, IfOk, IfSome, option_map};
 ghost use Rattle.rc_openings.specs.Words.{words_left};
 ghost use Rattle.rc_config.specs.RouteMap.{IsLawfulMapLine};
 ghost use Rattle.rc_config.specs.Sets.{IsLawfulSet};
@@ -10,10 +10,10 @@ ghost use Rattle.rc_gram_policy.specs.Lines.{map_answer};
 use crate::as_path::read_prepended;
 use crate::communities::read_communities;
 use crate::names::read_names;
-use crate::refused::refusal_of;
+use crate::refused::{refusal_of, refused_in_entry};
 use rc_base::{Communities, Origin};
 use rc_config::{MapLine, MatchKind, MetricType, SetLine};
-use rc_openings::{Form, LineError, Words, number_in};
+use rc_openings::{LineError, MapEntryForm, Words, number_in};
 use std::alloc::{AllocError, Global};
 
 /// `NAME..`
@@ -68,7 +68,7 @@ fn number_alone(limit: u32, mut words: Words) -> Option<u32>
 }
 
 fn local_preference(words: Words) -> Option<SetLine>
-    ensures row { result ≡ lines.set_row Form.SetLocalPreference (words_left words.entry) }
+    ensures row { result ≡ option_map SetLine.LocalPreference (lines.number_alone 4294967295 (words_left words.entry)) }
     ensures lawful { IfSome result IsLawfulSet }
 {
     match number_alone(u32::MAX, words) {
@@ -78,7 +78,7 @@ fn local_preference(words: Words) -> Option<SetLine>
 }
 
 fn metric(words: Words) -> Option<SetLine>
-    ensures row { result ≡ lines.set_row Form.SetMetric (words_left words.entry) }
+    ensures row { result ≡ option_map SetLine.Metric (lines.number_alone 4294967295 (words_left words.entry)) }
     ensures lawful { IfSome result IsLawfulSet }
 {
     match number_alone(u32::MAX, words) {
@@ -88,7 +88,7 @@ fn metric(words: Words) -> Option<SetLine>
 }
 
 fn weight(words: Words) -> Option<SetLine>
-    ensures row { result ≡ lines.set_row Form.SetWeight (words_left words.entry) }
+    ensures row { result ≡ option_map SetLine.Weight (lines.number_alone 65535 (words_left words.entry)) }
     ensures lawful { IfSome result IsLawfulSet }
 {
     match number_alone(65535, words) {
@@ -151,7 +151,7 @@ fn community_change(alloc: Global, words: Words) -> Result<Option<SetLine>, Allo
 
 /// `N..`
 fn prepend(alloc: Global, words: Words) -> Result<Option<SetLine>, AllocError>
-    ensures row { IfOk result (λ read. read ≡ lines.set_row Form.PrependAsPath (words_left words.entry)) }
+    ensures row { IfOk result (λ read. read ≡ option_map SetLine.Prepend (lines.prepended (words_left words.entry))) }
     ensures lawful { IfOk result (λ read. IfSome read IsLawfulSet) }
 {
     match read_prepended(alloc, words)? {
@@ -160,40 +160,40 @@ fn prepend(alloc: Global, words: Words) -> Result<Option<SetLine>, AllocError>
     }
 }
 
-/// What a line of a `set` form sets.
-fn set_row(alloc: Global, form: Form, words: Words) -> Result<Option<SetLine>, AllocError>
-    ensures row { IfOk result (λ read. read ≡ lines.set_row form (words_left words.entry)) }
-    ensures lawful { IfOk result (λ read. IfSome read IsLawfulSet) }
+/// A line that sets this, where it is something.
+fn set_line(set: Option<SetLine>) -> Option<MapLine>
+    requires { IfSome set IsLawfulSet }
+    ensures row { result ≡ lines.set_line set }
+    ensures lawful { IfSome result IsLawfulMapLine }
 {
-    match form {
-        Form::SetLocalPreference => Ok(local_preference(words)),
-        Form::SetMetric => Ok(metric(words)),
-        Form::SetMetricType1 => Ok(metric_type(MetricType::Type1, words)),
-        Form::SetMetricType2 => Ok(metric_type(MetricType::Type2, words)),
-        Form::SetWeight => Ok(weight(words)),
-        Form::SetOriginIgp => Ok(origin(Origin::Igp, words)),
-        Form::SetOriginIncomplete => Ok(origin(Origin::Incomplete, words)),
-        Form::SetCommunity => community_change(alloc, words),
-        Form::PrependAsPath => prepend(alloc, words),
-        _ => Ok(None),
+    match set {
+        Some(set) => Some(MapLine::Set(set)),
+        None => None,
     }
 }
 
-/// The same as a line of a route map.
-fn set_line(alloc: Global, form: Form, words: Words) -> Result<Option<MapLine>, AllocError>
-    ensures row { IfOk result (λ read. read ≡ lines.set_line form (words_left words.entry)) }
+/// `set community`
+fn set_community(alloc: Global, words: Words) -> Result<Option<MapLine>, AllocError>
+    ensures row { IfOk result (λ read. read ≡ lines.set_line (lines.community_change (words_left words.entry))) }
     ensures lawful { IfOk result (λ read. IfSome read IsLawfulMapLine) }
 {
-    match set_row(alloc, form, words)? {
-        Some(set) => Ok(Some(MapLine::Set(set))),
-        None => Ok(None),
-    }
+    let set = community_change(alloc, words)?;
+    Ok(set_line(set))
+}
+
+/// `set as-path prepend`
+fn set_prepended(alloc: Global, words: Words) -> Result<Option<MapLine>, AllocError>
+    ensures row { IfOk result (λ read. read ≡ lines.set_line (option_map SetLine.Prepend (lines.prepended (words_left words.entry)))) }
+    ensures lawful { IfOk result (λ read. IfSome read IsLawfulMapLine) }
+{
+    let set = prepend(alloc, words)?;
+    Ok(set_line(set))
 }
 
 /// What a line of a form says.
 fn map_row(
     alloc: Global,
-    form: Form,
+    form: MapEntryForm,
     line: u64,
     words: Words,
 ) -> Result<Option<MapLine>, AllocError>
@@ -201,10 +201,19 @@ fn map_row(
     ensures lawful { IfOk result (λ read. IfSome read IsLawfulMapLine) }
 {
     match form {
-        Form::MatchAddress => match_row(alloc, MatchKind::AccessList, line, words),
-        Form::MatchPrefixList => match_row(alloc, MatchKind::PrefixList, line, words),
-        Form::MatchCommunity => match_community(alloc, line, words),
-        _ => set_line(alloc, form, words),
+        MapEntryForm::MatchAddress => match_row(alloc, MatchKind::AccessList, line, words),
+        MapEntryForm::MatchPrefixList => match_row(alloc, MatchKind::PrefixList, line, words),
+        MapEntryForm::MatchCommunity => match_community(alloc, line, words),
+        MapEntryForm::SetLocalPreference => Ok(set_line(local_preference(words))),
+        MapEntryForm::SetMetric => Ok(set_line(metric(words))),
+        MapEntryForm::SetMetricType1 => Ok(set_line(metric_type(MetricType::Type1, words))),
+        MapEntryForm::SetMetricType2 => Ok(set_line(metric_type(MetricType::Type2, words))),
+        MapEntryForm::SetWeight => Ok(set_line(weight(words))),
+        MapEntryForm::SetOrigin => Ok(None),
+        MapEntryForm::SetOriginIgp => Ok(set_line(origin(Origin::Igp, words))),
+        MapEntryForm::SetOriginIncomplete => Ok(set_line(origin(Origin::Incomplete, words))),
+        MapEntryForm::SetCommunity => set_community(alloc, words),
+        MapEntryForm::PrependAsPath => set_prepended(alloc, words),
     }
 }
 
@@ -213,11 +222,11 @@ fn map_row(
 /// forms of `set` a number (for `weight` to 65535), communities with or without `additive`, one to ten numbers of AS from 1
 /// on, or nothing where the opening says all.
 ///
-/// It is refused exactly where the words don't fit, which those of other forms never do: as unsupported where a word is one
+/// It is refused exactly where the words don't fit: as unsupported where a word is one
 /// whose meaning isn't modelled, and as a bad value else.
 pub(crate) fn read_map_line(
     alloc: Global,
-    form: Form,
+    form: MapEntryForm,
     line: u64,
     words: Words,
 ) -> Result<MapLine, LineError>
@@ -226,7 +235,7 @@ pub(crate) fn read_map_line(
 {
     match map_row(alloc, form, line, words) {
         Ok(Some(read)) => Ok(read),
-        Ok(None) => Err(LineError::Refused(refusal_of(form, words))),
+        Ok(None) => Err(LineError::Refused(refusal_of(refused_in_entry(form), words))),
         Err(_) => Err(LineError::Memory),
     }
 }

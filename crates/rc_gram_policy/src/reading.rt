@@ -4,46 +4,45 @@ ghost use Rattle.rc_openings.specs.Reading.{Gives, IfAnswered};
 ghost use Rattle.rc_openings.specs.Words.{words_left, words_of};
 ghost use Rattle.rc_config.specs.Lawful.{FitsFile, IsInRange};
 ghost use Rattle.rc_gram_policy.specs.Reading as reading;
-ghost use Rattle.rc_gram_policy.specs.Rows.{row_answer as row_says};
+ghost use Rattle.rc_gram_policy.specs.Rows as rows;
 
-use crate::rows::row_answer;
+use crate::rows::{entry_answer, list_answer};
 use rc_config::{Command, Context, OpenBlock, RouterText};
 use rc_lines::Line;
-use rc_openings::{Decision, Form, LineError, Words};
+use rc_openings::{Decision, Form, LineError, LineRefusal, MapEntryForm, PolicyForm, Words};
 
-/// The same where the line stands. Memory is taken from where the file's lists have theirs.
-fn answer(
-    form: Form,
+/// What a line of this form says, by its words behind the opening that decides it. Memory is taken from where the file's
+/// lists have theirs.
+pub fn read_list_form(
+    form: PolicyForm,
+    behind: Words,
+    file: &RouterText,
+) -> Result<Command, LineError>
+    ensures row { Gives result (rows.list_answer file.now form (words_left behind.entry)) }
+    ensures in_range { IfOk result IsInRange }
+    ensures fits { IfOk result (FitsFile file.now) }
+{
+    let alloc = file.lists.community_lists.allocator();
+    list_answer(alloc, form, file, behind)
+}
+
+/// The same in the block of an entry of a route map.
+pub fn read_entry_form(
+    form: MapEntryForm,
     behind: Words,
     line: &Line,
     block: &OpenBlock,
     file: &RouterText,
 ) -> Result<Command, LineError>
-    ensures row { Gives result (row_says block.now file.now line.now.number form (words_left behind.entry)) }
+    ensures row { Gives result (rows.entry_answer block.now line.now.number form (words_left behind.entry)) }
     ensures in_range { IfOk result IsInRange }
     ensures fits { IfOk result (FitsFile file.now) }
 {
     let alloc = file.lists.community_lists.allocator();
-    row_answer(alloc, form, block, file, line.number(), behind)
+    entry_answer(alloc, form, block, file, line.number(), behind)
 }
 
-/// What a line of this form says where it stands, by its words behind the opening that decides it. Forms of other grammars
-/// are a bad value.
-pub fn read_form(
-    form: Form,
-    behind: Words,
-    line: &Line,
-    context: Context,
-) -> Result<Command, LineError>
-    ensures row { Gives result (row_says context.entry.block context.entry.file.now line.now.number form (words_left behind.entry)) }
-    ensures in_range { IfOk result IsInRange }
-    ensures fits { IfOk result (FitsFile context.entry.file.now) }
-{
-    let Context { block, file } = context;
-    answer(form, behind, line, &block, file)
-}
-
-/// What a line says in this block, where its form is one of policies.
+/// What a line says in this block, where its form is one of policies. Forms of other grammars are a bad value.
 fn read_in(line: &Line, block: &OpenBlock, file: &RouterText) -> Result<Command, LineError>
     ensures exact { Gives result (reading.says block.now file.now line.now.number (words_of line.now.text)) }
     ensures in_range { IfOk result IsInRange }
@@ -52,7 +51,11 @@ fn read_in(line: &Line, block: &OpenBlock, file: &RouterText) -> Result<Command,
     match block.kind().decided(line.words()) {
         Decision::Passed => Ok(Command::Passed),
         Decision::Refused(refusal) => Err(LineError::Refused(refusal)),
-        Decision::Form(form, behind) => answer(form, behind, line, block, file),
+        Decision::Form(Form::Policy(form), behind) => read_list_form(form, behind, file),
+        Decision::Form(Form::MapEntry(form), behind) => read_entry_form(
+            form, behind, line, block, file,
+        ),
+        Decision::Form(_, _) => Err(LineError::Refused(LineRefusal::BadValue)),
     }
 }
 

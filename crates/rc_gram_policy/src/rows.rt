@@ -13,7 +13,7 @@ use crate::map_opening::read_map_opening;
 use crate::prefix_lines::read_prefix_line;
 use rc_base::Name;
 use rc_config::{Command, OpenBlock, RouterText};
-use rc_openings::{Form, LineError, LineRefusal, Words};
+use rc_openings::{LineError, LineRefusal, MapEntryForm, PolicyForm, Words};
 use std::alloc::Global;
 
 /// `ip prefix-list NAME ..`
@@ -76,10 +76,10 @@ fn map_opening(file: &RouterText, behind: Words) -> Result<Command, LineError>
     }
 }
 
-/// The row of a form that stands in no block of policies.
-fn list_answer(
+/// What a line of a form that stands in no block says.
+pub(crate) fn list_answer(
     alloc: Global,
-    form: Form,
+    form: PolicyForm,
     file: &RouterText,
     behind: Words,
 ) -> Result<Command, LineError>
@@ -88,11 +88,10 @@ fn list_answer(
     ensures fits { IfOk result (FitsFile file.now) }
 {
     match form {
-        Form::PrefixList => prefix_line(file, behind),
-        Form::CommunityList => numbered_community_line(alloc, file, behind),
-        Form::StandardCommunityList => standard_community_line(alloc, file, behind),
-        Form::RouteMap => map_opening(file, behind),
-        _ => Err(LineError::Refused(LineRefusal::BadValue)),
+        PolicyForm::PrefixList => prefix_line(file, behind),
+        PolicyForm::CommunityList => numbered_community_line(alloc, file, behind),
+        PolicyForm::StandardCommunityList => standard_community_line(alloc, file, behind),
+        PolicyForm::RouteMap => map_opening(file, behind),
     }
 }
 
@@ -101,7 +100,7 @@ fn map_line(
     alloc: Global,
     map: Name,
     entry: u32,
-    form: Form,
+    form: MapEntryForm,
     file: &RouterText,
     number: u64,
     behind: Words,
@@ -120,27 +119,21 @@ fn map_line(
     }
 }
 
-/// What a line of a form says, the line of this number.
-pub(crate) fn row_answer(
+/// A line of this number in the block of an entry of a route map. In another block it fits no row.
+pub(crate) fn entry_answer(
     alloc: Global,
-    form: Form,
+    form: MapEntryForm,
     block: &OpenBlock,
     file: &RouterText,
     number: u64,
     behind: Words,
 ) -> Result<Command, LineError>
-    ensures row { Gives result (rows.row_answer block.now file.now number form (words_left behind.entry)) }
+    ensures row { Gives result (rows.entry_answer block.now number form (words_left behind.entry)) }
     ensures in_range { IfOk result IsInRange }
     ensures fits { IfOk result (FitsFile file.now) }
 {
     match block {
         OpenBlock::Map(map, entry) => map_line(alloc, *map, *entry, form, file, number, behind),
-        OpenBlock::Closed => list_answer(alloc, form, file, behind),
-        OpenBlock::Global => list_answer(alloc, form, file, behind),
-        OpenBlock::Interface(_) => list_answer(alloc, form, file, behind),
-        OpenBlock::AccessList(_, _) => list_answer(alloc, form, file, behind),
-        OpenBlock::Ospf => list_answer(alloc, form, file, behind),
-        OpenBlock::Bgp => list_answer(alloc, form, file, behind),
-        OpenBlock::Ignored => list_answer(alloc, form, file, behind),
+        _ => Err(LineError::Refused(LineRefusal::BadValue)),
     }
 }

@@ -1,4 +1,4 @@
--- A line's form is read by its own grammar alone, by computation: in another one it is a bad value.
+-- A line's form is read by its own grammar, by computation.
 use Rattle.std.specs.Fmt.{digits}
 use Rattle.std.specs.Prelude.{◌≡◌, List, [], ◌∷◌, ℕ, None, Ok, Err, codes, refl}
 use Rattle.rc_base.specs.Prefix.{prefix_at}
@@ -10,43 +10,40 @@ use Rattle.rc_config.specs.declared.command.Command.TheVariants as command
 use Rattle.rc_config.specs.declared.context.OpenBlock.TheVariants as place
 use Rattle.rc_gram_acl.specs.NumberName.{protocol_names, port_names}
 use Rattle.rc_gram_acl.specs.Refused.{refused_words}
-use Rattle.rc_grammar.specs.Grammars.{Answer, answer_in}
+use Rattle.rc_gram_policy.specs.Refused.{refused_in_entry}
+use Rattle.rc_grammar.specs.Grammars.{Answer, answer_of}
 use Rattle.rc_openings.specs.Words.{words_of}
 use Rattle.rc_openings.specs.declared.form.Form.{Form}
 use Rattle.rc_openings.specs.declared.form.Form.TheVariants as form
-use Rattle.rc_openings.specs.declared.form.Grammar.{Grammar}
-use Rattle.rc_openings.specs.declared.form.Grammar.TheVariants.{General, AccessLists, Policies}
+use Rattle.rc_openings.specs.declared.form.AccessListForm.TheVariants as access
+use Rattle.rc_openings.specs.declared.form.GeneralForm.TheVariants as general
+use Rattle.rc_openings.specs.declared.form.InterfaceForm.TheVariants as interface
+use Rattle.rc_openings.specs.declared.form.MapEntryForm.TheVariants as entry
+use Rattle.rc_openings.specs.declared.form.PolicyForm.TheVariants as policy
 use Rattle.rc_openings.specs.declared.reading.LineRefusal.TheVariants.{BadValue}
 
 -- a first line of this form, without indent, with these words behind its opening
-abbrev says_in : Grammar → Form → List (List ℕ) → Answer
-says_in grammar f behind = answer_in grammar place.Global empty 1 (codes "!" ∷ []) f behind
+abbrev says_of : Form → List (List ℕ) → Answer
+says_of f behind = answer_of place.Global empty 1 (codes "!" ∷ []) f behind
 
-abbrev host : List (List ℕ)
-host = codes "R1" ∷ []
-
-pub host_names :
-    (says_in General form.Hostname host ≡ Ok (command.Hostname (codes "R1") 1))
-    × (says_in AccessLists form.Hostname host ≡ Err BadValue)
-    × (says_in Policies form.Hostname host ≡ Err BadValue)
-host_names = (refl, refl, refl)
-
-abbrev five : List (List ℕ)
-five = codes "5" ∷ codes "permit" ∷ codes "any" ∷ []
+pub host_names : says_of (form.General general.Hostname) (codes "R1" ∷ []) ≡ Ok (command.Hostname (codes "R1") 1)
+host_names = refl
 
 pub access_lists :
-    (says_in General form.AccessList five ≡ Err BadValue)
-    × (says_in AccessLists form.AccessList five ≡ Ok (command.AccessListLine (codes "5") Standard (standard_line 10 Permit any_address)))
-    × (says_in Policies form.AccessList five ≡ Err BadValue)
+    says_of (form.AccessList access.Numbered) (codes "5" ∷ codes "permit" ∷ codes "any" ∷ [])
+    ≡ Ok (command.AccessListLine (codes "5") Standard (standard_line 10 Permit any_address))
 unfolding digits protocol_names port_names refused_words words_of
-access_lists = (refl, refl, refl)
-
-abbrev prefixes : List (List ℕ)
-prefixes = codes "P" ∷ codes "permit" ∷ codes "10.0.0.0/8" ∷ []
+access_lists = refl
 
 pub prefix_lists :
-    (says_in General form.PrefixList prefixes ≡ Err BadValue)
-    × (says_in AccessLists form.PrefixList prefixes ≡ Err BadValue)
-    × (says_in Policies form.PrefixList prefixes
-    ≡ Ok (command.PrefixLine (codes "P") (record { sequence = 5; action = Permit; prefix = prefix_at 0x0a000000 8; ge = None; le = None })))
-prefix_lists = (refl, refl, refl)
+    says_of (form.Policy policy.PrefixList) (codes "P" ∷ codes "permit" ∷ codes "10.0.0.0/8" ∷ [])
+    ≡ Ok (command.PrefixLine (codes "P") (record { sequence = 5; action = Permit; prefix = prefix_at 0x0a000000 8; ge = None; le = None }))
+prefix_lists = refl
+
+-- a form of a block fits no row in another one
+pub elsewhere :
+    (says_of (form.Interface interface.Shutdown) [] ≡ Err BadValue)
+    × (says_of (form.AccessList access.Permit) (codes "any" ∷ []) ≡ Err BadValue)
+    × (says_of (form.MapEntry entry.SetMetric) (codes "5" ∷ []) ≡ Err BadValue)
+unfolding refused_words refused_in_entry words_of
+elsewhere = (refl, refl, refl)

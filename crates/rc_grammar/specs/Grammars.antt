@@ -1,10 +1,8 @@
 -- What a line says where it stands, by the grammar of its form.
 use Rattle.std.specs.Prelude.{ℕ, List, Result}
-use Rattle.rc_openings.specs.Forms.{grammar_of}
 use Rattle.rc_openings.specs.Reading.{FormRows, SaysBy, said_by}
 use Rattle.rc_openings.specs.declared.form.Form.{Form}
-use Rattle.rc_openings.specs.declared.form.Grammar.{Grammar}
-use Rattle.rc_openings.specs.declared.form.Grammar.TheVariants.{General, AccessLists, Policies, Ospf, Bgp}
+use Rattle.rc_openings.specs.declared.form.Form.TheVariants.{General, Interface, AccessList, Policy, MapEntry, Ospf, Bgp}
 use Rattle.rc_openings.specs.declared.reading.LineRefusal.{LineRefusal}
 use Rattle.rc_config.specs.OpenBlock.{block_at}
 use Rattle.rc_config.specs.declared.command.Command.{Command}
@@ -13,24 +11,26 @@ use Rattle.rc_config.specs.declared.context.OpenBlock.{OpenBlock}
 use Rattle.rc_config.specs.declared.router_text.RouterText.{RouterText}
 use Rattle.rc_gram_acl.specs.Reading.{written_at, row_answer as access_list_answer}
 use Rattle.rc_gram_bgp.specs.Reading.{row_answer as bgp_answer}
-use Rattle.rc_gram_if.specs.Reading.{row_answer as general_answer}
+use Rattle.rc_gram_if.specs.Reading.{general_answer, interface_answer}
 use Rattle.rc_gram_ospf.specs.Rows.{row_answer as ospf_answer}
-use Rattle.rc_gram_policy.specs.Rows.{row_answer as policy_answer}
+use Rattle.rc_gram_policy.specs.Rows.{entry_answer, list_answer}
 
 abbrev pub Answer : Type 0
 Answer = Result Command LineRefusal
 
--- what a line of a form says in a grammar, by its words behind the opening
-abbrev pub answer_in : Grammar → OpenBlock → RouterText → ℕ → List (List ℕ) → Form → List (List ℕ) → Answer
-answer_in General block file number line f behind = general_answer block file number line f behind
-answer_in AccessLists block file number line f behind = access_list_answer block file (written_at block line) f behind
-answer_in Policies block file number line f behind = policy_answer block file number f behind
-answer_in Ospf block file number line f behind = ospf_answer file number line f behind
-answer_in Bgp block file number line f behind = bgp_answer file number line f behind
+-- what a line of a form says in the grammar of the form, by its words behind the opening
+abbrev pub answer_of : OpenBlock → RouterText → ℕ → List (List ℕ) → Form → List (List ℕ) → Answer
+answer_of block file number line (General f) behind = general_answer file number f behind
+answer_of block file number line (Interface f) behind = interface_answer block line f behind
+answer_of block file number line (AccessList f) behind = access_list_answer block file (written_at block line) f behind
+answer_of block file number line (Policy f) behind = list_answer file f behind
+answer_of block file number line (MapEntry f) behind = entry_answer block number f behind
+answer_of block file number line (Ospf f) behind = ospf_answer file number line f behind
+answer_of block file number line (Bgp f) behind = bgp_answer file number line f behind
 
 -- the rows of all forms, for the line of this number at a place: each form has those of its grammar
 abbrev pub rows_at : OpenBlock → RouterText → ℕ → List (List ℕ) → FormRows Command
-rows_at block file number line = record { answer = λ f behind. answer_in (grammar_of f) block file number line f behind; passed = Passed }
+rows_at block file number line = record { answer = answer_of block file number line; passed = Passed }
 
 -- the line says this where it stands: the opening with most words decides
 abbrev pub Says : OpenBlock → RouterText → ℕ → List (List ℕ) → Answer → Type 0

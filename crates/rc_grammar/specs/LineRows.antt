@@ -20,7 +20,7 @@ use Rattle.rc_config.specs.declared.ospf.OspfLine.TheVariants.{Network, Redistri
 use Rattle.rc_config.specs.declared.ospf.RedistributedSource.TheVariants.{Static}
 use Rattle.rc_config.specs.declared.sets.MetricType.TheVariants.{Type1}
 use Rattle.rc_gram_ospf.specs.Rows.{refused_words as of_ospf}
-use Rattle.rc_gram_policy.specs.Refused.{refused_words as of_policies}
+use Rattle.rc_gram_policy.specs.Refused.{refused_in_entry, refused_in_list}
 use Rattle.rc_grammar.specs.PolicyRows.{Says, in_map}
 
 -- static routes with the least metric that is none, of type 1
@@ -45,7 +45,7 @@ pub of_lists :
     (Ok (CommunityLine (codes "7") (record { action = Permit; communities = 4259840001 ∷ 4259840002 ∷ 0xffffff01 ∷ [] })))
     × Says place.Global (codes "ip community-list standard C deny no-advertise") (Ok (CommunityLine (codes "C") (record { action = Deny; communities = 0xffffff02 ∷ [] })))
     × Says place.Global (codes "ip community-list standard C permit internet") (Err Unsupported)
-unfolding global global_forms global_refused global_ignored decisive_row decided words_of digits of_policies
+unfolding global global_forms global_refused global_ignored decisive_row decided words_of digits refused_in_entry refused_in_list
 of_lists = (refl, refl, refl, refl)
 
 -- an entry of a map, and lines in its block
@@ -54,7 +54,7 @@ pub of_maps :
     × Says in_map (codes " match ip address prefix-list A 7") (Ok (MapLine (codes "M") 10 (Match match_kind.PrefixList (codes "A" ∷ codes "7" ∷ []) 7)))
     × Says in_map (codes " set community 65000:2 additive") (Ok (MapLine (codes "M") 10 (Set (set.Communities (4259840002 ∷ []) true))))
     × Says in_map (codes " set community additive") (Err BadValue)
-unfolding global global_forms global_refused global_ignored route_map route_map_forms route_map_refused route_map_ignored decisive_row decided words_of digits of_policies
+unfolding global global_forms global_refused global_ignored route_map route_map_forms route_map_refused route_map_ignored decisive_row decided words_of digits refused_in_entry refused_in_list
 of_maps = (refl, refl, refl, refl)
 
 -- words that are no area and no interface: the empty one, and one of 64 bytes

@@ -19,7 +19,7 @@ use Rattle.rc_config.specs.declared.access_list.Action.TheVariants.{Permit, Deny
 use Rattle.rc_config.specs.declared.map_line.MapLine.TheVariants.{Match, Set}
 use Rattle.rc_config.specs.declared.map_line.MatchKind.TheVariants as match_kind
 use Rattle.rc_config.specs.declared.map_line.SetLine.TheVariants as set
-use Rattle.rc_gram_policy.specs.Refused.{refused_words}
+use Rattle.rc_gram_policy.specs.Refused.{refused_in_entry, refused_in_list}
 use Rattle.rc_grammar.specs.File.{open_after}
 use Rattle.rc_grammar.specs.Grammars.{Answer, says}
 
@@ -39,7 +39,7 @@ pub lists :
     × Says place.Global (codes "ip community-list standard 7 deny 1:2") (Ok (CommunityLine (codes "7") (record { action = Deny; communities = 65538 ∷ [] })))
     × Says place.Global (codes "ip prefix-list P description of nothing") (Ok Passed)
     × Says place.Global (codes "ip community-list expanded 100 permit 1") (Err Unsupported)
-unfolding access_list access_list_forms access_list_refused access_list_ignored bgp bgp_forms bgp_refused bgp_ignored global global_forms global_refused global_ignored interface interface_forms interface_refused interface_ignored ospf ospf_forms ospf_refused ospf_ignored route_map route_map_forms route_map_refused route_map_ignored decisive_row decided words_of digits refused_words
+unfolding access_list access_list_forms access_list_refused access_list_ignored bgp bgp_forms bgp_refused bgp_ignored global global_forms global_refused global_ignored interface interface_forms interface_refused interface_ignored ospf ospf_forms ospf_refused ospf_ignored route_map route_map_forms route_map_refused route_map_ignored decisive_row decided words_of digits refused_in_entry refused_in_list
 lists = (refl, refl, refl, refl, refl)
 
 -- an entry, and lines in its block and elsewhere
@@ -52,7 +52,7 @@ pub entries :
     × Says in_map (codes " bandwidth 10") (Err OutOfPlace)
     × Says (place.Interface (codes "Serial0")) (codes " set weight 5") (Err OutOfPlace)
     × Says place.Closed (codes " set weight 5") (Err OutOfPlace)
-unfolding access_list access_list_forms access_list_refused access_list_ignored bgp bgp_forms bgp_refused bgp_ignored global global_forms global_refused global_ignored interface interface_forms interface_refused interface_ignored ospf ospf_forms ospf_refused ospf_ignored route_map route_map_forms route_map_refused route_map_ignored decisive_row decided words_of digits refused_words
+unfolding access_list access_list_forms access_list_refused access_list_ignored bgp bgp_forms bgp_refused bgp_ignored global global_forms global_refused global_ignored interface interface_forms interface_refused interface_ignored ospf ospf_forms ospf_refused ospf_ignored route_map route_map_forms route_map_refused route_map_ignored decisive_row decided words_of digits refused_in_entry refused_in_list
 entries = (refl, refl, refl, refl, refl, refl, refl, refl)
 
 -- an entry opens its block, and a list none; in the block of an entry its lines leave it open

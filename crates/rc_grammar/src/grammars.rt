@@ -2,13 +2,12 @@
 ghost use Rattle.std.specs.Prelude.{IfOk};
 ghost use Rattle.rc_openings.specs.Reading.{Gives};
 ghost use Rattle.rc_openings.specs.Words.{words_left, words_of};
-ghost use Rattle.rc_openings.specs.Forms.{grammar_of};
 ghost use Rattle.rc_config.specs.Lawful.{FitsFile, HasLawfulLists, IsInRange};
-ghost use Rattle.rc_grammar.specs.Grammars.{answer_in, says};
+ghost use Rattle.rc_grammar.specs.Grammars.{answer_of, says};
 
 use rc_config::{Command, Context, OpenBlock, RouterText};
 use rc_lines::Line;
-use rc_openings::{Decision, Form, Grammar, LineError, Words};
+use rc_openings::{Decision, Form, LineError, Words};
 
 /// What a line of this form says in this block, by its words behind the opening.
 fn read_form(
@@ -19,7 +18,7 @@ fn read_form(
     file: &RouterText,
 ) -> Result<Command, LineError>
     requires { HasLawfulLists file.now }
-    ensures row { Gives result (answer_in (grammar_of form) block.now file.now line.now.number (words_of line.now.text) form (words_left behind.entry)) }
+    ensures row { Gives result (answer_of block.now file.now line.now.number (words_of line.now.text) form (words_left behind.entry)) }
     ensures in_range { IfOk result IsInRange }
     ensures fits { IfOk result (FitsFile file.now) }
 {
@@ -27,12 +26,14 @@ fn read_form(
         block: *block,
         file,
     };
-    match form.grammar() {
-        Grammar::General => rc_gram_if::read_form(form, behind, line, context),
-        Grammar::AccessLists => rc_gram_acl::read_form(form, behind, line, context),
-        Grammar::Policies => rc_gram_policy::read_form(form, behind, line, context),
-        Grammar::Ospf => rc_gram_ospf::read_form(form, behind, line, context),
-        Grammar::Bgp => rc_gram_bgp::read_form(form, behind, line, context),
+    match form {
+        Form::General(form) => rc_gram_if::read_general_form(form, behind, line, context),
+        Form::Interface(form) => rc_gram_if::read_interface_form(form, behind, line, context),
+        Form::AccessList(form) => rc_gram_acl::read_form(form, behind, line, block, file),
+        Form::Policy(form) => rc_gram_policy::read_list_form(form, behind, file),
+        Form::MapEntry(form) => { rc_gram_policy::read_entry_form(form, behind, line, block, file) }
+        Form::Ospf(form) => rc_gram_ospf::read_form(form, behind, line, file),
+        Form::Bgp(form) => rc_gram_bgp::read_form(form, behind, line, file),
     }
 }
 

@@ -1,27 +1,28 @@
 -- The openings of a line under `router bgp`.
 use Rattle.std.specs.Prelude.{List, [], ◌∷◌, ◌++◌, codes}
-use Rattle.rc_openings.specs.declared.form.Form.TheVariants.{BgpRouterId, BgpNetwork, NeighborRemoteAs, NeighborUpdateSource, NeighborEbgpMultihop, NeighborNextHopSelf, NeighborShutdown, NeighborDefaultOriginate, NeighborActivate, NeighborSendCommunity, NeighborRouteMap, NeighborPrefixList, NeighborWeight, BgpRedistributeConnected, BgpRedistributeStatic, BgpRedistributeOspf}
+use Rattle.rc_openings.specs.declared.form.Form.TheVariants.{Bgp}
+use Rattle.rc_openings.specs.declared.form.BgpForm.TheVariants.{RouterId, Network, NeighborRemoteAs, NeighborUpdateSource, NeighborEbgpMultihop, NeighborNextHopSelf, NeighborShutdown, NeighborDefaultOriginate, NeighborActivate, NeighborSendCommunity, NeighborRouteMap, NeighborPrefixList, NeighborWeight, RedistributeConnected, RedistributeStatic, RedistributeOspf}
 use Rattle.rc_openings.specs.Opening.{Row, form, refused, ignored}
 
 -- with these begin the forms
 unfoldable pub bgp_forms : List Row
 bgp_forms =
-    form (codes "bgp router-id") BgpRouterId
-    ∷ form (codes "network") BgpNetwork
-    ∷ form (codes "neighbor * remote-as") NeighborRemoteAs
-    ∷ form (codes "neighbor * update-source") NeighborUpdateSource
-    ∷ form (codes "neighbor * ebgp-multihop") NeighborEbgpMultihop
-    ∷ form (codes "neighbor * next-hop-self") NeighborNextHopSelf
-    ∷ form (codes "neighbor * shutdown") NeighborShutdown
-    ∷ form (codes "neighbor * default-originate") NeighborDefaultOriginate
-    ∷ form (codes "neighbor * activate") NeighborActivate
-    ∷ form (codes "neighbor * send-community") NeighborSendCommunity
-    ∷ form (codes "neighbor * route-map") NeighborRouteMap
-    ∷ form (codes "neighbor * prefix-list") NeighborPrefixList
-    ∷ form (codes "neighbor * weight") NeighborWeight
-    ∷ form (codes "redistribute connected") BgpRedistributeConnected
-    ∷ form (codes "redistribute static") BgpRedistributeStatic
-    ∷ form (codes "redistribute ospf") BgpRedistributeOspf
+    form (codes "bgp router-id") (Bgp RouterId)
+    ∷ form (codes "network") (Bgp Network)
+    ∷ form (codes "neighbor * remote-as") (Bgp NeighborRemoteAs)
+    ∷ form (codes "neighbor * update-source") (Bgp NeighborUpdateSource)
+    ∷ form (codes "neighbor * ebgp-multihop") (Bgp NeighborEbgpMultihop)
+    ∷ form (codes "neighbor * next-hop-self") (Bgp NeighborNextHopSelf)
+    ∷ form (codes "neighbor * shutdown") (Bgp NeighborShutdown)
+    ∷ form (codes "neighbor * default-originate") (Bgp NeighborDefaultOriginate)
+    ∷ form (codes "neighbor * activate") (Bgp NeighborActivate)
+    ∷ form (codes "neighbor * send-community") (Bgp NeighborSendCommunity)
+    ∷ form (codes "neighbor * route-map") (Bgp NeighborRouteMap)
+    ∷ form (codes "neighbor * prefix-list") (Bgp NeighborPrefixList)
+    ∷ form (codes "neighbor * weight") (Bgp NeighborWeight)
+    ∷ form (codes "redistribute connected") (Bgp RedistributeConnected)
+    ∷ form (codes "redistribute static") (Bgp RedistributeStatic)
+    ∷ form (codes "redistribute ospf") (Bgp RedistributeOspf)
     ∷ []
 
 -- with these begin lines whose meaning is not modelled

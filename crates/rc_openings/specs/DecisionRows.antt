@@ -6,7 +6,6 @@ use Rattle.rc_openings.specs.AccessListOpenings.{access_list, access_list_forms,
 use Rattle.rc_openings.specs.BgpOpenings.{bgp, bgp_forms, bgp_refused, bgp_ignored}
 use Rattle.rc_openings.specs.Block.{begins_form_anywhere}
 use Rattle.rc_openings.specs.Examples.{IsDecided}
-use Rattle.rc_openings.specs.Forms.{grammar_of}
 use Rattle.rc_openings.specs.GlobalOpenings.{global, global_forms, global_refused, global_ignored}
 use Rattle.rc_openings.specs.InterfaceOpenings.{interface, interface_forms, interface_refused, interface_ignored}
 use Rattle.rc_openings.specs.Opening.{decisive_row}
@@ -18,15 +17,16 @@ use Rattle.rc_openings.specs.Values.{address_of, mask_length_of, number_of, numb
 use Rattle.rc_openings.specs.Words.{words_of}
 use Rattle.rc_openings.specs.declared.block.Block.TheVariants as block
 use Rattle.rc_openings.specs.declared.form.Form.TheVariants as form
-use Rattle.rc_openings.specs.declared.form.Grammar.TheVariants.{General, AccessLists, Policies}
+use Rattle.rc_openings.specs.declared.form.AccessListForm.TheVariants as access
+use Rattle.rc_openings.specs.declared.form.GeneralForm.TheVariants as general
 use Rattle.rc_openings.specs.declared.opening.Verdict.TheVariants.{Form, Refused, Ignored}
 use Rattle.rc_openings.specs.declared.reading.LineRefusal.{LineRefusal}
 use Rattle.rc_openings.specs.declared.reading.LineRefusal.TheVariants.{Unknown, Unsupported, BadValue, OutOfPlace}
 
 -- a line has the form of its opening, and none where it has no opening or one that isn't modelled
 pub forms :
-    (decided block.Global (words_of (codes "hostname R1")) ≡ OfForm form.Hostname (codes "R1" ∷ []))
-    × (decided block.AccessList (words_of (codes "10 permit any")) ≡ OfForm form.Permit (codes "any" ∷ []))
+    (decided block.Global (words_of (codes "hostname R1")) ≡ OfForm (form.General general.Hostname) (codes "R1" ∷ []))
+    × (decided block.AccessList (words_of (codes "10 permit any")) ≡ OfForm (form.AccessList access.Permit) (codes "any" ∷ []))
     × (decided block.Interface (words_of (codes "ip cef")) ≡ Decided.Refused Unknown)
     × (decided block.Global (words_of (codes "ip nat inside")) ≡ Decided.Refused Unsupported)
 unfolding decided decisive_row global global_forms global_refused global_ignored interface interface_forms interface_refused interface_ignored access_list access_list_forms access_list_refused access_list_ignored route_map route_map_forms route_map_refused route_map_ignored ospf ospf_forms ospf_refused ospf_ignored bgp bgp_forms bgp_refused bgp_ignored words_of
@@ -34,7 +34,7 @@ forms = (refl, refl, refl, refl)
 
 -- the opening with most words decides, whatever blanks stand between them
 pub longest_opening :
-    IsDecided block.Global (codes "hostname R1") (Some (Form form.Hostname))
+    IsDecided block.Global (codes "hostname R1") (Some (Form (form.General general.Hostname)))
     × IsDecided block.Interface (9 ∷ codes "ip  address dhcp") (Some Refused)
     × IsDecided block.Global (codes "ip prefix-list X description y") (Some Ignored)
     × IsDecided block.AccessList (codes "shutdown") None
@@ -51,9 +51,6 @@ pub numbers_in_front :
     × (number_in_front (words_of (codes "2147483648 permit any")) ≡ None)
 unfolding words_of
 numbers_in_front = (refl, refl, refl, refl, refl)
-
-pub grammars : (grammar_of form.Hostname ≡ General) × (grammar_of form.Permit ≡ AccessLists) × (grammar_of form.SetCommunity ≡ Policies)
-grammars = (refl, refl, refl)
 
 -- behind its number a line of an access list is a form, and out of place in other blocks; with the number it is of no form
 abbrev numbered : List (List ℕ)

@@ -4,6 +4,13 @@ use Rattle.rc_base.specs.Addr.{mask_len}
 use Rattle.rc_openings.specs.declared.block.Block.{Block}
 use Rattle.rc_openings.specs.declared.block.Block.TheVariants as block
 use Rattle.rc_openings.specs.declared.form.Form.TheVariants as form
+use Rattle.rc_openings.specs.declared.form.AccessListForm.TheVariants as access
+use Rattle.rc_openings.specs.declared.form.BgpForm.TheVariants as bgp
+use Rattle.rc_openings.specs.declared.form.GeneralForm.TheVariants as general
+use Rattle.rc_openings.specs.declared.form.InterfaceForm.TheVariants as interface
+use Rattle.rc_openings.specs.declared.form.MapEntryForm.TheVariants as entry
+use Rattle.rc_openings.specs.declared.form.OspfForm.TheVariants as ospf
+use Rattle.rc_openings.specs.declared.form.PolicyForm.TheVariants as policy
 use Rattle.rc_openings.specs.declared.opening.Verdict.{Verdict}
 use Rattle.rc_openings.specs.declared.opening.Verdict.TheVariants.{Form, Refused, Ignored}
 use Rattle.rc_openings.specs.declared.reading.LineRefusal.TheVariants.{Unknown, Unsupported, OutOfPlace}
@@ -25,16 +32,16 @@ abbrev pub IsDecided : Block → List ℕ → Option Verdict → Type 0
 IsDecided kind line verdict = option_map (λ r. r.verdict) (decisive_row (rows_of kind) (words_of line)) ≡ verdict
 
 pub global_lines :
-    IsDecided block.Global (codes "hostname R1") (Some (Form form.Hostname))
-    × IsDecided block.Global (codes "interface GigabitEthernet0/0") (Some (Form form.Interface))
-    × IsDecided block.Global (codes "ip route 10.0.0.0 255.0.0.0 Null0") (Some (Form form.StaticRoute))
+    IsDecided block.Global (codes "hostname R1") (Some (Form (form.General general.Hostname)))
+    × IsDecided block.Global (codes "interface GigabitEthernet0/0") (Some (Form (form.General general.Interface)))
+    × IsDecided block.Global (codes "ip route 10.0.0.0 255.0.0.0 Null0") (Some (Form (form.General general.StaticRoute)))
     × IsDecided block.Global (codes "ip route vrf RED 10.0.0.0 255.0.0.0 Null0") (Some Refused)
     × IsDecided block.Global (codes "no ip routing") (Some Refused)
     × IsDecided block.Global (codes "no ip http server") (Some Ignored)
     × IsDecided block.Global (codes "router rip") (Some Refused)
-    × IsDecided block.Global (codes "router ospf 1") (Some (Form form.RouterOspf))
-    × IsDecided block.Global (codes "router bgp 65001") (Some (Form form.RouterBgp))
-    × IsDecided block.Global (codes "ip prefix-list X permit 10.0.0.0/8") (Some (Form form.PrefixList))
+    × IsDecided block.Global (codes "router ospf 1") (Some (Form (form.Ospf ospf.RouterOspf)))
+    × IsDecided block.Global (codes "router bgp 65001") (Some (Form (form.Bgp bgp.RouterBgp)))
+    × IsDecided block.Global (codes "ip prefix-list X permit 10.0.0.0/8") (Some (Form (form.Policy policy.PrefixList)))
     × IsDecided block.Global (codes "ip prefix-list X description y") (Some Ignored)
     × IsDecided block.Global (codes "ip community-list expanded X permit .*") (Some Refused)
     × IsDecided block.Global (codes "ip") None
@@ -43,43 +50,43 @@ unfolding decisive_row global global_forms global_refused global_ignored words_o
 global_lines = (refl, refl, refl, refl, refl, refl, refl, refl, refl, refl, refl, refl, refl, refl)
 
 pub interface_lines :
-    IsDecided block.Interface (codes " ip address 10.0.0.1 255.0.0.0") (Some (Form form.IpAddress))
+    IsDecided block.Interface (codes " ip address 10.0.0.1 255.0.0.0") (Some (Form (form.Interface interface.IpAddress)))
     × IsDecided block.Interface (codes " ip address dhcp") (Some Refused)
-    × IsDecided block.Interface (codes " shutdown") (Some (Form form.Shutdown))
-    × IsDecided block.Interface (codes " no shutdown") (Some (Form form.NoShutdown))
+    × IsDecided block.Interface (codes " shutdown") (Some (Form (form.Interface interface.Shutdown)))
+    × IsDecided block.Interface (codes " no shutdown") (Some (Form (form.Interface interface.NoShutdown)))
     × IsDecided block.Interface (codes " no keepalive") (Some Ignored)
-    × IsDecided block.Interface (codes " ip ospf cost 10") (Some (Form form.OspfCost))
+    × IsDecided block.Interface (codes " ip ospf cost 10") (Some (Form (form.Interface interface.OspfCost)))
     × IsDecided block.Interface (codes " ip ospf priority 3") (Some Ignored)
     × IsDecided block.Interface (codes " ip ospf authentication") (Some Refused)
-    × IsDecided block.Interface (codes " ip ospf 1 area 0") (Some (Form form.OspfArea))
-    × IsDecided block.Interface (codes " ip ospf network broadcast") (Some (Form form.OspfNetworkBroadcast))
-    × IsDecided block.Interface (codes " ip ospf network non-broadcast") (Some (Form form.OspfNetworkType))
-    × IsDecided block.Interface (codes " ip ospf cost area 0") (Some (Form form.OspfArea))
+    × IsDecided block.Interface (codes " ip ospf 1 area 0") (Some (Form (form.Interface interface.OspfArea)))
+    × IsDecided block.Interface (codes " ip ospf network broadcast") (Some (Form (form.Interface interface.OspfNetworkBroadcast)))
+    × IsDecided block.Interface (codes " ip ospf network non-broadcast") (Some (Form (form.Interface interface.OspfNetworkType)))
+    × IsDecided block.Interface (codes " ip ospf cost area 0") (Some (Form (form.Interface interface.OspfArea)))
     × IsDecided block.Interface (codes " crypto map") (Some Refused)
     × IsDecided block.Interface (codes " crypto") None
 unfolding decisive_row interface interface_forms interface_refused interface_ignored words_of
 interface_lines = (refl, refl, refl, refl, refl, refl, refl, refl, refl, refl, refl, refl, refl, refl)
 
 pub other_lines :
-    IsDecided block.AccessList (codes " remark") (Some (Form form.Remark))
+    IsDecided block.AccessList (codes " remark") (Some (Form (form.AccessList access.Remark)))
     × IsDecided block.AccessList (codes " dynamic X permit ip any any") (Some Refused)
-    × IsDecided block.RouteMap (codes " match ip address prefix-list X") (Some (Form form.MatchPrefixList))
+    × IsDecided block.RouteMap (codes " match ip address prefix-list X") (Some (Form (form.MapEntry entry.MatchPrefixList)))
     × IsDecided block.RouteMap (codes " set metric-type internal") (Some Refused)
     × IsDecided block.RouteMap (codes " set tag 3") (Some Ignored)
-    × IsDecided block.Ospf (codes " passive-interface default") (Some (Form form.PassiveInterfaceDefault))
+    × IsDecided block.Ospf (codes " passive-interface default") (Some (Form (form.Ospf ospf.PassiveInterfaceDefault)))
     × IsDecided block.Ospf (codes " redistribute rip") (Some Refused)
-    × IsDecided block.Ospf (codes " redistribute static subnets") (Some (Form form.OspfRedistributeStatic))
-    × IsDecided block.Ospf (codes " redistribute bgp 65001") (Some (Form form.OspfRedistributeBgp))
-    × IsDecided block.Ospf (codes " area 0.0.0.1 stub no-summary") (Some (Form form.StubArea))
+    × IsDecided block.Ospf (codes " redistribute static subnets") (Some (Form (form.Ospf ospf.RedistributeStatic)))
+    × IsDecided block.Ospf (codes " redistribute bgp 65001") (Some (Form (form.Ospf ospf.RedistributeBgp)))
+    × IsDecided block.Ospf (codes " area 0.0.0.1 stub no-summary") (Some (Form (form.Ospf ospf.StubArea)))
     × IsDecided block.Ospf (codes " area stub") (Some Refused)
-    × IsDecided block.Ospf (codes " default-information originate always") (Some (Form form.DefaultInformationOriginate))
+    × IsDecided block.Ospf (codes " default-information originate always") (Some (Form (form.Ospf ospf.DefaultInformationOriginate)))
     × IsDecided block.Ospf (codes " default-information") (Some Refused)
     × IsDecided block.Ospf (codes " area 1 range 10.0.0.0 255.0.0.0") (Some Refused)
-    × IsDecided block.Ospf (codes " no passive-interface default") (Some (Form form.NoPassiveInterface))
+    × IsDecided block.Ospf (codes " no passive-interface default") (Some (Form (form.Ospf ospf.NoPassiveInterface)))
     × IsDecided block.Ospf (codes " no auto-cost") (Some Ignored)
     × IsDecided block.Ospf (codes " auto-cost") None
-    × IsDecided block.Bgp (codes " neighbor 10.0.0.1 activate") (Some (Form form.NeighborActivate))
-    × IsDecided block.Bgp (codes " neighbor 10.0.0.1 weight 5") (Some (Form form.NeighborWeight))
+    × IsDecided block.Bgp (codes " neighbor 10.0.0.1 activate") (Some (Form (form.Bgp bgp.NeighborActivate)))
+    × IsDecided block.Bgp (codes " neighbor 10.0.0.1 weight 5") (Some (Form (form.Bgp bgp.NeighborWeight)))
     × IsDecided block.Bgp (codes " neighbor 10.0.0.1 version 4") (Some Ignored)
     × IsDecided block.Bgp (codes " neighbor 10.0.0.1") (Some Refused)
     × IsDecided block.Bgp (codes " no bgp default ipv4-unicast") (Some Refused)
@@ -157,16 +164,16 @@ interfaces = (refl, refl, refl)
 
 -- what a line is by its opening: in the block of an access list a sequence number in front is set aside, and elsewhere it is a word
 pub decisions :
-    (decided block.AccessList (words_of (codes " 10 permit any")) ≡ OfForm form.Permit (codes "any" ∷ []))
-    × (decided block.AccessList (words_of (codes " remark")) ≡ OfForm form.Remark [])
+    (decided block.AccessList (words_of (codes " 10 permit any")) ≡ OfForm (form.AccessList access.Permit) (codes "any" ∷ []))
+    × (decided block.AccessList (words_of (codes " remark")) ≡ OfForm (form.AccessList access.Remark) [])
     × (decided block.AccessList (words_of (codes " 2147483648 permit any")) ≡ Decided.Refused Unknown)
     × (decided block.AccessList (words_of (codes " 10 exit")) ≡ Passed)
     × (decided block.Interface (words_of (codes " 10 shutdown")) ≡ Decided.Refused Unknown)
     × (decided block.Interface (words_of (codes " permit any")) ≡ Decided.Refused OutOfPlace)
-    × (decided block.Global (words_of (codes "ip prefix-list X permit 10.0.0.0/8")) ≡ OfForm form.PrefixList (codes "X" ∷ codes "permit" ∷ codes "10.0.0.0/8" ∷ []))
-    × (decided block.Global (words_of (codes "ip community-list standard X")) ≡ OfForm form.StandardCommunityList (codes "X" ∷ []))
-    × (decided block.Global (words_of (codes "router bgp 1")) ≡ OfForm form.RouterBgp (codes "1" ∷ []))
-    × (decided block.Bgp (words_of (codes " redistribute static")) ≡ OfForm form.BgpRedistributeStatic [])
+    × (decided block.Global (words_of (codes "ip prefix-list X permit 10.0.0.0/8")) ≡ OfForm (form.Policy policy.PrefixList) (codes "X" ∷ codes "permit" ∷ codes "10.0.0.0/8" ∷ []))
+    × (decided block.Global (words_of (codes "ip community-list standard X")) ≡ OfForm (form.Policy policy.StandardCommunityList) (codes "X" ∷ []))
+    × (decided block.Global (words_of (codes "router bgp 1")) ≡ OfForm (form.Bgp bgp.RouterBgp) (codes "1" ∷ []))
+    × (decided block.Bgp (words_of (codes " redistribute static")) ≡ OfForm (form.Bgp bgp.RedistributeStatic) [])
 unfolding decided decisive_row global global_forms global_refused global_ignored interface interface_forms interface_refused interface_ignored access_list access_list_forms access_list_refused access_list_ignored route_map route_map_forms route_map_refused route_map_ignored ospf ospf_forms ospf_refused ospf_ignored bgp bgp_forms bgp_refused bgp_ignored words_of
 decisions = (refl, refl, refl, refl, refl, refl, refl, refl, refl, refl)
 
@@ -177,12 +184,12 @@ pub other_families :
     × (decided block.Bgp (words_of (codes " neighbor 2001:db8::1 weight 5")) ≡ Passed)
     × (decided block.Bgp (words_of (codes " neighbor 2001:db8::1 anything at all")) ≡ Passed)
     × (decided block.Bgp (words_of (codes " neighbor :")) ≡ Passed)
-    × (decided block.Bgp (words_of (codes " neighbor 10.0.0.1 remote-as 65001")) ≡ OfForm form.NeighborRemoteAs (codes "65001" ∷ []))
-    × (decided block.Bgp (words_of (codes " neighbor 10.0.0.1 remote-as 1:1")) ≡ OfForm form.NeighborRemoteAs (codes "1:1" ∷ []))
+    × (decided block.Bgp (words_of (codes " neighbor 10.0.0.1 remote-as 65001")) ≡ OfForm (form.Bgp bgp.NeighborRemoteAs) (codes "65001" ∷ []))
+    × (decided block.Bgp (words_of (codes " neighbor 10.0.0.1 remote-as 1:1")) ≡ OfForm (form.Bgp bgp.NeighborRemoteAs) (codes "1:1" ∷ []))
     × (decided block.Bgp (words_of (codes " neighbor 10.0.0.1")) ≡ Decided.Refused Unsupported)
     × (decided block.Bgp (words_of (codes " neighbor")) ≡ Decided.Refused Unsupported)
     × (decided block.Bgp (words_of (codes " no neighbor 2001:db8::1 activate")) ≡ Decided.Refused Unsupported)
-    × (decided block.Bgp (words_of (codes " network 2001:db8::")) ≡ OfForm form.BgpNetwork (codes "2001:db8::" ∷ []))
+    × (decided block.Bgp (words_of (codes " network 2001:db8::")) ≡ OfForm (form.Bgp bgp.Network) (codes "2001:db8::" ∷ []))
     × (decided block.Ospf (words_of (codes " neighbor 2001:db8::1")) ≡ Decided.Refused Unsupported)
 unfolding decided decisive_row global global_forms global_refused global_ignored interface interface_forms interface_refused interface_ignored access_list access_list_forms access_list_refused access_list_ignored route_map route_map_forms route_map_refused route_map_ignored ospf ospf_forms ospf_refused ospf_ignored bgp bgp_forms bgp_refused bgp_ignored words_of
 other_families = (refl, refl, refl, refl, refl, refl, refl, refl, refl, refl, refl)

@@ -1,23 +1,28 @@
 -- The openings of a line with no indent.
 use Rattle.std.specs.Prelude.{List, [], ◌∷◌, ◌++◌, codes}
-use Rattle.rc_openings.specs.declared.form.Form.TheVariants.{Hostname, Interface, AccessList, StandardAccessList, ExtendedAccessList, PrefixList, CommunityList, StandardCommunityList, RouteMap, StaticRoute, RouterOspf, RouterBgp}
+use Rattle.rc_openings.specs.declared.form.Form.TheVariants.{General, AccessList, Policy, Ospf, Bgp}
+use Rattle.rc_openings.specs.declared.form.AccessListForm.TheVariants.{Numbered, Standard, Extended}
+use Rattle.rc_openings.specs.declared.form.BgpForm.TheVariants.{RouterBgp}
+use Rattle.rc_openings.specs.declared.form.GeneralForm.TheVariants.{Hostname, Interface, StaticRoute}
+use Rattle.rc_openings.specs.declared.form.OspfForm.TheVariants.{RouterOspf}
+use Rattle.rc_openings.specs.declared.form.PolicyForm.TheVariants.{PrefixList, CommunityList, StandardCommunityList, RouteMap}
 use Rattle.rc_openings.specs.Opening.{Row, form, refused, ignored}
 
 -- with these begin the forms
 unfoldable pub global_forms : List Row
 global_forms =
-    form (codes "hostname") Hostname
-    ∷ form (codes "interface") Interface
-    ∷ form (codes "access-list") AccessList
-    ∷ form (codes "ip access-list standard") StandardAccessList
-    ∷ form (codes "ip access-list extended") ExtendedAccessList
-    ∷ form (codes "ip prefix-list") PrefixList
-    ∷ form (codes "ip community-list") CommunityList
-    ∷ form (codes "ip community-list standard") StandardCommunityList
-    ∷ form (codes "route-map") RouteMap
-    ∷ form (codes "ip route") StaticRoute
-    ∷ form (codes "router ospf") RouterOspf
-    ∷ form (codes "router bgp") RouterBgp
+    form (codes "hostname") (General Hostname)
+    ∷ form (codes "interface") (General Interface)
+    ∷ form (codes "access-list") (AccessList Numbered)
+    ∷ form (codes "ip access-list standard") (AccessList Standard)
+    ∷ form (codes "ip access-list extended") (AccessList Extended)
+    ∷ form (codes "ip prefix-list") (Policy PrefixList)
+    ∷ form (codes "ip community-list") (Policy CommunityList)
+    ∷ form (codes "ip community-list standard") (Policy StandardCommunityList)
+    ∷ form (codes "route-map") (Policy RouteMap)
+    ∷ form (codes "ip route") (General StaticRoute)
+    ∷ form (codes "router ospf") (Ospf RouterOspf)
+    ∷ form (codes "router bgp") (Bgp RouterBgp)
     ∷ []
 
 -- with these begin lines whose meaning is not modelled

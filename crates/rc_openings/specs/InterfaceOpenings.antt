@@ -1,23 +1,24 @@
 -- The openings of a line under `interface`.
 use Rattle.std.specs.Prelude.{List, [], ◌∷◌, ◌++◌, codes}
-use Rattle.rc_openings.specs.declared.form.Form.TheVariants.{IpAddress, Shutdown, NoShutdown, Bandwidth, AccessGroup, OspfCost, OspfHelloInterval, OspfDeadInterval, OspfNetworkType, OspfNetworkBroadcast, OspfNetworkPointToPoint, OspfArea}
+use Rattle.rc_openings.specs.declared.form.Form.TheVariants.{Interface}
+use Rattle.rc_openings.specs.declared.form.InterfaceForm.TheVariants.{IpAddress, Shutdown, NoShutdown, Bandwidth, AccessGroup, OspfCost, OspfHelloInterval, OspfDeadInterval, OspfNetworkType, OspfNetworkBroadcast, OspfNetworkPointToPoint, OspfArea}
 use Rattle.rc_openings.specs.Opening.{Row, form, refused, ignored}
 
 -- with these begin the forms
 unfoldable pub interface_forms : List Row
 interface_forms =
-    form (codes "ip address") IpAddress
-    ∷ form (codes "shutdown") Shutdown
-    ∷ form (codes "no shutdown") NoShutdown
-    ∷ form (codes "bandwidth") Bandwidth
-    ∷ form (codes "ip access-group") AccessGroup
-    ∷ form (codes "ip ospf cost") OspfCost
-    ∷ form (codes "ip ospf hello-interval") OspfHelloInterval
-    ∷ form (codes "ip ospf dead-interval") OspfDeadInterval
-    ∷ form (codes "ip ospf network") OspfNetworkType
-    ∷ form (codes "ip ospf network broadcast") OspfNetworkBroadcast
-    ∷ form (codes "ip ospf network point-to-point") OspfNetworkPointToPoint
-    ∷ form (codes "ip ospf * area") OspfArea
+    form (codes "ip address") (Interface IpAddress)
+    ∷ form (codes "shutdown") (Interface Shutdown)
+    ∷ form (codes "no shutdown") (Interface NoShutdown)
+    ∷ form (codes "bandwidth") (Interface Bandwidth)
+    ∷ form (codes "ip access-group") (Interface AccessGroup)
+    ∷ form (codes "ip ospf cost") (Interface OspfCost)
+    ∷ form (codes "ip ospf hello-interval") (Interface OspfHelloInterval)
+    ∷ form (codes "ip ospf dead-interval") (Interface OspfDeadInterval)
+    ∷ form (codes "ip ospf network") (Interface OspfNetworkType)
+    ∷ form (codes "ip ospf network broadcast") (Interface OspfNetworkBroadcast)
+    ∷ form (codes "ip ospf network point-to-point") (Interface OspfNetworkPointToPoint)
+    ∷ form (codes "ip ospf * area") (Interface OspfArea)
     ∷ []
 
 -- with these begin lines whose meaning is not modelled

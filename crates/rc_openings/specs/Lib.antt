@@ -1,5 +1,4 @@
 pub mod Words
-pub mod Forms
 pub mod Opening
 pub mod Apart
 pub mod GlobalOpenings

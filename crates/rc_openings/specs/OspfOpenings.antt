@@ -1,22 +1,23 @@
 -- The openings of a line under `router ospf`.
 use Rattle.std.specs.Prelude.{List, [], ◌∷◌, ◌++◌, codes}
-use Rattle.rc_openings.specs.declared.form.Form.TheVariants.{OspfRouterId, OspfNetwork, StubArea, PassiveInterface, NoPassiveInterface, PassiveInterfaceDefault, ReferenceBandwidth, OspfRedistributeConnected, OspfRedistributeStatic, OspfRedistributeBgp, DefaultInformationOriginate}
+use Rattle.rc_openings.specs.declared.form.Form.TheVariants.{Ospf}
+use Rattle.rc_openings.specs.declared.form.OspfForm.TheVariants.{RouterId, Network, StubArea, PassiveInterface, NoPassiveInterface, PassiveInterfaceDefault, ReferenceBandwidth, RedistributeConnected, RedistributeStatic, RedistributeBgp, DefaultInformationOriginate}
 use Rattle.rc_openings.specs.Opening.{Row, form, refused, ignored}
 
 -- with these begin the forms
 unfoldable pub ospf_forms : List Row
 ospf_forms =
-    form (codes "router-id") OspfRouterId
-    ∷ form (codes "network") OspfNetwork
-    ∷ form (codes "area * stub") StubArea
-    ∷ form (codes "passive-interface") PassiveInterface
-    ∷ form (codes "no passive-interface") NoPassiveInterface
-    ∷ form (codes "passive-interface default") PassiveInterfaceDefault
-    ∷ form (codes "auto-cost reference-bandwidth") ReferenceBandwidth
-    ∷ form (codes "redistribute connected") OspfRedistributeConnected
-    ∷ form (codes "redistribute static") OspfRedistributeStatic
-    ∷ form (codes "redistribute bgp") OspfRedistributeBgp
-    ∷ form (codes "default-information originate") DefaultInformationOriginate
+    form (codes "router-id") (Ospf RouterId)
+    ∷ form (codes "network") (Ospf Network)
+    ∷ form (codes "area * stub") (Ospf StubArea)
+    ∷ form (codes "passive-interface") (Ospf PassiveInterface)
+    ∷ form (codes "no passive-interface") (Ospf NoPassiveInterface)
+    ∷ form (codes "passive-interface default") (Ospf PassiveInterfaceDefault)
+    ∷ form (codes "auto-cost reference-bandwidth") (Ospf ReferenceBandwidth)
+    ∷ form (codes "redistribute connected") (Ospf RedistributeConnected)
+    ∷ form (codes "redistribute static") (Ospf RedistributeStatic)
+    ∷ form (codes "redistribute bgp") (Ospf RedistributeBgp)
+    ∷ form (codes "default-information originate") (Ospf DefaultInformationOriginate)
     ∷ []
 
 -- with these begin lines whose meaning is not modelled

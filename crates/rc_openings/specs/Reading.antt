@@ -49,14 +49,8 @@ behind_number (w ∷ ws) = if is_some (number_within 1 2147483647 w) then ws els
 
 -- the words that are a line's own: in the block of an access list those behind a sequence number
 abbrev pub own_words : Block → List (List ℕ) → List (List ℕ)
-own_words block.Closed line = line
-own_words block.Global line = line
-own_words block.Interface line = line
 own_words block.AccessList line = behind_number line
-own_words block.RouteMap line = line
-own_words block.Ospf line = line
-own_words block.Bgp line = line
-own_words block.Ignored line = line
+own_words at line = line
 
 -- an address of IPv6 is written with colons (RFC 4291 s.2.2), and one of IPv4 without any
 abbrev pub has_colon : List ℕ → Bool

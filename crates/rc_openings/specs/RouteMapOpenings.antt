@@ -1,24 +1,25 @@
 -- The openings of a line under `route-map`.
 use Rattle.std.specs.Prelude.{List, [], ◌∷◌, ◌++◌, codes}
-use Rattle.rc_openings.specs.declared.form.Form.TheVariants.{MatchAddress, MatchPrefixList, MatchCommunity, SetLocalPreference, SetMetric, SetMetricType1, SetMetricType2, SetWeight, SetOrigin, SetOriginIgp, SetOriginIncomplete, SetCommunity, PrependAsPath}
+use Rattle.rc_openings.specs.declared.form.Form.TheVariants.{MapEntry}
+use Rattle.rc_openings.specs.declared.form.MapEntryForm.TheVariants.{MatchAddress, MatchPrefixList, MatchCommunity, SetLocalPreference, SetMetric, SetMetricType1, SetMetricType2, SetWeight, SetOrigin, SetOriginIgp, SetOriginIncomplete, SetCommunity, PrependAsPath}
 use Rattle.rc_openings.specs.Opening.{Row, form, refused, ignored}
 
 -- with these begin the forms
 unfoldable pub route_map_forms : List Row
 route_map_forms =
-    form (codes "match ip address") MatchAddress
-    ∷ form (codes "match ip address prefix-list") MatchPrefixList
-    ∷ form (codes "match community") MatchCommunity
-    ∷ form (codes "set local-preference") SetLocalPreference
-    ∷ form (codes "set metric") SetMetric
-    ∷ form (codes "set metric-type type-1") SetMetricType1
-    ∷ form (codes "set metric-type type-2") SetMetricType2
-    ∷ form (codes "set weight") SetWeight
-    ∷ form (codes "set origin") SetOrigin
-    ∷ form (codes "set origin igp") SetOriginIgp
-    ∷ form (codes "set origin incomplete") SetOriginIncomplete
-    ∷ form (codes "set community") SetCommunity
-    ∷ form (codes "set as-path prepend") PrependAsPath
+    form (codes "match ip address") (MapEntry MatchAddress)
+    ∷ form (codes "match ip address prefix-list") (MapEntry MatchPrefixList)
+    ∷ form (codes "match community") (MapEntry MatchCommunity)
+    ∷ form (codes "set local-preference") (MapEntry SetLocalPreference)
+    ∷ form (codes "set metric") (MapEntry SetMetric)
+    ∷ form (codes "set metric-type type-1") (MapEntry SetMetricType1)
+    ∷ form (codes "set metric-type type-2") (MapEntry SetMetricType2)
+    ∷ form (codes "set weight") (MapEntry SetWeight)
+    ∷ form (codes "set origin") (MapEntry SetOrigin)
+    ∷ form (codes "set origin igp") (MapEntry SetOriginIgp)
+    ∷ form (codes "set origin incomplete") (MapEntry SetOriginIncomplete)
+    ∷ form (codes "set community") (MapEntry SetCommunity)
+    ∷ form (codes "set as-path prepend") (MapEntry PrependAsPath)
     ∷ []
 
 -- with these begin lines whose meaning is not modelled

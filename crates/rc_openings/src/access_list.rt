@@ -2,45 +2,38 @@
 ghost use Rattle.rc_openings.specs.Groups.{IsTable};
 ghost use Rattle.rc_openings.specs.AccessListOpenings.{access_list};
 
-use crate::table::{Index, Table};
-use crate::{Form, Opening, Verdict};
+use crate::table::{Index, Table, before, count, each_start, one, openings, starts};
+use crate::{AccessListForm, Form, Opening, Verdict};
 
-static ONE_WORD: [Opening; 6] = [
-    Opening {
-        text: b"deny",
-        verdict: Verdict::Form(Form::Deny),
-    },
-    Opening {
-        text: b"dynamic",
-        verdict: Verdict::Refused,
-    },
-    Opening {
-        text: b"evaluate",
-        verdict: Verdict::Refused,
-    },
-    Opening {
-        text: b"exit",
-        verdict: Verdict::Ignored,
-    },
-    Opening {
-        text: b"permit",
-        verdict: Verdict::Form(Form::Permit),
-    },
-    Opening {
-        text: b"remark",
-        verdict: Verdict::Form(Form::Remark),
-    },
-];
+/// The openings of one word, by its first letter.
+macro_rules! one_word {
+    ($make:ident) => {
+        $make! {
+            b'd' {
+                b"deny" => Verdict::Form(Form::AccessList(AccessListForm::Deny)),
+                b"dynamic" => Verdict::Refused,
+            }
+            b'e' {
+                b"evaluate" => Verdict::Refused,
+                b"exit" => Verdict::Ignored,
+            }
+            b'p' {
+                b"permit" => Verdict::Form(Form::AccessList(AccessListForm::Permit)),
+            }
+            b'r' {
+                b"remark" => Verdict::Form(Form::AccessList(AccessListForm::Remark)),
+            }
+        }
+    };
+}
 
-static ONE_WORD_STARTS: [u8; 59] = [
-    0, 0, 0, 0, 0, 0, 0, 0, 0, 0, 0, 0, 0, 0, 0, 0, 0, 0, 0, 0, 0, 0, 0, 0, 0, 0, 0, 0, 0, 0, 0, 0,
-    0, 0, 0, 0, 2, 4, 4, 4, 4, 4, 4, 4, 4, 4, 4, 4, 5, 5, 6, 6, 6, 6, 6, 6, 6, 6, 6,
-];
+const ONE_WORD_COUNT: usize = one_word!(count);
 
-static NO_STARTS: [u8; 59] = [
-    0, 0, 0, 0, 0, 0, 0, 0, 0, 0, 0, 0, 0, 0, 0, 0, 0, 0, 0, 0, 0, 0, 0, 0, 0, 0, 0, 0, 0, 0, 0, 0,
-    0, 0, 0, 0, 0, 0, 0, 0, 0, 0, 0, 0, 0, 0, 0, 0, 0, 0, 0, 0, 0, 0, 0, 0, 0, 0, 0,
-];
+static ONE_WORD: [Opening; ONE_WORD_COUNT] = one_word!(openings);
+
+static ONE_WORD_STARTS: [u8; 59] = one_word!(starts);
+
+static NO_STARTS: [u8; 59] = [0; 59];
 
 pub(crate) fn access_list_table() -> Table
     ensures { IsTable result access_list }

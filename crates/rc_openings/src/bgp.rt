@@ -2,173 +2,141 @@
 ghost use Rattle.rc_openings.specs.Groups.{IsTable};
 ghost use Rattle.rc_openings.specs.BgpOpenings.{bgp};
 
-use crate::table::{Index, Table};
-use crate::{Form, Opening, Verdict};
+use crate::table::{Index, Table, before, count, each_start, one, openings, starts};
+use crate::{BgpForm, Form, Opening, Verdict};
 
-static ONE_WORD: [Opening; 16] = [
-    Opening {
-        text: b"aggregate-address",
-        verdict: Verdict::Refused,
-    },
-    Opening {
-        text: b"address-family",
-        verdict: Verdict::Refused,
-    },
-    Opening {
-        text: b"bgp",
-        verdict: Verdict::Refused,
-    },
-    Opening {
-        text: b"distance",
-        verdict: Verdict::Refused,
-    },
-    Opening {
-        text: b"default-information",
-        verdict: Verdict::Refused,
-    },
-    Opening {
-        text: b"default-metric",
-        verdict: Verdict::Refused,
-    },
-    Opening {
-        text: b"exit-address-family",
-        verdict: Verdict::Refused,
-    },
-    Opening {
-        text: b"exit",
-        verdict: Verdict::Ignored,
-    },
-    Opening {
-        text: b"maximum-paths",
-        verdict: Verdict::Refused,
-    },
-    Opening {
-        text: b"network",
-        verdict: Verdict::Form(Form::BgpNetwork),
-    },
-    Opening {
-        text: b"neighbor",
-        verdict: Verdict::Refused,
-    },
-    Opening {
-        text: b"no",
-        verdict: Verdict::Ignored,
-    },
-    Opening {
-        text: b"redistribute",
-        verdict: Verdict::Refused,
-    },
-    Opening {
-        text: b"template",
-        verdict: Verdict::Refused,
-    },
-    Opening {
-        text: b"table-map",
-        verdict: Verdict::Refused,
-    },
-    Opening {
-        text: b"timers",
-        verdict: Verdict::Ignored,
-    },
-];
+/// The openings of one word, by its first letter.
+macro_rules! one_word {
+    ($make:ident) => {
+        $make! {
+            b'a' {
+                b"aggregate-address" => Verdict::Refused,
+                b"address-family" => Verdict::Refused,
+            }
+            b'b' {
+                b"bgp" => Verdict::Refused,
+            }
+            b'd' {
+                b"distance" => Verdict::Refused,
+                b"default-information" => Verdict::Refused,
+                b"default-metric" => Verdict::Refused,
+            }
+            b'e' {
+                b"exit-address-family" => Verdict::Refused,
+                b"exit" => Verdict::Ignored,
+            }
+            b'm' {
+                b"maximum-paths" => Verdict::Refused,
+            }
+            b'n' {
+                b"network" => Verdict::Form(Form::Bgp(BgpForm::Network)),
+                b"neighbor" => Verdict::Refused,
+                b"no" => Verdict::Ignored,
+            }
+            b'r' {
+                b"redistribute" => Verdict::Refused,
+            }
+            b't' {
+                b"template" => Verdict::Refused,
+                b"table-map" => Verdict::Refused,
+                b"timers" => Verdict::Ignored,
+            }
+        }
+    };
+}
 
-static ONE_WORD_STARTS: [u8; 59] = [
-    0, 0, 0, 0, 0, 0, 0, 0, 0, 0, 0, 0, 0, 0, 0, 0, 0, 0, 0, 0, 0, 0, 0, 0, 0, 0, 0, 0, 0, 0, 0, 0,
-    0, 2, 3, 3, 6, 8, 8, 8, 8, 8, 8, 8, 8, 9, 12, 12, 12, 12, 13, 13, 16, 16, 16, 16, 16, 16, 16,
-];
+const ONE_WORD_COUNT: usize = one_word!(count);
 
-static MORE_WORDS: [Opening; 10] = [
-    Opening {
-        text: b"no bgp default ipv4-unicast",
-        verdict: Verdict::Refused,
-    },
-    Opening {
-        text: b"bgp bestpath compare-routerid",
-        verdict: Verdict::Ignored,
-    },
-    Opening {
-        text: b"redistribute connected",
-        verdict: Verdict::Form(Form::BgpRedistributeConnected),
-    },
-    Opening {
-        text: b"bgp deterministic-med",
-        verdict: Verdict::Ignored,
-    },
-    Opening {
-        text: b"bgp graceful-restart",
-        verdict: Verdict::Ignored,
-    },
-    Opening {
-        text: b"bgp log-neighbor-changes",
-        verdict: Verdict::Ignored,
-    },
-    Opening {
-        text: b"no neighbor",
-        verdict: Verdict::Refused,
-    },
-    Opening {
-        text: b"redistribute ospf",
-        verdict: Verdict::Form(Form::BgpRedistributeOspf),
-    },
-    Opening {
-        text: b"bgp router-id",
-        verdict: Verdict::Form(Form::BgpRouterId),
-    },
-    Opening {
-        text: b"redistribute static",
-        verdict: Verdict::Form(Form::BgpRedistributeStatic),
-    },
-];
+static ONE_WORD: [Opening; ONE_WORD_COUNT] = one_word!(openings);
 
-static MORE_WORDS_STARTS: [u8; 59] = [
-    0, 0, 0, 0, 0, 0, 0, 0, 0, 0, 0, 0, 0, 0, 0, 0, 0, 0, 0, 0, 0, 0, 0, 0, 0, 0, 0, 0, 0, 0, 0, 0,
-    0, 0, 2, 3, 4, 4, 4, 5, 5, 5, 5, 5, 6, 6, 7, 8, 8, 8, 9, 10, 10, 10, 10, 10, 10, 10, 10,
-];
+static ONE_WORD_STARTS: [u8; 59] = one_word!(starts);
+
+/// The openings of more words, by the first letter of the second one.
+macro_rules! more_words {
+    ($make:ident) => {
+        $make! {
+            b'b' {
+                b"no bgp default ipv4-unicast" => Verdict::Refused,
+                b"bgp bestpath compare-routerid" => Verdict::Ignored,
+            }
+            b'c' {
+                b"redistribute connected" => Verdict::Form(Form::Bgp(BgpForm::RedistributeConnected)),
+            }
+            b'd' {
+                b"bgp deterministic-med" => Verdict::Ignored,
+            }
+            b'g' {
+                b"bgp graceful-restart" => Verdict::Ignored,
+            }
+            b'l' {
+                b"bgp log-neighbor-changes" => Verdict::Ignored,
+            }
+            b'n' {
+                b"no neighbor" => Verdict::Refused,
+            }
+            b'o' {
+                b"redistribute ospf" => Verdict::Form(Form::Bgp(BgpForm::RedistributeOspf)),
+            }
+            b'r' {
+                b"bgp router-id" => Verdict::Form(Form::Bgp(BgpForm::RouterId)),
+            }
+            b's' {
+                b"redistribute static" => Verdict::Form(Form::Bgp(BgpForm::RedistributeStatic)),
+            }
+        }
+    };
+}
+
+const MORE_WORDS_COUNT: usize = more_words!(count);
+
+static MORE_WORDS: [Opening; MORE_WORDS_COUNT] = more_words!(openings);
+
+static MORE_WORDS_STARTS: [u8; 59] = more_words!(starts);
 
 static STARRED: [Opening; 18] = [
     Opening {
         text: b"neighbor * remote-as",
-        verdict: Verdict::Form(Form::NeighborRemoteAs),
+        verdict: Verdict::Form(Form::Bgp(BgpForm::NeighborRemoteAs)),
     },
     Opening {
         text: b"neighbor * update-source",
-        verdict: Verdict::Form(Form::NeighborUpdateSource),
+        verdict: Verdict::Form(Form::Bgp(BgpForm::NeighborUpdateSource)),
     },
     Opening {
         text: b"neighbor * ebgp-multihop",
-        verdict: Verdict::Form(Form::NeighborEbgpMultihop),
+        verdict: Verdict::Form(Form::Bgp(BgpForm::NeighborEbgpMultihop)),
     },
     Opening {
         text: b"neighbor * next-hop-self",
-        verdict: Verdict::Form(Form::NeighborNextHopSelf),
+        verdict: Verdict::Form(Form::Bgp(BgpForm::NeighborNextHopSelf)),
     },
     Opening {
         text: b"neighbor * shutdown",
-        verdict: Verdict::Form(Form::NeighborShutdown),
+        verdict: Verdict::Form(Form::Bgp(BgpForm::NeighborShutdown)),
     },
     Opening {
         text: b"neighbor * default-originate",
-        verdict: Verdict::Form(Form::NeighborDefaultOriginate),
+        verdict: Verdict::Form(Form::Bgp(BgpForm::NeighborDefaultOriginate)),
     },
     Opening {
         text: b"neighbor * activate",
-        verdict: Verdict::Form(Form::NeighborActivate),
+        verdict: Verdict::Form(Form::Bgp(BgpForm::NeighborActivate)),
     },
     Opening {
         text: b"neighbor * send-community",
-        verdict: Verdict::Form(Form::NeighborSendCommunity),
+        verdict: Verdict::Form(Form::Bgp(BgpForm::NeighborSendCommunity)),
     },
     Opening {
         text: b"neighbor * route-map",
-        verdict: Verdict::Form(Form::NeighborRouteMap),
+        verdict: Verdict::Form(Form::Bgp(BgpForm::NeighborRouteMap)),
     },
     Opening {
         text: b"neighbor * prefix-list",
-        verdict: Verdict::Form(Form::NeighborPrefixList),
+        verdict: Verdict::Form(Form::Bgp(BgpForm::NeighborPrefixList)),
     },
     Opening {
         text: b"neighbor * weight",
-        verdict: Verdict::Form(Form::NeighborWeight),
+        verdict: Verdict::Form(Form::Bgp(BgpForm::NeighborWeight)),
     },
     Opening {
         text: b"neighbor * description",

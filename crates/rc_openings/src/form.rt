@@ -1,36 +1,34 @@
-//! The forms of lines, and the grammars that read them.
-ghost use Rattle.std.specs.Prelude.{◌≡◌};
-ghost use Rattle.rc_openings.specs.Forms.{grammar_of};
+//! The forms of lines: what a line may say, by the words that it begins with.
+//!
+//! There is one for each form opening of each kind of block. Where a choice of words follows at once, each of them makes an
+//! opening of its own, and so a form.
 
-/// What a line may say, by the words that it begins with: one for each form opening of each kind of block.
-///
-/// Where a choice of words follows at once, each of them makes an opening of its own, and so a form.
+/// The form of a line, with the grammar that reads it.
 #[derive(Clone, Copy)]
 pub enum Form {
+    General(GeneralForm),
+    Interface(InterfaceForm),
+    AccessList(AccessListForm),
+    Policy(PolicyForm),
+    MapEntry(MapEntryForm),
+    Ospf(OspfForm),
+    Bgp(BgpForm),
+}
+
+/// The forms of host names and static routes, and of the line that opens the block of an interface.
+#[derive(Clone, Copy)]
+pub enum GeneralForm {
     /// `hostname` with no indent.
     Hostname,
     /// `interface` with no indent.
     Interface,
-    /// `access-list` with no indent.
-    AccessList,
-    /// `ip access-list standard` with no indent.
-    StandardAccessList,
-    /// `ip access-list extended` with no indent.
-    ExtendedAccessList,
-    /// `ip prefix-list` with no indent.
-    PrefixList,
-    /// `ip community-list` with no indent.
-    CommunityList,
-    /// `ip community-list standard` with no indent.
-    StandardCommunityList,
-    /// `route-map` with no indent.
-    RouteMap,
     /// `ip route` with no indent.
     StaticRoute,
-    /// `router ospf` with no indent.
-    RouterOspf,
-    /// `router bgp` with no indent.
-    RouterBgp,
+}
+
+/// The forms of lines in the block of an interface.
+#[derive(Clone, Copy)]
+pub enum InterfaceForm {
     /// `ip address` under `interface`.
     IpAddress,
     /// `shutdown` under `interface`.
@@ -55,12 +53,41 @@ pub enum Form {
     OspfNetworkPointToPoint,
     /// `ip ospf * area` under `interface`.
     OspfArea,
+}
+
+/// The forms of access lists.
+#[derive(Clone, Copy)]
+pub enum AccessListForm {
+    /// `access-list` with no indent.
+    Numbered,
+    /// `ip access-list standard` with no indent.
+    Standard,
+    /// `ip access-list extended` with no indent.
+    Extended,
     /// `permit` under `ip access-list`.
     Permit,
     /// `deny` under `ip access-list`.
     Deny,
     /// `remark` under `ip access-list`.
     Remark,
+}
+
+/// The forms of prefix lists and community lists, and of the line that opens the block of an entry of a route map.
+#[derive(Clone, Copy)]
+pub enum PolicyForm {
+    /// `ip prefix-list` with no indent.
+    PrefixList,
+    /// `ip community-list` with no indent.
+    CommunityList,
+    /// `ip community-list standard` with no indent.
+    StandardCommunityList,
+    /// `route-map` with no indent.
+    RouteMap,
+}
+
+/// The forms of lines in the block of an entry of a route map.
+#[derive(Clone, Copy)]
+pub enum MapEntryForm {
     /// `match ip address` under `route-map`.
     MatchAddress,
     /// `match ip address prefix-list` under `route-map`.
@@ -87,10 +114,17 @@ pub enum Form {
     SetCommunity,
     /// `set as-path prepend` under `route-map`.
     PrependAsPath,
+}
+
+/// The forms of the OSPF process of a router.
+#[derive(Clone, Copy)]
+pub enum OspfForm {
+    /// `router ospf` with no indent.
+    RouterOspf,
     /// `router-id` under `router ospf`.
-    OspfRouterId,
+    RouterId,
     /// `network` under `router ospf`.
-    OspfNetwork,
+    Network,
     /// `area * stub` under `router ospf`.
     StubArea,
     /// `passive-interface` under `router ospf`.
@@ -102,17 +136,24 @@ pub enum Form {
     /// `auto-cost reference-bandwidth` under `router ospf`.
     ReferenceBandwidth,
     /// `redistribute connected` under `router ospf`.
-    OspfRedistributeConnected,
+    RedistributeConnected,
     /// `redistribute static` under `router ospf`.
-    OspfRedistributeStatic,
+    RedistributeStatic,
     /// `redistribute bgp` under `router ospf`.
-    OspfRedistributeBgp,
+    RedistributeBgp,
     /// `default-information originate` under `router ospf`.
     DefaultInformationOriginate,
+}
+
+/// The forms of the BGP process of a router.
+#[derive(Clone, Copy)]
+pub enum BgpForm {
+    /// `router bgp` with no indent.
+    RouterBgp,
     /// `bgp router-id` under `router bgp`.
-    BgpRouterId,
+    RouterId,
     /// `network` under `router bgp`.
-    BgpNetwork,
+    Network,
     /// `neighbor * remote-as` under `router bgp`.
     NeighborRemoteAs,
     /// `neighbor * update-source` under `router bgp`.
@@ -136,87 +177,9 @@ pub enum Form {
     /// `neighbor * weight` under `router bgp`.
     NeighborWeight,
     /// `redistribute connected` under `router bgp`.
-    BgpRedistributeConnected,
+    RedistributeConnected,
     /// `redistribute static` under `router bgp`.
-    BgpRedistributeStatic,
+    RedistributeStatic,
     /// `redistribute ospf` under `router bgp`.
-    BgpRedistributeOspf,
-}
-
-/// The grammars of lines: each reads the lines of its own forms.
-#[derive(Clone, Copy)]
-pub enum Grammar {
-    /// Host names, interfaces and static routes.
-    General,
-    /// Access lists.
-    AccessLists,
-    /// Prefix lists, community lists and route maps.
-    Policies,
-    /// The OSPF process of a router.
-    Ospf,
-    /// The BGP process of a router.
-    Bgp,
-}
-
-impl Form {
-    /// The grammar that reads the lines of the form.
-    pub fn grammar(self) -> Grammar
-        ensures { result ≡ grammar_of self }
-    {
-        match self {
-            Form::AccessList
-            | Form::StandardAccessList
-            | Form::ExtendedAccessList
-            | Form::Permit
-            | Form::Deny
-            | Form::Remark => Grammar::AccessLists,
-            Form::PrefixList
-            | Form::CommunityList
-            | Form::StandardCommunityList
-            | Form::RouteMap
-            | Form::MatchAddress
-            | Form::MatchPrefixList
-            | Form::MatchCommunity
-            | Form::SetLocalPreference
-            | Form::SetMetric
-            | Form::SetMetricType1
-            | Form::SetMetricType2
-            | Form::SetWeight
-            | Form::SetOrigin
-            | Form::SetOriginIgp
-            | Form::SetOriginIncomplete
-            | Form::SetCommunity
-            | Form::PrependAsPath => Grammar::Policies,
-            Form::RouterOspf
-            | Form::OspfRouterId
-            | Form::OspfNetwork
-            | Form::StubArea
-            | Form::PassiveInterface
-            | Form::NoPassiveInterface
-            | Form::PassiveInterfaceDefault
-            | Form::ReferenceBandwidth
-            | Form::OspfRedistributeConnected
-            | Form::OspfRedistributeStatic
-            | Form::OspfRedistributeBgp
-            | Form::DefaultInformationOriginate => Grammar::Ospf,
-            Form::RouterBgp
-            | Form::BgpRouterId
-            | Form::BgpNetwork
-            | Form::NeighborRemoteAs
-            | Form::NeighborUpdateSource
-            | Form::NeighborEbgpMultihop
-            | Form::NeighborNextHopSelf
-            | Form::NeighborShutdown
-            | Form::NeighborDefaultOriginate
-            | Form::NeighborActivate
-            | Form::NeighborSendCommunity
-            | Form::NeighborRouteMap
-            | Form::NeighborPrefixList
-            | Form::NeighborWeight
-            | Form::BgpRedistributeConnected
-            | Form::BgpRedistributeStatic
-            | Form::BgpRedistributeOspf => Grammar::Bgp,
-            _ => Grammar::General,
-        }
-    }
+    RedistributeOspf,
 }

@@ -2,614 +2,265 @@
 ghost use Rattle.rc_openings.specs.Groups.{IsTable};
 ghost use Rattle.rc_openings.specs.GlobalOpenings.{global};
 
-use crate::table::{Index, Table};
-use crate::{Form, Opening, Verdict};
+use crate::table::{Index, Table, before, count, each_start, one, openings, starts};
+use crate::{AccessListForm, BgpForm, Form, GeneralForm, Opening, OspfForm, PolicyForm, Verdict};
 
-static ONE_WORD: [Opening; 93] = [
-    Opening {
-        text: b"Building",
-        verdict: Verdict::Ignored,
-    },
-    Opening {
-        text: b"Current",
-        verdict: Verdict::Ignored,
-    },
-    Opening {
-        text: b"Using",
-        verdict: Verdict::Ignored,
-    },
-    Opening {
-        text: b"access-list",
-        verdict: Verdict::Form(Form::AccessList),
-    },
-    Opening {
-        text: b"aaa",
-        verdict: Verdict::Ignored,
-    },
-    Opening {
-        text: b"archive",
-        verdict: Verdict::Ignored,
-    },
-    Opening {
-        text: b"alias",
-        verdict: Verdict::Ignored,
-    },
-    Opening {
-        text: b"arp",
-        verdict: Verdict::Ignored,
-    },
-    Opening {
-        text: b"bridge",
-        verdict: Verdict::Refused,
-    },
-    Opening {
-        text: b"boot-start-marker",
-        verdict: Verdict::Ignored,
-    },
-    Opening {
-        text: b"boot-end-marker",
-        verdict: Verdict::Ignored,
-    },
-    Opening {
-        text: b"boot",
-        verdict: Verdict::Ignored,
-    },
-    Opening {
-        text: b"clock",
-        verdict: Verdict::Ignored,
-    },
-    Opening {
-        text: b"control-plane",
-        verdict: Verdict::Ignored,
-    },
-    Opening {
-        text: b"cdp",
-        verdict: Verdict::Ignored,
-    },
-    Opening {
-        text: b"crypto",
-        verdict: Verdict::Ignored,
-    },
-    Opening {
-        text: b"class-map",
-        verdict: Verdict::Ignored,
-    },
-    Opening {
-        text: b"card",
-        verdict: Verdict::Ignored,
-    },
-    Opening {
-        text: b"controller",
-        verdict: Verdict::Ignored,
-    },
-    Opening {
-        text: b"call-home",
-        verdict: Verdict::Ignored,
-    },
-    Opening {
-        text: b"dial-peer",
-        verdict: Verdict::Ignored,
-    },
-    Opening {
-        text: b"diagnostic",
-        verdict: Verdict::Ignored,
-    },
-    Opening {
-        text: b"enable",
-        verdict: Verdict::Ignored,
-    },
-    Opening {
-        text: b"exception",
-        verdict: Verdict::Ignored,
-    },
-    Opening {
-        text: b"errdisable",
-        verdict: Verdict::Ignored,
-    },
-    Opening {
-        text: b"event",
-        verdict: Verdict::Ignored,
-    },
-    Opening {
-        text: b"end",
-        verdict: Verdict::Ignored,
-    },
-    Opening {
-        text: b"exit",
-        verdict: Verdict::Ignored,
-    },
-    Opening {
-        text: b"file",
-        verdict: Verdict::Ignored,
-    },
-    Opening {
-        text: b"flow",
-        verdict: Verdict::Ignored,
-    },
-    Opening {
-        text: b"hostname",
-        verdict: Verdict::Form(Form::Hostname),
-    },
-    Opening {
-        text: b"hw-module",
-        verdict: Verdict::Ignored,
-    },
-    Opening {
-        text: b"interface",
-        verdict: Verdict::Form(Form::Interface),
-    },
-    Opening {
-        text: b"ipv6",
-        verdict: Verdict::Ignored,
-    },
-    Opening {
-        text: b"key",
-        verdict: Verdict::Ignored,
-    },
-    Opening {
-        text: b"kron",
-        verdict: Verdict::Ignored,
-    },
-    Opening {
-        text: b"line",
-        verdict: Verdict::Ignored,
-    },
-    Opening {
-        text: b"logging",
-        verdict: Verdict::Ignored,
-    },
-    Opening {
-        text: b"license",
-        verdict: Verdict::Ignored,
-    },
-    Opening {
-        text: b"lldp",
-        verdict: Verdict::Ignored,
-    },
-    Opening {
-        text: b"login",
-        verdict: Verdict::Ignored,
-    },
-    Opening {
-        text: b"lacp",
-        verdict: Verdict::Ignored,
-    },
-    Opening {
-        text: b"mpls",
-        verdict: Verdict::Refused,
-    },
-    Opening {
-        text: b"memory",
-        verdict: Verdict::Ignored,
-    },
-    Opening {
-        text: b"memory-size",
-        verdict: Verdict::Ignored,
-    },
-    Opening {
-        text: b"mmi",
-        verdict: Verdict::Ignored,
-    },
-    Opening {
-        text: b"mgcp",
-        verdict: Verdict::Ignored,
-    },
-    Opening {
-        text: b"multilink",
-        verdict: Verdict::Ignored,
-    },
-    Opening {
-        text: b"mac",
-        verdict: Verdict::Ignored,
-    },
-    Opening {
-        text: b"monitor",
-        verdict: Verdict::Ignored,
-    },
-    Opening {
-        text: b"ntp",
-        verdict: Verdict::Ignored,
-    },
-    Opening {
-        text: b"netconf",
-        verdict: Verdict::Ignored,
-    },
-    Opening {
-        text: b"no",
-        verdict: Verdict::Ignored,
-    },
-    Opening {
-        text: b"object-group",
-        verdict: Verdict::Refused,
-    },
-    Opening {
-        text: b"privilege",
-        verdict: Verdict::Ignored,
-    },
-    Opening {
-        text: b"policy-map",
-        verdict: Verdict::Ignored,
-    },
-    Opening {
-        text: b"parameter-map",
-        verdict: Verdict::Ignored,
-    },
-    Opening {
-        text: b"process",
-        verdict: Verdict::Ignored,
-    },
-    Opening {
-        text: b"parser",
-        verdict: Verdict::Ignored,
-    },
-    Opening {
-        text: b"platform",
-        verdict: Verdict::Ignored,
-    },
-    Opening {
-        text: b"port-channel",
-        verdict: Verdict::Ignored,
-    },
-    Opening {
-        text: b"route-map",
-        verdict: Verdict::Form(Form::RouteMap),
-    },
-    Opening {
-        text: b"router",
-        verdict: Verdict::Refused,
-    },
-    Opening {
-        text: b"redundancy",
-        verdict: Verdict::Ignored,
-    },
-    Opening {
-        text: b"radius",
-        verdict: Verdict::Ignored,
-    },
-    Opening {
-        text: b"radius-server",
-        verdict: Verdict::Ignored,
-    },
-    Opening {
-        text: b"restconf",
-        verdict: Verdict::Ignored,
-    },
-    Opening {
-        text: b"service",
-        verdict: Verdict::Ignored,
-    },
-    Opening {
-        text: b"sntp",
-        verdict: Verdict::Ignored,
-    },
-    Opening {
-        text: b"snmp-server",
-        verdict: Verdict::Ignored,
-    },
-    Opening {
-        text: b"scheduler",
-        verdict: Verdict::Ignored,
-    },
-    Opening {
-        text: b"spanning-tree",
-        verdict: Verdict::Ignored,
-    },
-    Opening {
-        text: b"security",
-        verdict: Verdict::Ignored,
-    },
-    Opening {
-        text: b"subscriber",
-        verdict: Verdict::Ignored,
-    },
-    Opening {
-        text: b"sdm",
-        verdict: Verdict::Ignored,
-    },
-    Opening {
-        text: b"switch",
-        verdict: Verdict::Ignored,
-    },
-    Opening {
-        text: b"track",
-        verdict: Verdict::Refused,
-    },
-    Opening {
-        text: b"time-range",
-        verdict: Verdict::Refused,
-    },
-    Opening {
-        text: b"transceiver",
-        verdict: Verdict::Ignored,
-    },
-    Opening {
-        text: b"tacacs",
-        verdict: Verdict::Ignored,
-    },
-    Opening {
-        text: b"tacacs-server",
-        verdict: Verdict::Ignored,
-    },
-    Opening {
-        text: b"transport",
-        verdict: Verdict::Ignored,
-    },
-    Opening {
-        text: b"username",
-        verdict: Verdict::Ignored,
-    },
-    Opening {
-        text: b"udld",
-        verdict: Verdict::Ignored,
-    },
-    Opening {
-        text: b"vrf",
-        verdict: Verdict::Refused,
-    },
-    Opening {
-        text: b"version",
-        verdict: Verdict::Ignored,
-    },
-    Opening {
-        text: b"vtp",
-        verdict: Verdict::Ignored,
-    },
-    Opening {
-        text: b"vlan",
-        verdict: Verdict::Ignored,
-    },
-    Opening {
-        text: b"voice",
-        verdict: Verdict::Ignored,
-    },
-    Opening {
-        text: b"voice-card",
-        verdict: Verdict::Ignored,
-    },
-    Opening {
-        text: b"wsma",
-        verdict: Verdict::Ignored,
-    },
-    Opening {
-        text: b"zone",
-        verdict: Verdict::Refused,
-    },
-    Opening {
-        text: b"zone-pair",
-        verdict: Verdict::Refused,
-    },
-];
+/// The openings of one word, by its first letter.
+macro_rules! one_word {
+    ($make:ident) => {
+        $make! {
+            b'B' {
+                b"Building" => Verdict::Ignored,
+            }
+            b'C' {
+                b"Current" => Verdict::Ignored,
+            }
+            b'U' {
+                b"Using" => Verdict::Ignored,
+            }
+            b'a' {
+                b"access-list" => Verdict::Form(Form::AccessList(AccessListForm::Numbered)),
+                b"aaa" => Verdict::Ignored,
+                b"archive" => Verdict::Ignored,
+                b"alias" => Verdict::Ignored,
+                b"arp" => Verdict::Ignored,
+            }
+            b'b' {
+                b"bridge" => Verdict::Refused,
+                b"boot-start-marker" => Verdict::Ignored,
+                b"boot-end-marker" => Verdict::Ignored,
+                b"boot" => Verdict::Ignored,
+            }
+            b'c' {
+                b"clock" => Verdict::Ignored,
+                b"control-plane" => Verdict::Ignored,
+                b"cdp" => Verdict::Ignored,
+                b"crypto" => Verdict::Ignored,
+                b"class-map" => Verdict::Ignored,
+                b"card" => Verdict::Ignored,
+                b"controller" => Verdict::Ignored,
+                b"call-home" => Verdict::Ignored,
+            }
+            b'd' {
+                b"dial-peer" => Verdict::Ignored,
+                b"diagnostic" => Verdict::Ignored,
+            }
+            b'e' {
+                b"enable" => Verdict::Ignored,
+                b"exception" => Verdict::Ignored,
+                b"errdisable" => Verdict::Ignored,
+                b"event" => Verdict::Ignored,
+                b"end" => Verdict::Ignored,
+                b"exit" => Verdict::Ignored,
+            }
+            b'f' {
+                b"file" => Verdict::Ignored,
+                b"flow" => Verdict::Ignored,
+            }
+            b'h' {
+                b"hostname" => Verdict::Form(Form::General(GeneralForm::Hostname)),
+                b"hw-module" => Verdict::Ignored,
+            }
+            b'i' {
+                b"interface" => Verdict::Form(Form::General(GeneralForm::Interface)),
+                b"ipv6" => Verdict::Ignored,
+            }
+            b'k' {
+                b"key" => Verdict::Ignored,
+                b"kron" => Verdict::Ignored,
+            }
+            b'l' {
+                b"line" => Verdict::Ignored,
+                b"logging" => Verdict::Ignored,
+                b"license" => Verdict::Ignored,
+                b"lldp" => Verdict::Ignored,
+                b"login" => Verdict::Ignored,
+                b"lacp" => Verdict::Ignored,
+            }
+            b'm' {
+                b"mpls" => Verdict::Refused,
+                b"memory" => Verdict::Ignored,
+                b"memory-size" => Verdict::Ignored,
+                b"mmi" => Verdict::Ignored,
+                b"mgcp" => Verdict::Ignored,
+                b"multilink" => Verdict::Ignored,
+                b"mac" => Verdict::Ignored,
+                b"monitor" => Verdict::Ignored,
+            }
+            b'n' {
+                b"ntp" => Verdict::Ignored,
+                b"netconf" => Verdict::Ignored,
+                b"no" => Verdict::Ignored,
+            }
+            b'o' {
+                b"object-group" => Verdict::Refused,
+            }
+            b'p' {
+                b"privilege" => Verdict::Ignored,
+                b"policy-map" => Verdict::Ignored,
+                b"parameter-map" => Verdict::Ignored,
+                b"process" => Verdict::Ignored,
+                b"parser" => Verdict::Ignored,
+                b"platform" => Verdict::Ignored,
+                b"port-channel" => Verdict::Ignored,
+            }
+            b'r' {
+                b"route-map" => Verdict::Form(Form::Policy(PolicyForm::RouteMap)),
+                b"router" => Verdict::Refused,
+                b"redundancy" => Verdict::Ignored,
+                b"radius" => Verdict::Ignored,
+                b"radius-server" => Verdict::Ignored,
+                b"restconf" => Verdict::Ignored,
+            }
+            b's' {
+                b"service" => Verdict::Ignored,
+                b"sntp" => Verdict::Ignored,
+                b"snmp-server" => Verdict::Ignored,
+                b"scheduler" => Verdict::Ignored,
+                b"spanning-tree" => Verdict::Ignored,
+                b"security" => Verdict::Ignored,
+                b"subscriber" => Verdict::Ignored,
+                b"sdm" => Verdict::Ignored,
+                b"switch" => Verdict::Ignored,
+            }
+            b't' {
+                b"track" => Verdict::Refused,
+                b"time-range" => Verdict::Refused,
+                b"transceiver" => Verdict::Ignored,
+                b"tacacs" => Verdict::Ignored,
+                b"tacacs-server" => Verdict::Ignored,
+                b"transport" => Verdict::Ignored,
+            }
+            b'u' {
+                b"username" => Verdict::Ignored,
+                b"udld" => Verdict::Ignored,
+            }
+            b'v' {
+                b"vrf" => Verdict::Refused,
+                b"version" => Verdict::Ignored,
+                b"vtp" => Verdict::Ignored,
+                b"vlan" => Verdict::Ignored,
+                b"voice" => Verdict::Ignored,
+                b"voice-card" => Verdict::Ignored,
+            }
+            b'w' {
+                b"wsma" => Verdict::Ignored,
+            }
+            b'z' {
+                b"zone" => Verdict::Refused,
+                b"zone-pair" => Verdict::Refused,
+            }
+        }
+    };
+}
 
-static ONE_WORD_STARTS: [u8; 59] = [
-    0, 0, 1, 2, 2, 2, 2, 2, 2, 2, 2, 2, 2, 2, 2, 2, 2, 2, 2, 2, 2, 3, 3, 3, 3, 3, 3, 3, 3, 3, 3, 3,
-    3, 8, 12, 20, 22, 28, 30, 30, 32, 34, 34, 36, 42, 50, 53, 54, 61, 61, 67, 76, 82, 84, 90, 91,
-    91, 91, 93,
-];
+const ONE_WORD_COUNT: usize = one_word!(count);
 
-static MORE_WORDS: [Opening; 54] = [
-    Opening {
-        text: b"ip access-list standard",
-        verdict: Verdict::Form(Form::StandardAccessList),
-    },
-    Opening {
-        text: b"ip access-list extended",
-        verdict: Verdict::Form(Form::ExtendedAccessList),
-    },
-    Opening {
-        text: b"ip access-list",
-        verdict: Verdict::Refused,
-    },
-    Opening {
-        text: b"ip as-path",
-        verdict: Verdict::Ignored,
-    },
-    Opening {
-        text: b"router bgp",
-        verdict: Verdict::Form(Form::RouterBgp),
-    },
-    Opening {
-        text: b"ip bgp-community",
-        verdict: Verdict::Ignored,
-    },
-    Opening {
-        text: b"ip community-list",
-        verdict: Verdict::Form(Form::CommunityList),
-    },
-    Opening {
-        text: b"ip community-list standard",
-        verdict: Verdict::Form(Form::StandardCommunityList),
-    },
-    Opening {
-        text: b"ip community-list expanded",
-        verdict: Verdict::Refused,
-    },
-    Opening {
-        text: b"ip cef",
-        verdict: Verdict::Ignored,
-    },
-    Opening {
-        text: b"ip classless",
-        verdict: Verdict::Ignored,
-    },
-    Opening {
-        text: b"ip default-network",
-        verdict: Verdict::Refused,
-    },
-    Opening {
-        text: b"ip domain",
-        verdict: Verdict::Ignored,
-    },
-    Opening {
-        text: b"ip domain-name",
-        verdict: Verdict::Ignored,
-    },
-    Opening {
-        text: b"ip domain-lookup",
-        verdict: Verdict::Ignored,
-    },
-    Opening {
-        text: b"ip dhcp",
-        verdict: Verdict::Ignored,
-    },
-    Opening {
-        text: b"ip default-gateway",
-        verdict: Verdict::Ignored,
-    },
-    Opening {
-        text: b"ip extcommunity-list",
-        verdict: Verdict::Ignored,
-    },
-    Opening {
-        text: b"ip ftp",
-        verdict: Verdict::Ignored,
-    },
-    Opening {
-        text: b"ip forward-protocol",
-        verdict: Verdict::Ignored,
-    },
-    Opening {
-        text: b"ip finger",
-        verdict: Verdict::Ignored,
-    },
-    Opening {
-        text: b"ip flow-export",
-        verdict: Verdict::Ignored,
-    },
-    Opening {
-        text: b"ip flow-cache",
-        verdict: Verdict::Ignored,
-    },
-    Opening {
-        text: b"ip http",
-        verdict: Verdict::Ignored,
-    },
-    Opening {
-        text: b"ip host",
-        verdict: Verdict::Ignored,
-    },
-    Opening {
-        text: b"ip inspect",
-        verdict: Verdict::Refused,
-    },
-    Opening {
-        text: b"no ip routing",
-        verdict: Verdict::Refused,
-    },
-    Opening {
-        text: b"no ip classless",
-        verdict: Verdict::Refused,
-    },
-    Opening {
-        text: b"ip icmp",
-        verdict: Verdict::Ignored,
-    },
-    Opening {
-        text: b"ip local",
-        verdict: Verdict::Refused,
-    },
-    Opening {
-        text: b"ip multicast-routing",
-        verdict: Verdict::Ignored,
-    },
-    Opening {
-        text: b"ip mroute",
-        verdict: Verdict::Ignored,
-    },
-    Opening {
-        text: b"ip nat",
-        verdict: Verdict::Refused,
-    },
-    Opening {
-        text: b"ip name-server",
-        verdict: Verdict::Ignored,
-    },
-    Opening {
-        text: b"router ospf",
-        verdict: Verdict::Form(Form::RouterOspf),
-    },
-    Opening {
-        text: b"ip options",
-        verdict: Verdict::Ignored,
-    },
-    Opening {
-        text: b"ip prefix-list",
-        verdict: Verdict::Form(Form::PrefixList),
-    },
-    Opening {
-        text: b"ip pim",
-        verdict: Verdict::Ignored,
-    },
-    Opening {
-        text: b"ip prefix-list * description",
-        verdict: Verdict::Ignored,
-    },
-    Opening {
-        text: b"ip prefix-list sequence-number",
-        verdict: Verdict::Ignored,
-    },
-    Opening {
-        text: b"ip route",
-        verdict: Verdict::Form(Form::StaticRoute),
-    },
-    Opening {
-        text: b"ip route vrf",
-        verdict: Verdict::Refused,
-    },
-    Opening {
-        text: b"ip rcmd",
-        verdict: Verdict::Ignored,
-    },
-    Opening {
-        text: b"ip radius",
-        verdict: Verdict::Ignored,
-    },
-    Opening {
-        text: b"ip routing",
-        verdict: Verdict::Ignored,
-    },
-    Opening {
-        text: b"ip ssh",
-        verdict: Verdict::Ignored,
-    },
-    Opening {
-        text: b"ip scp",
-        verdict: Verdict::Ignored,
-    },
-    Opening {
-        text: b"ip subnet-zero",
-        verdict: Verdict::Ignored,
-    },
-    Opening {
-        text: b"ip source-route",
-        verdict: Verdict::Ignored,
-    },
-    Opening {
-        text: b"ip sla",
-        verdict: Verdict::Ignored,
-    },
-    Opening {
-        text: b"ip tftp",
-        verdict: Verdict::Ignored,
-    },
-    Opening {
-        text: b"ip tcp",
-        verdict: Verdict::Ignored,
-    },
-    Opening {
-        text: b"ip tacacs",
-        verdict: Verdict::Ignored,
-    },
-    Opening {
-        text: b"ip vrf",
-        verdict: Verdict::Refused,
-    },
-];
+static ONE_WORD: [Opening; ONE_WORD_COUNT] = one_word!(openings);
 
-static MORE_WORDS_STARTS: [u8; 59] = [
-    0, 0, 0, 0, 0, 0, 0, 0, 0, 0, 0, 0, 0, 0, 0, 0, 0, 0, 0, 0, 0, 0, 0, 0, 0, 0, 0, 0, 0, 0, 0, 0,
-    0, 4, 6, 11, 17, 18, 23, 23, 25, 29, 29, 29, 30, 32, 34, 36, 40, 40, 45, 50, 53, 53, 54, 54,
-    54, 54, 54,
-];
+static ONE_WORD_STARTS: [u8; 59] = one_word!(starts);
+
+/// The openings of more words, by the first letter of the second one.
+macro_rules! more_words {
+    ($make:ident) => {
+        $make! {
+            b'a' {
+                b"ip access-list standard" => Verdict::Form(Form::AccessList(AccessListForm::Standard)),
+                b"ip access-list extended" => Verdict::Form(Form::AccessList(AccessListForm::Extended)),
+                b"ip access-list" => Verdict::Refused,
+                b"ip as-path" => Verdict::Ignored,
+            }
+            b'b' {
+                b"router bgp" => Verdict::Form(Form::Bgp(BgpForm::RouterBgp)),
+                b"ip bgp-community" => Verdict::Ignored,
+            }
+            b'c' {
+                b"ip community-list" => Verdict::Form(Form::Policy(PolicyForm::CommunityList)),
+                b"ip community-list standard" => Verdict::Form(Form::Policy(PolicyForm::StandardCommunityList)),
+                b"ip community-list expanded" => Verdict::Refused,
+                b"ip cef" => Verdict::Ignored,
+                b"ip classless" => Verdict::Ignored,
+            }
+            b'd' {
+                b"ip default-network" => Verdict::Refused,
+                b"ip domain" => Verdict::Ignored,
+                b"ip domain-name" => Verdict::Ignored,
+                b"ip domain-lookup" => Verdict::Ignored,
+                b"ip dhcp" => Verdict::Ignored,
+                b"ip default-gateway" => Verdict::Ignored,
+            }
+            b'e' {
+                b"ip extcommunity-list" => Verdict::Ignored,
+            }
+            b'f' {
+                b"ip ftp" => Verdict::Ignored,
+                b"ip forward-protocol" => Verdict::Ignored,
+                b"ip finger" => Verdict::Ignored,
+                b"ip flow-export" => Verdict::Ignored,
+                b"ip flow-cache" => Verdict::Ignored,
+            }
+            b'h' {
+                b"ip http" => Verdict::Ignored,
+                b"ip host" => Verdict::Ignored,
+            }
+            b'i' {
+                b"ip inspect" => Verdict::Refused,
+                b"no ip routing" => Verdict::Refused,
+                b"no ip classless" => Verdict::Refused,
+                b"ip icmp" => Verdict::Ignored,
+            }
+            b'l' {
+                b"ip local" => Verdict::Refused,
+            }
+            b'm' {
+                b"ip multicast-routing" => Verdict::Ignored,
+                b"ip mroute" => Verdict::Ignored,
+            }
+            b'n' {
+                b"ip nat" => Verdict::Refused,
+                b"ip name-server" => Verdict::Ignored,
+            }
+            b'o' {
+                b"router ospf" => Verdict::Form(Form::Ospf(OspfForm::RouterOspf)),
+                b"ip options" => Verdict::Ignored,
+            }
+            b'p' {
+                b"ip prefix-list" => Verdict::Form(Form::Policy(PolicyForm::PrefixList)),
+                b"ip pim" => Verdict::Ignored,
+                b"ip prefix-list * description" => Verdict::Ignored,
+                b"ip prefix-list sequence-number" => Verdict::Ignored,
+            }
+            b'r' {
+                b"ip route" => Verdict::Form(Form::General(GeneralForm::StaticRoute)),
+                b"ip route vrf" => Verdict::Refused,
+                b"ip rcmd" => Verdict::Ignored,
+                b"ip radius" => Verdict::Ignored,
+                b"ip routing" => Verdict::Ignored,
+            }
+            b's' {
+                b"ip ssh" => Verdict::Ignored,
+                b"ip scp" => Verdict::Ignored,
+                b"ip subnet-zero" => Verdict::Ignored,
+                b"ip source-route" => Verdict::Ignored,
+                b"ip sla" => Verdict::Ignored,
+            }
+            b't' {
+                b"ip tftp" => Verdict::Ignored,
+                b"ip tcp" => Verdict::Ignored,
+                b"ip tacacs" => Verdict::Ignored,
+            }
+            b'v' {
+                b"ip vrf" => Verdict::Refused,
+            }
+        }
+    };
+}
+
+const MORE_WORDS_COUNT: usize = more_words!(count);
+
+static MORE_WORDS: [Opening; MORE_WORDS_COUNT] = more_words!(openings);
+
+static MORE_WORDS_STARTS: [u8; 59] = more_words!(starts);
 
 pub(crate) fn global_table() -> Table
     ensures { IsTable result global }

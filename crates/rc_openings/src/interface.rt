@@ -2,402 +2,202 @@
 ghost use Rattle.rc_openings.specs.Groups.{IsTable};
 ghost use Rattle.rc_openings.specs.InterfaceOpenings.{interface};
 
-use crate::table::{Index, Table};
-use crate::{Form, Opening, Verdict};
+use crate::table::{Index, Table, before, count, each_start, one, openings, starts};
+use crate::{Form, InterfaceForm, Opening, Verdict};
 
-static ONE_WORD: [Opening; 52] = [
-    Opening {
-        text: b"arp",
-        verdict: Verdict::Ignored,
-    },
-    Opening {
-        text: b"auto",
-        verdict: Verdict::Ignored,
-    },
-    Opening {
-        text: b"bandwidth",
-        verdict: Verdict::Form(Form::Bandwidth),
-    },
-    Opening {
-        text: b"bridge-group",
-        verdict: Verdict::Refused,
-    },
-    Opening {
-        text: b"backup",
-        verdict: Verdict::Refused,
-    },
-    Opening {
-        text: b"bfd",
-        verdict: Verdict::Ignored,
-    },
-    Opening {
-        text: b"clock",
-        verdict: Verdict::Ignored,
-    },
-    Opening {
-        text: b"cdp",
-        verdict: Verdict::Ignored,
-    },
-    Opening {
-        text: b"channel-group",
-        verdict: Verdict::Ignored,
-    },
-    Opening {
-        text: b"carrier-delay",
-        verdict: Verdict::Ignored,
-    },
-    Opening {
-        text: b"description",
-        verdict: Verdict::Ignored,
-    },
-    Opening {
-        text: b"duplex",
-        verdict: Verdict::Ignored,
-    },
-    Opening {
-        text: b"delay",
-        verdict: Verdict::Ignored,
-    },
-    Opening {
-        text: b"encapsulation",
-        verdict: Verdict::Ignored,
-    },
-    Opening {
-        text: b"exit",
-        verdict: Verdict::Ignored,
-    },
-    Opening {
-        text: b"fair-queue",
-        verdict: Verdict::Ignored,
-    },
-    Opening {
-        text: b"glbp",
-        verdict: Verdict::Refused,
-    },
-    Opening {
-        text: b"hold-queue",
-        verdict: Verdict::Ignored,
-    },
-    Opening {
-        text: b"ipv6",
-        verdict: Verdict::Ignored,
-    },
-    Opening {
-        text: b"keepalive",
-        verdict: Verdict::Ignored,
-    },
-    Opening {
-        text: b"lldp",
-        verdict: Verdict::Ignored,
-    },
-    Opening {
-        text: b"load-interval",
-        verdict: Verdict::Ignored,
-    },
-    Opening {
-        text: b"logging",
-        verdict: Verdict::Ignored,
-    },
-    Opening {
-        text: b"lacp",
-        verdict: Verdict::Ignored,
-    },
-    Opening {
-        text: b"mpls",
-        verdict: Verdict::Refused,
-    },
-    Opening {
-        text: b"media-type",
-        verdict: Verdict::Ignored,
-    },
-    Opening {
-        text: b"mtu",
-        verdict: Verdict::Ignored,
-    },
-    Opening {
-        text: b"max-reserved-bandwidth",
-        verdict: Verdict::Ignored,
-    },
-    Opening {
-        text: b"mls",
-        verdict: Verdict::Ignored,
-    },
-    Opening {
-        text: b"mop",
-        verdict: Verdict::Ignored,
-    },
-    Opening {
-        text: b"negotiation",
-        verdict: Verdict::Ignored,
-    },
-    Opening {
-        text: b"ntp",
-        verdict: Verdict::Ignored,
-    },
-    Opening {
-        text: b"no",
-        verdict: Verdict::Ignored,
-    },
-    Opening {
-        text: b"power",
-        verdict: Verdict::Ignored,
-    },
-    Opening {
-        text: b"ppp",
-        verdict: Verdict::Ignored,
-    },
-    Opening {
-        text: b"random-detect",
-        verdict: Verdict::Ignored,
-    },
-    Opening {
-        text: b"shutdown",
-        verdict: Verdict::Form(Form::Shutdown),
-    },
-    Opening {
-        text: b"standby",
-        verdict: Verdict::Refused,
-    },
-    Opening {
-        text: b"switchport",
-        verdict: Verdict::Refused,
-    },
-    Opening {
-        text: b"speed",
-        verdict: Verdict::Ignored,
-    },
-    Opening {
-        text: b"service-policy",
-        verdict: Verdict::Ignored,
-    },
-    Opening {
-        text: b"snmp",
-        verdict: Verdict::Ignored,
-    },
-    Opening {
-        text: b"spanning-tree",
-        verdict: Verdict::Ignored,
-    },
-    Opening {
-        text: b"storm-control",
-        verdict: Verdict::Ignored,
-    },
-    Opening {
-        text: b"serial",
-        verdict: Verdict::Ignored,
-    },
-    Opening {
-        text: b"tunnel",
-        verdict: Verdict::Refused,
-    },
-    Opening {
-        text: b"tx-ring-limit",
-        verdict: Verdict::Ignored,
-    },
-    Opening {
-        text: b"udld",
-        verdict: Verdict::Ignored,
-    },
-    Opening {
-        text: b"vrf",
-        verdict: Verdict::Refused,
-    },
-    Opening {
-        text: b"vrrp",
-        verdict: Verdict::Refused,
-    },
-    Opening {
-        text: b"xconnect",
-        verdict: Verdict::Refused,
-    },
-    Opening {
-        text: b"zone-member",
-        verdict: Verdict::Refused,
-    },
-];
+/// The openings of one word, by its first letter.
+macro_rules! one_word {
+    ($make:ident) => {
+        $make! {
+            b'a' {
+                b"arp" => Verdict::Ignored,
+                b"auto" => Verdict::Ignored,
+            }
+            b'b' {
+                b"bandwidth" => Verdict::Form(Form::Interface(InterfaceForm::Bandwidth)),
+                b"bridge-group" => Verdict::Refused,
+                b"backup" => Verdict::Refused,
+                b"bfd" => Verdict::Ignored,
+            }
+            b'c' {
+                b"clock" => Verdict::Ignored,
+                b"cdp" => Verdict::Ignored,
+                b"channel-group" => Verdict::Ignored,
+                b"carrier-delay" => Verdict::Ignored,
+            }
+            b'd' {
+                b"description" => Verdict::Ignored,
+                b"duplex" => Verdict::Ignored,
+                b"delay" => Verdict::Ignored,
+            }
+            b'e' {
+                b"encapsulation" => Verdict::Ignored,
+                b"exit" => Verdict::Ignored,
+            }
+            b'f' {
+                b"fair-queue" => Verdict::Ignored,
+            }
+            b'g' {
+                b"glbp" => Verdict::Refused,
+            }
+            b'h' {
+                b"hold-queue" => Verdict::Ignored,
+            }
+            b'i' {
+                b"ipv6" => Verdict::Ignored,
+            }
+            b'k' {
+                b"keepalive" => Verdict::Ignored,
+            }
+            b'l' {
+                b"lldp" => Verdict::Ignored,
+                b"load-interval" => Verdict::Ignored,
+                b"logging" => Verdict::Ignored,
+                b"lacp" => Verdict::Ignored,
+            }
+            b'm' {
+                b"mpls" => Verdict::Refused,
+                b"media-type" => Verdict::Ignored,
+                b"mtu" => Verdict::Ignored,
+                b"max-reserved-bandwidth" => Verdict::Ignored,
+                b"mls" => Verdict::Ignored,
+                b"mop" => Verdict::Ignored,
+            }
+            b'n' {
+                b"negotiation" => Verdict::Ignored,
+                b"ntp" => Verdict::Ignored,
+                b"no" => Verdict::Ignored,
+            }
+            b'p' {
+                b"power" => Verdict::Ignored,
+                b"ppp" => Verdict::Ignored,
+            }
+            b'r' {
+                b"random-detect" => Verdict::Ignored,
+            }
+            b's' {
+                b"shutdown" => Verdict::Form(Form::Interface(InterfaceForm::Shutdown)),
+                b"standby" => Verdict::Refused,
+                b"switchport" => Verdict::Refused,
+                b"speed" => Verdict::Ignored,
+                b"service-policy" => Verdict::Ignored,
+                b"snmp" => Verdict::Ignored,
+                b"spanning-tree" => Verdict::Ignored,
+                b"storm-control" => Verdict::Ignored,
+                b"serial" => Verdict::Ignored,
+            }
+            b't' {
+                b"tunnel" => Verdict::Refused,
+                b"tx-ring-limit" => Verdict::Ignored,
+            }
+            b'u' {
+                b"udld" => Verdict::Ignored,
+            }
+            b'v' {
+                b"vrf" => Verdict::Refused,
+                b"vrrp" => Verdict::Refused,
+            }
+            b'x' {
+                b"xconnect" => Verdict::Refused,
+            }
+            b'z' {
+                b"zone-member" => Verdict::Refused,
+            }
+        }
+    };
+}
 
-static ONE_WORD_STARTS: [u8; 59] = [
-    0, 0, 0, 0, 0, 0, 0, 0, 0, 0, 0, 0, 0, 0, 0, 0, 0, 0, 0, 0, 0, 0, 0, 0, 0, 0, 0, 0, 0, 0, 0, 0,
-    0, 2, 6, 10, 13, 15, 16, 17, 18, 19, 19, 20, 24, 30, 33, 33, 35, 35, 36, 45, 47, 48, 50, 50,
-    51, 51, 52,
-];
+const ONE_WORD_COUNT: usize = one_word!(count);
 
-static MORE_WORDS: [Opening; 42] = [
-    Opening {
-        text: b"ip address",
-        verdict: Verdict::Form(Form::IpAddress),
-    },
-    Opening {
-        text: b"ip access-group",
-        verdict: Verdict::Form(Form::AccessGroup),
-    },
-    Opening {
-        text: b"ip address dhcp",
-        verdict: Verdict::Refused,
-    },
-    Opening {
-        text: b"ip address negotiated",
-        verdict: Verdict::Refused,
-    },
-    Opening {
-        text: b"ip accounting",
-        verdict: Verdict::Ignored,
-    },
-    Opening {
-        text: b"ip directed-broadcast",
-        verdict: Verdict::Ignored,
-    },
-    Opening {
-        text: b"ip flow",
-        verdict: Verdict::Ignored,
-    },
-    Opening {
-        text: b"ip helper-address",
-        verdict: Verdict::Ignored,
-    },
-    Opening {
-        text: b"ip inspect",
-        verdict: Verdict::Refused,
-    },
-    Opening {
-        text: b"ip igmp",
-        verdict: Verdict::Ignored,
-    },
-    Opening {
-        text: b"ip load-sharing",
-        verdict: Verdict::Ignored,
-    },
-    Opening {
-        text: b"crypto map",
-        verdict: Verdict::Refused,
-    },
-    Opening {
-        text: b"ip mtu",
-        verdict: Verdict::Ignored,
-    },
-    Opening {
-        text: b"ip nat",
-        verdict: Verdict::Refused,
-    },
-    Opening {
-        text: b"ip nbar",
-        verdict: Verdict::Ignored,
-    },
-    Opening {
-        text: b"ip ospf cost",
-        verdict: Verdict::Form(Form::OspfCost),
-    },
-    Opening {
-        text: b"ip ospf hello-interval",
-        verdict: Verdict::Form(Form::OspfHelloInterval),
-    },
-    Opening {
-        text: b"ip ospf dead-interval",
-        verdict: Verdict::Form(Form::OspfDeadInterval),
-    },
-    Opening {
-        text: b"ip ospf network",
-        verdict: Verdict::Form(Form::OspfNetworkType),
-    },
-    Opening {
-        text: b"ip ospf network broadcast",
-        verdict: Verdict::Form(Form::OspfNetworkBroadcast),
-    },
-    Opening {
-        text: b"ip ospf network point-to-point",
-        verdict: Verdict::Form(Form::OspfNetworkPointToPoint),
-    },
-    Opening {
-        text: b"ip ospf * area",
-        verdict: Verdict::Form(Form::OspfArea),
-    },
-    Opening {
-        text: b"ip ospf",
-        verdict: Verdict::Refused,
-    },
-    Opening {
-        text: b"ip ospf priority",
-        verdict: Verdict::Ignored,
-    },
-    Opening {
-        text: b"ip ospf mtu-ignore",
-        verdict: Verdict::Ignored,
-    },
-    Opening {
-        text: b"ip ospf bfd",
-        verdict: Verdict::Ignored,
-    },
-    Opening {
-        text: b"ip ospf retransmit-interval",
-        verdict: Verdict::Ignored,
-    },
-    Opening {
-        text: b"ip ospf transmit-delay",
-        verdict: Verdict::Ignored,
-    },
-    Opening {
-        text: b"ip ospf flood-reduction",
-        verdict: Verdict::Ignored,
-    },
-    Opening {
-        text: b"ip policy",
-        verdict: Verdict::Refused,
-    },
-    Opening {
-        text: b"ip proxy-arp",
-        verdict: Verdict::Ignored,
-    },
-    Opening {
-        text: b"ip pim",
-        verdict: Verdict::Ignored,
-    },
-    Opening {
-        text: b"ip router",
-        verdict: Verdict::Refused,
-    },
-    Opening {
-        text: b"ip redirects",
-        verdict: Verdict::Ignored,
-    },
-    Opening {
-        text: b"ip route-cache",
-        verdict: Verdict::Ignored,
-    },
-    Opening {
-        text: b"no shutdown",
-        verdict: Verdict::Form(Form::NoShutdown),
-    },
-    Opening {
-        text: b"ip tcp",
-        verdict: Verdict::Ignored,
-    },
-    Opening {
-        text: b"ip unnumbered",
-        verdict: Verdict::Refused,
-    },
-    Opening {
-        text: b"ip unreachables",
-        verdict: Verdict::Ignored,
-    },
-    Opening {
-        text: b"ip vrf",
-        verdict: Verdict::Refused,
-    },
-    Opening {
-        text: b"ip verify",
-        verdict: Verdict::Refused,
-    },
-    Opening {
-        text: b"ip virtual-reassembly",
-        verdict: Verdict::Ignored,
-    },
-];
+static ONE_WORD: [Opening; ONE_WORD_COUNT] = one_word!(openings);
 
-static MORE_WORDS_STARTS: [u8; 59] = [
-    0, 0, 0, 0, 0, 0, 0, 0, 0, 0, 0, 0, 0, 0, 0, 0, 0, 0, 0, 0, 0, 0, 0, 0, 0, 0, 0, 0, 0, 0, 0, 0,
-    0, 5, 5, 5, 6, 6, 7, 7, 8, 10, 10, 10, 11, 13, 15, 29, 32, 32, 35, 36, 37, 39, 42, 42, 42, 42,
-    42,
-];
+static ONE_WORD_STARTS: [u8; 59] = one_word!(starts);
+
+/// The openings of more words, by the first letter of the second one.
+macro_rules! more_words {
+    ($make:ident) => {
+        $make! {
+            b'a' {
+                b"ip address" => Verdict::Form(Form::Interface(InterfaceForm::IpAddress)),
+                b"ip access-group" => Verdict::Form(Form::Interface(InterfaceForm::AccessGroup)),
+                b"ip address dhcp" => Verdict::Refused,
+                b"ip address negotiated" => Verdict::Refused,
+                b"ip accounting" => Verdict::Ignored,
+            }
+            b'd' {
+                b"ip directed-broadcast" => Verdict::Ignored,
+            }
+            b'f' {
+                b"ip flow" => Verdict::Ignored,
+            }
+            b'h' {
+                b"ip helper-address" => Verdict::Ignored,
+            }
+            b'i' {
+                b"ip inspect" => Verdict::Refused,
+                b"ip igmp" => Verdict::Ignored,
+            }
+            b'l' {
+                b"ip load-sharing" => Verdict::Ignored,
+            }
+            b'm' {
+                b"crypto map" => Verdict::Refused,
+                b"ip mtu" => Verdict::Ignored,
+            }
+            b'n' {
+                b"ip nat" => Verdict::Refused,
+                b"ip nbar" => Verdict::Ignored,
+            }
+            b'o' {
+                b"ip ospf cost" => Verdict::Form(Form::Interface(InterfaceForm::OspfCost)),
+                b"ip ospf hello-interval" => Verdict::Form(Form::Interface(InterfaceForm::OspfHelloInterval)),
+                b"ip ospf dead-interval" => Verdict::Form(Form::Interface(InterfaceForm::OspfDeadInterval)),
+                b"ip ospf network" => Verdict::Form(Form::Interface(InterfaceForm::OspfNetworkType)),
+                b"ip ospf network broadcast" => Verdict::Form(Form::Interface(InterfaceForm::OspfNetworkBroadcast)),
+                b"ip ospf network point-to-point" => Verdict::Form(Form::Interface(InterfaceForm::OspfNetworkPointToPoint)),
+                b"ip ospf * area" => Verdict::Form(Form::Interface(InterfaceForm::OspfArea)),
+                b"ip ospf" => Verdict::Refused,
+                b"ip ospf priority" => Verdict::Ignored,
+                b"ip ospf mtu-ignore" => Verdict::Ignored,
+                b"ip ospf bfd" => Verdict::Ignored,
+                b"ip ospf retransmit-interval" => Verdict::Ignored,
+                b"ip ospf transmit-delay" => Verdict::Ignored,
+                b"ip ospf flood-reduction" => Verdict::Ignored,
+            }
+            b'p' {
+                b"ip policy" => Verdict::Refused,
+                b"ip proxy-arp" => Verdict::Ignored,
+                b"ip pim" => Verdict::Ignored,
+            }
+            b'r' {
+                b"ip router" => Verdict::Refused,
+                b"ip redirects" => Verdict::Ignored,
+                b"ip route-cache" => Verdict::Ignored,
+            }
+            b's' {
+                b"no shutdown" => Verdict::Form(Form::Interface(InterfaceForm::NoShutdown)),
+            }
+            b't' {
+                b"ip tcp" => Verdict::Ignored,
+            }
+            b'u' {
+                b"ip unnumbered" => Verdict::Refused,
+                b"ip unreachables" => Verdict::Ignored,
+            }
+            b'v' {
+                b"ip vrf" => Verdict::Refused,
+                b"ip verify" => Verdict::Refused,
+                b"ip virtual-reassembly" => Verdict::Ignored,
+            }
+        }
+    };
+}
+
+const MORE_WORDS_COUNT: usize = more_words!(count);
+
+static MORE_WORDS: [Opening; MORE_WORDS_COUNT] = more_words!(openings);
+
+static MORE_WORDS_STARTS: [u8; 59] = more_words!(starts);
 
 pub(crate) fn interface_table() -> Table
     ensures { IsTable result interface }

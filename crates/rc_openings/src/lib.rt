@@ -25,7 +25,9 @@ mod words;
 pub use block::{Block, form_has_front, front_decides, is_form, one_opening_decides};
 pub use decide::decisive;
 pub use decision::{Decision, number_in_front, one_decision};
-pub use form::{Form, Grammar};
+pub use form::{
+    AccessListForm, BgpForm, Form, GeneralForm, InterfaceForm, MapEntryForm, OspfForm, PolicyForm,
+};
 pub use opening::{Opening, Verdict};
 pub use reading::{LineError, LineRefusal, judged, unopened};
 pub use values::{

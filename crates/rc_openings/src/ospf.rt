@@ -2,140 +2,106 @@
 ghost use Rattle.rc_openings.specs.Groups.{IsTable};
 ghost use Rattle.rc_openings.specs.OspfOpenings.{ospf};
 
-use crate::table::{Index, Table};
-use crate::{Form, Opening, Verdict};
+use crate::table::{Index, Table, before, count, each_start, one, openings, starts};
+use crate::{Form, Opening, OspfForm, Verdict};
 
-static ONE_WORD: [Opening; 21] = [
-    Opening {
-        text: b"area",
-        verdict: Verdict::Refused,
-    },
-    Opening {
-        text: b"bfd",
-        verdict: Verdict::Ignored,
-    },
-    Opening {
-        text: b"distance",
-        verdict: Verdict::Refused,
-    },
-    Opening {
-        text: b"distribute-list",
-        verdict: Verdict::Refused,
-    },
-    Opening {
-        text: b"default-metric",
-        verdict: Verdict::Refused,
-    },
-    Opening {
-        text: b"default-information",
-        verdict: Verdict::Refused,
-    },
-    Opening {
-        text: b"exit",
-        verdict: Verdict::Ignored,
-    },
-    Opening {
-        text: b"ispf",
-        verdict: Verdict::Ignored,
-    },
-    Opening {
-        text: b"log-adjacency-changes",
-        verdict: Verdict::Ignored,
-    },
-    Opening {
-        text: b"maximum-paths",
-        verdict: Verdict::Refused,
-    },
-    Opening {
-        text: b"max-metric",
-        verdict: Verdict::Refused,
-    },
-    Opening {
-        text: b"max-lsa",
-        verdict: Verdict::Ignored,
-    },
-    Opening {
-        text: b"network",
-        verdict: Verdict::Form(Form::OspfNetwork),
-    },
-    Opening {
-        text: b"neighbor",
-        verdict: Verdict::Refused,
-    },
-    Opening {
-        text: b"nsf",
-        verdict: Verdict::Ignored,
-    },
-    Opening {
-        text: b"no",
-        verdict: Verdict::Ignored,
-    },
-    Opening {
-        text: b"passive-interface",
-        verdict: Verdict::Form(Form::PassiveInterface),
-    },
-    Opening {
-        text: b"router-id",
-        verdict: Verdict::Form(Form::OspfRouterId),
-    },
-    Opening {
-        text: b"redistribute",
-        verdict: Verdict::Refused,
-    },
-    Opening {
-        text: b"summary-address",
-        verdict: Verdict::Refused,
-    },
-    Opening {
-        text: b"timers",
-        verdict: Verdict::Ignored,
-    },
-];
+/// The openings of one word, by its first letter.
+macro_rules! one_word {
+    ($make:ident) => {
+        $make! {
+            b'a' {
+                b"area" => Verdict::Refused,
+            }
+            b'b' {
+                b"bfd" => Verdict::Ignored,
+            }
+            b'd' {
+                b"distance" => Verdict::Refused,
+                b"distribute-list" => Verdict::Refused,
+                b"default-metric" => Verdict::Refused,
+                b"default-information" => Verdict::Refused,
+            }
+            b'e' {
+                b"exit" => Verdict::Ignored,
+            }
+            b'i' {
+                b"ispf" => Verdict::Ignored,
+            }
+            b'l' {
+                b"log-adjacency-changes" => Verdict::Ignored,
+            }
+            b'm' {
+                b"maximum-paths" => Verdict::Refused,
+                b"max-metric" => Verdict::Refused,
+                b"max-lsa" => Verdict::Ignored,
+            }
+            b'n' {
+                b"network" => Verdict::Form(Form::Ospf(OspfForm::Network)),
+                b"neighbor" => Verdict::Refused,
+                b"nsf" => Verdict::Ignored,
+                b"no" => Verdict::Ignored,
+            }
+            b'p' {
+                b"passive-interface" => Verdict::Form(Form::Ospf(OspfForm::PassiveInterface)),
+            }
+            b'r' {
+                b"router-id" => Verdict::Form(Form::Ospf(OspfForm::RouterId)),
+                b"redistribute" => Verdict::Refused,
+            }
+            b's' {
+                b"summary-address" => Verdict::Refused,
+            }
+            b't' {
+                b"timers" => Verdict::Ignored,
+            }
+        }
+    };
+}
 
-static ONE_WORD_STARTS: [u8; 59] = [
-    0, 0, 0, 0, 0, 0, 0, 0, 0, 0, 0, 0, 0, 0, 0, 0, 0, 0, 0, 0, 0, 0, 0, 0, 0, 0, 0, 0, 0, 0, 0, 0,
-    0, 1, 2, 2, 6, 7, 7, 7, 7, 8, 8, 8, 9, 12, 16, 16, 17, 17, 19, 20, 21, 21, 21, 21, 21, 21, 21,
-];
+const ONE_WORD_COUNT: usize = one_word!(count);
 
-static MORE_WORDS: [Opening; 7] = [
-    Opening {
-        text: b"redistribute bgp",
-        verdict: Verdict::Form(Form::OspfRedistributeBgp),
-    },
-    Opening {
-        text: b"redistribute connected",
-        verdict: Verdict::Form(Form::OspfRedistributeConnected),
-    },
-    Opening {
-        text: b"passive-interface default",
-        verdict: Verdict::Form(Form::PassiveInterfaceDefault),
-    },
-    Opening {
-        text: b"default-information originate",
-        verdict: Verdict::Form(Form::DefaultInformationOriginate),
-    },
-    Opening {
-        text: b"no passive-interface",
-        verdict: Verdict::Form(Form::NoPassiveInterface),
-    },
-    Opening {
-        text: b"auto-cost reference-bandwidth",
-        verdict: Verdict::Form(Form::ReferenceBandwidth),
-    },
-    Opening {
-        text: b"redistribute static",
-        verdict: Verdict::Form(Form::OspfRedistributeStatic),
-    },
-];
+static ONE_WORD: [Opening; ONE_WORD_COUNT] = one_word!(openings);
 
-static MORE_WORDS_STARTS: [u8; 59] = [
-    0, 0, 0, 0, 0, 0, 0, 0, 0, 0, 0, 0, 0, 0, 0, 0, 0, 0, 0, 0, 0, 0, 0, 0, 0, 0, 0, 0, 0, 0, 0, 0,
-    0, 0, 1, 2, 3, 3, 3, 3, 3, 3, 3, 3, 3, 3, 3, 4, 5, 5, 6, 7, 7, 7, 7, 7, 7, 7, 7,
-];
+static ONE_WORD_STARTS: [u8; 59] = one_word!(starts);
+
+/// The openings of more words, by the first letter of the second one.
+macro_rules! more_words {
+    ($make:ident) => {
+        $make! {
+            b'b' {
+                b"redistribute bgp" => Verdict::Form(Form::Ospf(OspfForm::RedistributeBgp)),
+            }
+            b'c' {
+                b"redistribute connected" => Verdict::Form(Form::Ospf(OspfForm::RedistributeConnected)),
+            }
+            b'd' {
+                b"passive-interface default" => Verdict::Form(Form::Ospf(OspfForm::PassiveInterfaceDefault)),
+            }
+            b'o' {
+                b"default-information originate" => Verdict::Form(Form::Ospf(OspfForm::DefaultInformationOriginate)),
+            }
+            b'p' {
+                b"no passive-interface" => Verdict::Form(Form::Ospf(OspfForm::NoPassiveInterface)),
+            }
+            b'r' {
+                b"auto-cost reference-bandwidth" => Verdict::Form(Form::Ospf(OspfForm::ReferenceBandwidth)),
+            }
+            b's' {
+                b"redistribute static" => Verdict::Form(Form::Ospf(OspfForm::RedistributeStatic)),
+            }
+        }
+    };
+}
+
+const MORE_WORDS_COUNT: usize = more_words!(count);
+
+static MORE_WORDS: [Opening; MORE_WORDS_COUNT] = more_words!(openings);
+
+static MORE_WORDS_STARTS: [u8; 59] = more_words!(starts);
 
 static STARRED: [Opening; 1] = [Opening {
     text: b"area * stub",
-    verdict: Verdict::Form(Form::StubArea),
+    verdict: Verdict::Form(Form::Ospf(OspfForm::StubArea)),
 }];
 
 pub(crate) fn ospf_table() -> Table

@@ -2,100 +2,81 @@
 ghost use Rattle.rc_openings.specs.Groups.{IsTable};
 ghost use Rattle.rc_openings.specs.RouteMapOpenings.{route_map};
 
-use crate::table::{Index, Table};
-use crate::{Form, Opening, Verdict};
+use crate::table::{Index, Table, before, count, each_start, one, openings, starts};
+use crate::{Form, MapEntryForm, Opening, Verdict};
 
-static ONE_WORD: [Opening; 5] = [
-    Opening {
-        text: b"continue",
-        verdict: Verdict::Refused,
-    },
-    Opening {
-        text: b"description",
-        verdict: Verdict::Ignored,
-    },
-    Opening {
-        text: b"exit",
-        verdict: Verdict::Ignored,
-    },
-    Opening {
-        text: b"match",
-        verdict: Verdict::Refused,
-    },
-    Opening {
-        text: b"set",
-        verdict: Verdict::Refused,
-    },
-];
+/// The openings of one word, by its first letter.
+macro_rules! one_word {
+    ($make:ident) => {
+        $make! {
+            b'c' {
+                b"continue" => Verdict::Refused,
+            }
+            b'd' {
+                b"description" => Verdict::Ignored,
+            }
+            b'e' {
+                b"exit" => Verdict::Ignored,
+            }
+            b'm' {
+                b"match" => Verdict::Refused,
+            }
+            b's' {
+                b"set" => Verdict::Refused,
+            }
+        }
+    };
+}
 
-static ONE_WORD_STARTS: [u8; 59] = [
-    0, 0, 0, 0, 0, 0, 0, 0, 0, 0, 0, 0, 0, 0, 0, 0, 0, 0, 0, 0, 0, 0, 0, 0, 0, 0, 0, 0, 0, 0, 0, 0,
-    0, 0, 0, 1, 2, 3, 3, 3, 3, 3, 3, 3, 3, 4, 4, 4, 4, 4, 4, 5, 5, 5, 5, 5, 5, 5, 5,
-];
+const ONE_WORD_COUNT: usize = one_word!(count);
 
-static MORE_WORDS: [Opening; 14] = [
-    Opening {
-        text: b"set as-path prepend",
-        verdict: Verdict::Form(Form::PrependAsPath),
-    },
-    Opening {
-        text: b"match community",
-        verdict: Verdict::Form(Form::MatchCommunity),
-    },
-    Opening {
-        text: b"set community",
-        verdict: Verdict::Form(Form::SetCommunity),
-    },
-    Opening {
-        text: b"match ip address",
-        verdict: Verdict::Form(Form::MatchAddress),
-    },
-    Opening {
-        text: b"match ip address prefix-list",
-        verdict: Verdict::Form(Form::MatchPrefixList),
-    },
-    Opening {
-        text: b"set local-preference",
-        verdict: Verdict::Form(Form::SetLocalPreference),
-    },
-    Opening {
-        text: b"set metric",
-        verdict: Verdict::Form(Form::SetMetric),
-    },
-    Opening {
-        text: b"set metric-type type-1",
-        verdict: Verdict::Form(Form::SetMetricType1),
-    },
-    Opening {
-        text: b"set metric-type type-2",
-        verdict: Verdict::Form(Form::SetMetricType2),
-    },
-    Opening {
-        text: b"set origin",
-        verdict: Verdict::Form(Form::SetOrigin),
-    },
-    Opening {
-        text: b"set origin igp",
-        verdict: Verdict::Form(Form::SetOriginIgp),
-    },
-    Opening {
-        text: b"set origin incomplete",
-        verdict: Verdict::Form(Form::SetOriginIncomplete),
-    },
-    Opening {
-        text: b"set tag",
-        verdict: Verdict::Ignored,
-    },
-    Opening {
-        text: b"set weight",
-        verdict: Verdict::Form(Form::SetWeight),
-    },
-];
+static ONE_WORD: [Opening; ONE_WORD_COUNT] = one_word!(openings);
 
-static MORE_WORDS_STARTS: [u8; 59] = [
-    0, 0, 0, 0, 0, 0, 0, 0, 0, 0, 0, 0, 0, 0, 0, 0, 0, 0, 0, 0, 0, 0, 0, 0, 0, 0, 0, 0, 0, 0, 0, 0,
-    0, 1, 1, 3, 3, 3, 3, 3, 3, 5, 5, 5, 6, 9, 9, 12, 12, 12, 12, 12, 13, 13, 13, 14, 14, 14, 14,
-];
+static ONE_WORD_STARTS: [u8; 59] = one_word!(starts);
+
+/// The openings of more words, by the first letter of the second one.
+macro_rules! more_words {
+    ($make:ident) => {
+        $make! {
+            b'a' {
+                b"set as-path prepend" => Verdict::Form(Form::MapEntry(MapEntryForm::PrependAsPath)),
+            }
+            b'c' {
+                b"match community" => Verdict::Form(Form::MapEntry(MapEntryForm::MatchCommunity)),
+                b"set community" => Verdict::Form(Form::MapEntry(MapEntryForm::SetCommunity)),
+            }
+            b'i' {
+                b"match ip address" => Verdict::Form(Form::MapEntry(MapEntryForm::MatchAddress)),
+                b"match ip address prefix-list" => Verdict::Form(Form::MapEntry(MapEntryForm::MatchPrefixList)),
+            }
+            b'l' {
+                b"set local-preference" => Verdict::Form(Form::MapEntry(MapEntryForm::SetLocalPreference)),
+            }
+            b'm' {
+                b"set metric" => Verdict::Form(Form::MapEntry(MapEntryForm::SetMetric)),
+                b"set metric-type type-1" => Verdict::Form(Form::MapEntry(MapEntryForm::SetMetricType1)),
+                b"set metric-type type-2" => Verdict::Form(Form::MapEntry(MapEntryForm::SetMetricType2)),
+            }
+            b'o' {
+                b"set origin" => Verdict::Form(Form::MapEntry(MapEntryForm::SetOrigin)),
+                b"set origin igp" => Verdict::Form(Form::MapEntry(MapEntryForm::SetOriginIgp)),
+                b"set origin incomplete" => Verdict::Form(Form::MapEntry(MapEntryForm::SetOriginIncomplete)),
+            }
+            b't' {
+                b"set tag" => Verdict::Ignored,
+            }
+            b'w' {
+                b"set weight" => Verdict::Form(Form::MapEntry(MapEntryForm::SetWeight)),
+            }
+        }
+    };
+}
+
+const MORE_WORDS_COUNT: usize = more_words!(count);
+
+static MORE_WORDS: [Opening; MORE_WORDS_COUNT] = more_words!(openings);
+
+static MORE_WORDS_STARTS: [u8; 59] = more_words!(starts);
 
 pub(crate) fn route_map_table() -> Table
     ensures { IsTable result route_map }
