@@ -3,7 +3,9 @@ pub mod Prefix
 pub mod Name
 pub mod Lists
 pub mod Positions
+pub mod Fields
 pub mod Header
+pub mod HeaderRows
 pub mod Orders
 pub mod Groups
 pub mod Index

@@ -1,10 +1,12 @@
 //! Packet headers.
+ghost use Rattle.std.specs.Prelude.{◌≡◌};
+ghost use Rattle.rc_base.specs.Fields.{zeros};
 ghost use Rattle.rc_base.specs.Header.{IsHeader};
 
 use crate::Addr;
 
 /// What access lists and routes read of a packet: the addresses and the protocol of RFC 791 s.3.1, and the ports of RFC 9293
-/// s.3.1 and RFC 768, which are 0 where the protocol has none.
+/// s.3.1 and RFC 768, which are 0 where the protocol has none. Its fields are told as a table by `Field`.
 #[derive(Clone, Copy)]
 pub struct Header {
     pub dst: Addr,
@@ -12,6 +14,21 @@ pub struct Header {
     pub proto: u8,
     pub sport: u16,
     pub dport: u16,
+}
+
+impl Header {
+    /// A header whose fields are 0.
+    pub fn zeros() -> Header
+        ensures { result ≡ zeros }
+    {
+        Header {
+            dst: Addr::new(0),
+            src: Addr::new(0),
+            proto: 0,
+            sport: 0,
+            dport: 0,
+        }
+    }
 }
 
 /// A law: each field of a header fits its bits.

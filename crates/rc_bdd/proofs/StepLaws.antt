@@ -1,5 +1,6 @@
 -- One step of combining: the sides are combined, and joined.
 use Rattle.std.proofs.Common.{◌≡◌, ℕ, ◌+◌, ◌-◌, ◌<◌, ◌≤◌, sym, ap, subst, arith, Bool}
+use Rattle.rc_base.specs.Header.{bit_count}
 use Rattle.rc_trees.specs.Trees.{Tree, node, top, IsReduced, HasNodesOf, low_side, high_side}
 use Rattle.rc_nodes.specs.Views.{Sound}
 use Rattle.rc_nodes.specs.Seats.{TableView, SeatView, SeatKnows, Keeps}
@@ -11,7 +12,7 @@ use Rattle.rc_trees.proofs.OperationLaws.{combined_step, low_starts, high_starts
 use Rattle.rc_trees.proofs.SideLaws.{low_top, high_top, joined_low, joined_high}
 use Rattle.rc_nodes.proofs.KnownLaws.{one_known, known_reduced, known_node}
 
-node_small : (t : Tree) → IsReduced t → (v : ℕ) (l h : Tree) → t ≡ node v l h → top t < 104
+node_small : (t : Tree) → IsReduced t → (v : ℕ) (l h : Tree) → t ≡ node v l h → top t < bit_count
 node_small t r v l h e =
     let n : IsReduced (node v l h) = subst IsReduced e r in
     let top : top t ≡ v = ap (λ u. top u) e in
@@ -40,7 +41,7 @@ module _ {nodes : TableView} {f : Bool → Bool → Bool} {seat : SeatView} {a b
   rt : IsReduced t
   rt = known_reduced seat w.sound b t w.may.knows_right
 
-  pub bit : v < 104
+  pub bit : v < bit_count
   bit = let (x, l, h, e) = known_node seat b t w.two w.may.knows_right in let small = node_small t rt x l h e in let is = w.at.var in omega arith
 
   under_s : v ≤ top s
@@ -49,7 +50,7 @@ module _ {nodes : TableView} {f : Bool → Bool → Bool} {seat : SeatView} {a b
   under_t : v ≤ top t
   under_t = let is = w.at.var in omega arith
 
-  pub falls : (from : ℕ) → IsFrom seat from a → IsFrom seat from b → 104 - (v + 1) < 104 - from
+  pub falls : (from : ℕ) → IsFrom seat from a → IsFrom seat from b → bit_count - (v + 1) < bit_count - from
   falls from fa fb = let p = fa s w.may.knows_left in let q = fb t w.may.knows_right in let is = w.at.var in let small = bit in omega arith
 
   abbrev low : Tree

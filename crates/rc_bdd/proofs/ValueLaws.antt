@@ -1,7 +1,7 @@
 -- A header's way through a tree.
 use Rattle.std.proofs.Common.{◌≡◌, ℕ, ◌+◌, ◌<◌, ◌≤◌, ◌⊎◌, inl, inr, sym, ap, subst, ◌∙◌, arith, Bool, true, false, cond, eqb, eq-eqb, ne_eqb}
+use Rattle.rc_base.specs.Header.{bit, bit_count}
 use Rattle.rc_base.specs.declared.header.Header.{Header}
-use Rattle.rc_trees.specs.Headers.{bit}
 use Rattle.rc_trees.specs.Trees.{Tree, never, always, node, top, holds}
 use Rattle.rc_nodes.specs.Views.{Sound}
 use Rattle.rc_nodes.specs.Seats.{SeatView, SeatKnows}
@@ -20,7 +20,7 @@ pub at_start : (start : SeatView) → Sound start.view → (set : ℕ) (t : Tree
 at_start start sound set t k h = record { tree = t; known = k; above = omega arith; same = λ s ks. ap (λ u. holds u h) (one_known start sound set t s k ks) }
 
 module _ {start now : SeatView} {set at step : ℕ} {h : Header} (w : IsAt start now set at step h) (sound : Sound now.view) where
-  pub bit_small : (two : 2 ≤ at) (after : SeatView) (n : Node) → ((v : ℕ) (lo hi : Tree) → SeatKnows now at (node v lo hi) → (n.var ≡ v) × SeatKnows after n.lo.index lo × SeatKnows after n.hi.index hi) → n.var < 104
+  pub bit_small : (two : 2 ≤ at) (after : SeatView) (n : Node) → ((v : ℕ) (lo hi : Tree) → SeatKnows now at (node v lo hi) → (n.var ≡ v) × SeatKnows after n.lo.index lo × SeatKnows after n.hi.index hi) → n.var < bit_count
   bit_small two after n opened =
       let (v, lo, hi, e) = known_node now at w.tree two w.known in
       let k = subst (SeatKnows now at) e w.known in
@@ -57,12 +57,12 @@ module _ {start now : SeatView} {set at step : ℕ} {h : Header} (w : IsAt start
           same = λ s ks. sym (ap (λ b. cond b (holds hi h) (holds lo h)) is_bit) ∙ sym (ap (λ u. holds u h) e) ∙ w.same s ks;
         }
 
-  ends : (t : Tree) → SeatKnows now at t → ((104 ≤ step) ⊎ (at < 2)) → step ≤ top t → eqb at 1 ≡ holds t h
+  ends : (t : Tree) → SeatKnows now at t → ((bit_count ≤ step) ⊎ (at < 2)) → step ≤ top t → eqb at 1 ≡ holds t h
   unfolding SeatKnows
   ends never k stop up = ne_eqb at 1 (λ e. let z : at ≡ 0 = k in absurd (omega arith))
   ends always k stop up = eq-eqb at 1 k
   ends (node v lo hi) k (inl long) up = let r = known_reduced now sound at (node v lo hi) k in let a = r.0 in let b = top-le lo r.3 in absurd (omega arith)
   ends (node v lo hi) k (inr small) up = let e = k.2 in absurd (omega arith)
 
-  pub at_end : ((104 ≤ step) ⊎ (at < 2)) → (s : Tree) → SeatKnows start set s → eqb at 1 ≡ holds s h
+  pub at_end : ((bit_count ≤ step) ⊎ (at < 2)) → (s : Tree) → SeatKnows start set s → eqb at 1 ≡ holds s h
   at_end stop s ks = ends w.tree w.known stop w.above ∙ w.same s ks

@@ -1,5 +1,6 @@
 -- Steps of the operations.
 use Rattle.std.proofs.Common.{◌≡◌, ◌≢◌, ℕ, ◌<◌, ◌≤◌, refl, sym, ap, subst, ◌∙◌, arith, Bool, IfOk, IfErr, Result, Ok, Err, true, false, cond, eq-eqb, inl, inr, nat_eq, Option, Some, None, MatchOption, List, replicate}
+use Rattle.rc_base.specs.Header.{bit_count}
 use Rattle.rc_trees.specs.Trees.{Tree, never, always, node, top, IsReduced, low_side, high_side}
 use Rattle.rc_nodes.specs.Views.{Sound}
 use Rattle.rc_nodes.specs.Seats.{TableView, SeatView, SeatKnows, MayMake, IsCrowded, IsFull}
@@ -20,12 +21,12 @@ use Rattle.rc_nodes.proofs.KnownLaws.{knows_never, one_known, one_known_ref, kno
 
 -- ---- a look
 
-constant_low : (t : Tree) → 104 ≡ top t → IsReduced t → low_side (top t) t ≡ t
+constant_low : (t : Tree) → bit_count ≡ top t → IsReduced t → low_side (top t) t ≡ t
 constant_low never e r = refl
 constant_low always e r = refl
 constant_low (node v l h) e r = absurd (let a = r.0 in let b = top-le l r.3 in omega arith)
 
-constant_high : (t : Tree) → 104 ≡ top t → IsReduced t → high_side (top t) t ≡ t
+constant_high : (t : Tree) → bit_count ≡ top t → IsReduced t → high_side (top t) t ≡ t
 constant_high never e r = refl
 constant_high always e r = refl
 constant_high (node v l h) e r = absurd (let a = r.0 in let b = top-le l r.3 in omega arith)
@@ -57,7 +58,7 @@ may_make nodes seat sound var lo hi ne m = record {
   allowed = joined_here nodes.may var m.low m.high m.allowed (λ e. ne (one_known_ref seat sound lo hi m.high (subst (SeatKnows seat lo) e m.knows_low) m.knows_high));
 }
 
-pub looked_constant : (seat : SeatView) → Sound seat.view → (r : ℕ) → r < 2 → (t : Tree) → SeatKnows seat r t → (104 ≡ top t) × SeatKnows seat r (low_side (top t) t) × SeatKnows seat r (high_side (top t) t)
+pub looked_constant : (seat : SeatView) → Sound seat.view → (r : ℕ) → r < 2 → (t : Tree) → SeatKnows seat r t → (bit_count ≡ top t) × SeatKnows seat r (low_side (top t) t) × SeatKnows seat r (high_side (top t) t)
 looked_constant seat sound r lt t k =
     let e = small_tops seat r t lt k in let d = known_reduced seat sound r t k in
     (e, subst (SeatKnows seat r) (sym (constant_low t e d)) k, subst (SeatKnows seat r) (sym (constant_high t e d)) k)

@@ -1,5 +1,6 @@
 -- What a work and its operations promise.
 use Rattle.std.specs.Prelude.{◌≡◌, ℕ, ◌<◌, ◌≤◌, Bool, ◌&&◌, ◌||◌}
+use Rattle.rc_base.specs.Header.{bit_count}
 use Rattle.rc_trees.specs.Trees.{Tree, top, first_of, low_side, high_side, HasNodesOf}
 use Rattle.rc_trees.specs.Combine.{joined, combined, and_not}
 use Rattle.rc_nodes.specs.Seats.{TableView, SeatView, SeatKnows, IsFull}
@@ -23,7 +24,7 @@ pub record MayCombine (nodes : TableView) (seat : SeatView) (operation : Tree �
 
 -- two known trees that test greater bits, and the nodes of a test above them may be made
 pub record MayBranch (nodes : TableView) (seat : SeatView) (var lo hi : ℕ) : Type 0 where
-  pub bit : var < 104
+  pub bit : var < bit_count
   pub low : Tree
   pub high : Tree
   pub knows_low : SeatKnows seat lo low

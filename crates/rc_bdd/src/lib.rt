@@ -4,12 +4,10 @@
 //! `minus` answer a reference that the seat knows as the tree of their definition, when a table is full, and what a tree holds.
 #![tactic(auto)]
 
-mod bits;
 mod memo;
 mod operation;
 mod value;
 mod work;
 
-pub use bits::header_bit;
 pub use value::eval;
 pub use work::{SetError, Work};

@@ -3,12 +3,8 @@ ghost use Rattle.std.specs.Prelude.{◌≡◌};
 ghost use Rattle.rc_nodes.specs.Seats.{IsKnown, IsSeatOf, Keeps, SeatKnows};
 ghost use Rattle.rc_trees.specs.Trees.{Tree, holds};
 
-use crate::bits::header_bit;
-use rc_base::Header;
+use rc_base::{HEADER_BITS, Header, header_bit};
 use rc_nodes::{May, Nodes, Ref, Seat};
-
-/// How many bits a header has, and so how many nodes a path has at most.
-const HEADER_BITS: u8 = 104;
 
 /// Whether a set holds a header.
 pub fn eval<M: May>(nodes: &Nodes<M>, seat: &mut Seat<M>, set: Ref, header: &Header) -> bool

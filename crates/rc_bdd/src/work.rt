@@ -8,6 +8,7 @@ ghost use Rattle.rc_trees.specs.Trees.{Tree, top, high_side, low_side};
 
 use crate::memo::{Noted, PLACES, memo_of, place_of, result_of};
 use crate::operation::Operation;
+use rc_base::HEADER_BITS;
 use rc_nodes::{Full, May, Node, Nodes, Ref, Seat};
 use std::alloc::{AllocError, Global};
 use std::marker::Model;
@@ -257,7 +258,7 @@ impl<M: May> Work<M> {
     {
         if r.index < 2 {
             return Node {
-                var: 104,
+                var: HEADER_BITS,
                 lo: r,
                 hi: r,
             };

@@ -2,6 +2,7 @@
 use Rattle.std.proofs.Common.{refl, ◌≡◌, ap, ◌∙◌, ℕ, zero, suc, ◌+◌, ◌≤◌, ◌<◌, inl, inr, Bool, true, false, List, [], ◌∷◌, length, Some, arith}
 use Rattle.std.specs.Prelude.{◌==◌, if◌then◌else◌}
 use Rattle.std.proofs.lemmas.Bool.Decides.{nat_tests}
+use Rattle.rc_base.specs.Header.{bit_count}
 use Rattle.rc_nodes.specs.Seats.{SeatView, SeatKnows}
 use Rattle.rc_nodes.specs.Views.{View, Has, Unfolds, Sound}
 use Rattle.rc_nodes.specs.Words.{var_of, lo_of, hi_of}
@@ -32,12 +33,12 @@ module _ (v : View) (s : Sound v) where
   word_is k w h = s.same k (word_at v.seen k) w (has_word v.seen k w h) h
 
   -- the tree that a reference unfolds to is the one over the words
-  tree_is : (levels r : ℕ) (t : Tree) → Unfolds (Has v.seen) r t → 105 ≤ levels + top t → tree_of levels v.seen r ≡ t
+  tree_is : (levels r : ℕ) (t : Tree) → Unfolds (Has v.seen) r t → bit_count + 1 ≤ levels + top t → tree_of levels v.seen r ≡ t
   unfolding tree_of
   tree_is zero r never u enough = absurd (let wrong : ⊥ = omega arith in wrong)
   tree_is zero r always u enough = absurd (let wrong : ⊥ = omega arith in wrong)
   tree_is zero r (node b l h) (k, w, e, at, bit, below_l, below_h, ul, uh) enough =
-      let small : var_of w < 104 = (s.word k w at).1 in
+      let small : var_of w < bit_count = (s.word k w at).1 in
       absurd (let wrong : ⊥ = omega arith in wrong)
   tree_is (suc levels) r never u enough = ap (λ x. tree_of (suc levels) v.seen x) u
   tree_is (suc levels) r always u enough = ap (λ x. tree_of (suc levels) v.seen x) u
@@ -50,7 +51,7 @@ module _ (v : View) (s : Sound v) where
 
 left_is : (seat : SeatView) → Sound seat.view → (cubes : Cubes) (t : Tree) → SeatKnows seat cubes.set.index t → cubes_left seat cubes ≡ length (left cubes.last t)
 unfolding cubes_left SeatKnows
-left_is seat s cubes t k = ap (λ x. length (left cubes.last x)) (tree_is seat.view s 105 cubes.set.index t k (omega arith))
+left_is seat s cubes t k = ap (λ x. length (left cubes.last x)) (tree_is seat.view s (bit_count + 1) cubes.set.index t k (omega arith))
 
 pub fewer : (before after : SeatView) → Sound before.view → Sound after.view → (old new : Cubes) (t : Tree) → SeatKnows before old.set.index t → SeatKnows after new.set.index t → (c : Cube) → Goes (left old.last t) (Some c) (left new.last t) → cubes_left after new < cubes_left before old
 fewer before after s z old new t k j c goes =

@@ -1,12 +1,12 @@
 -- The cubes that are left, one after another.
 use Rattle.std.proofs.Common.{sym, ◌≡◌, ◌≢◌, ℕ, ◌<◌, ◌≤◌, Bool, true, false, cond, refl, ap, subst, ◌∙◌, arith, List, [], ◌∷◌, ◌++◌, map, Option, Some, None}
+use Rattle.rc_base.specs.Header.{bit, bit_count, set_bit}
 use Rattle.rc_base.specs.declared.header.Header.{Header}
+use Rattle.rc_base.proofs.BitLaws.{now_set, not_set, zero_bit}
 use Rattle.rc_trees.specs.Trees.{Tree, never, always, node, top, IsReduced}
-use Rattle.rc_trees.specs.Headers.{bit}
 use Rattle.rc_trees.proofs.ReducedLaws.{top-le}
 use Rattle.rc_cubes.specs.declared.cube.Cube.{Cube}
-use Rattle.rc_cubes.specs.Cubes.{set_bit, with_test, cubes, later, left}
-use Rattle.rc_cubes.proofs.BitLaws.{now_set, not_set, zero_bit}
+use Rattle.rc_cubes.specs.Cubes.{with_test, cubes, later, left}
 
 -- ---- the bits of a cube's value
 
@@ -18,20 +18,20 @@ value_of v x c = refl
 abbrev pub IsClear : ℕ → Cube → Type 0
 IsClear n c = (k : ℕ) → k < n → bit c.value k ≡ false
 
-pub tested : (v : ℕ) (x : Bool) (c : Cube) → bit c.value v ≡ false → bit (with_test v x c).value v ≡ x
-tested v true c e = ap (λ (h : Header). bit h v) (value_of v true c) ∙ now_set c.value v
-tested v false c e = ap (λ (h : Header). bit h v) (value_of v false c) ∙ e
+pub tested : (v : ℕ) (x : Bool) (c : Cube) → v < bit_count → bit c.value v ≡ false → bit (with_test v x c).value v ≡ x
+tested v true c less e = ap (λ (h : Header). bit h v) (value_of v true c) ∙ now_set c.value v less
+tested v false c less e = ap (λ (h : Header). bit h v) (value_of v false c) ∙ e
 
-pub others : (v : ℕ) (x : Bool) (c : Cube) (k : ℕ) → v ≢ k → v < 104 → k < 104 → bit (with_test v x c).value k ≡ bit c.value k
-others v true c k ne lv lk = ap (λ (h : Header). bit h k) (value_of v true c) ∙ not_set c.value v k ne lv lk
-others v false c k ne lv lk = ap (λ (h : Header). bit h k) (value_of v false c)
+pub others : (v : ℕ) (x : Bool) (c : Cube) (k : ℕ) → v ≢ k → bit (with_test v x c).value k ≡ bit c.value k
+others v true c k ne = ap (λ (h : Header). bit h k) (value_of v true c) ∙ not_set c.value v k ne
+others v false c k ne = ap (λ (h : Header). bit h k) (value_of v false c)
 
-pub clear_below : (n v : ℕ) (x : Bool) (c : Cube) → v < n → n ≤ 104 → IsClear n c → IsClear v (with_test v x c)
-clear_below n v x c lt le f k below = others v x c k (omega arith) (omega arith) (omega arith) ∙ f k (omega arith)
+pub clear_below : (n v : ℕ) (x : Bool) (c : Cube) → v < n → IsClear n c → IsClear v (with_test v x c)
+clear_below n v x c lt f k below = others v x c k (omega arith) ∙ f k (omega arith)
 
 -- ---- what is behind a cube depends on the bits that the tree tests
 
-same_later : (t : Tree) → IsReduced t → (c d : Cube) → ((k : ℕ) → top t ≤ k → k < 104 → bit c.value k ≡ bit d.value k) → later c t ≡ later d t
+same_later : (t : Tree) → IsReduced t → (c d : Cube) → ((k : ℕ) → top t ≤ k → k < bit_count → bit c.value k ≡ bit d.value k) → later c t ≡ later d t
 same_later never r c d f = refl
 same_later always r c d f = refl
 same_later (node v l h) r c d f =
@@ -47,31 +47,31 @@ IsNext t [] = Unit {0}
 IsNext t (c ∷ cs) = (later c t ≡ cs) × IsClear (top t) c
 
 module _ (v : ℕ) (l h : Tree) (r : IsReduced (node v l h)) where
-  small_l : top l ≤ 104
+  small_l : top l ≤ bit_count
   small_l = top-le l r.3
 
-  small_h : top h ≤ 104
+  small_h : top h ≤ bit_count
   small_h = top-le h r.4
 
   high_next : (cs : List Cube) → IsNext h cs → IsNext (node v l h) (map (with_test v true) cs)
   high_next [] n = tt
   high_next (c ∷ cs) (e, clear) =
       let up = r.1 in let le = small_h in
-      let tests : bit (with_test v true c).value v ≡ true = tested v true c (clear v up) in
-      let inner : later (with_test v true c) h ≡ later c h = same_later h r.4 (with_test v true c) c (λ k low lt. others v true c k (omega arith) (omega arith) lt) in (
+      let tests : bit (with_test v true c).value v ≡ true = tested v true c (omega arith) (clear v up) in
+      let inner : later (with_test v true c) h ≡ later c h = same_later h r.4 (with_test v true c) c (λ k low lt. others v true c k (omega arith)) in (
         (λ i. cond (tests i) (map (with_test v true) (inner i)) (map (with_test v false) (later (with_test v true c) l) ++ map (with_test v true) (cubes h))) ∙ ap (map (with_test v true)) e,
-        clear_below (top h) v true c up le clear,
+        clear_below (top h) v true c up clear,
       )
 
   low_next : (cs : List Cube) → IsNext l cs → IsNext h (cubes h) → IsNext (node v l h) (map (with_test v false) cs ++ map (with_test v true) (cubes h))
   low_next [] n first = high_next (cubes h) first
   low_next (c ∷ cs) (e, clear) first =
       let up = r.0 in let le = small_l in
-      let tests : bit (with_test v false c).value v ≡ false = tested v false c (clear v up) in
-      let inner : later (with_test v false c) l ≡ later c l = same_later l r.3 (with_test v false c) c (λ k low lt. others v false c k (omega arith) (omega arith) lt) in (
+      let tests : bit (with_test v false c).value v ≡ false = tested v false c (omega arith) (clear v up) in
+      let inner : later (with_test v false c) l ≡ later c l = same_later l r.3 (with_test v false c) c (λ k low lt. others v false c k (omega arith)) in (
         (λ i. cond (tests i) (map (with_test v true) (later (with_test v false c) h)) (map (with_test v false) (inner i) ++ map (with_test v true) (cubes h)))
             ∙ ap (λ x. map (with_test v false) x ++ map (with_test v true) (cubes h)) e,
-        clear_below (top l) v false c up le clear,
+        clear_below (top l) v false c up clear,
       )
 
 cubes_next : (t : Tree) → IsReduced t → IsNext t (cubes t)

@@ -1,11 +1,11 @@
 -- A step of the way to a cube.
 use Rattle.std.proofs.Common.{◌≡◌, ℕ, ◌+◌, ◌<◌, ◌≤◌, true, false, cond, refl, sym, ap, subst, ◌∙◌, arith, List, [], ◌∷◌, ◌++◌, map, Option, Some, None, slice_get}
 use Rattle.std.specs.Option.{option_map}
+use Rattle.rc_base.specs.Header.{bit, bit_count}
 use Rattle.rc_trees.specs.Trees.{Tree, never, always, node, top, IsReduced}
 use Rattle.rc_nodes.specs.Views.{Sound}
 use Rattle.rc_nodes.specs.Seats.{SeatView, SeatKnows, Keeps}
 use Rattle.rc_nodes.specs.declared.words.Node.{Node}
-use Rattle.rc_trees.specs.Headers.{bit}
 use Rattle.rc_nodes.specs.Seats.{IsKnown}
 use Rattle.rc_bdd.specs.Work.{IsFrom}
 use Rattle.rc_trees.proofs.ReducedLaws.{top-le}
@@ -27,7 +27,7 @@ module _ (seat after : SeatView) (set : ℕ) (n : Node) (sound : Sound seat.view
   reduced_node : (t : Tree) (k : SeatKnows seat set t) → IsReduced (node n.var (opened t k).low (opened t k).high)
   reduced_node t k = subst IsReduced (opened t k).is_node (known_reduced seat sound set t k)
 
-  pub in_range : IsKnown seat set → (from : ℕ) → IsFrom seat from set → (from ≤ n.var) × (n.var < 104)
+  pub in_range : IsKnown seat set → (from : ℕ) → IsFrom seat from set → (from ≤ n.var) × (n.var < bit_count)
   in_range (t, k) from f =
       let r = reduced_node t k in
       let up : from ≤ n.var = subst (λ u. from ≤ top u) (opened t k).is_node (f t k) in
@@ -66,7 +66,7 @@ no_cube seat set t e k = ap (λ u. slice_get (cubes u) 0) (sym (known_never seat
 pub whole_cube : (seat : SeatView) (set : ℕ) (t : Tree) → set ≡ 1 → SeatKnows seat set t → Some all ≡ slice_get (cubes t) 0
 whole_cube seat set t e k = ap (λ u. slice_get (cubes u) 0) (sym (known_always seat t (subst (λ r. SeatKnows seat r t) e k)))
 
-none_later : (c : Cube) (t : Tree) → IsReduced t → 104 ≡ top t → None ≡ slice_get (later c t) 0
+none_later : (c : Cube) (t : Tree) → IsReduced t → bit_count ≡ top t → None ≡ slice_get (later c t) 0
 none_later c never r e = refl
 none_later c always r e = refl
 none_later c (node v l h) r e = let a = r.0 in let b = top-le l r.3 in absurd (omega arith)

@@ -1,5 +1,6 @@
 -- How many cubes of a set are left: a number that gets less with each cube, so that a loop over them ends.
-use Rattle.std.specs.Prelude.{ℕ, zero, suc, ◌==◌, List, [], ◌∷◌, length, if◌then◌else◌}
+use Rattle.std.specs.Prelude.{ℕ, zero, suc, ◌+◌, ◌==◌, List, [], ◌∷◌, length, if◌then◌else◌}
+use Rattle.rc_base.specs.Header.{bit_count}
 use Rattle.rc_nodes.specs.Seats.{SeatView}
 use Rattle.rc_nodes.specs.Words.{var_of, lo_of, hi_of}
 use Rattle.rc_trees.specs.Trees.{Tree, never, always, node}
@@ -19,6 +20,6 @@ tree_of (suc levels) seen (suc zero) = always
 tree_of (suc levels) seen (suc (suc slot)) =
     let word = word_at seen slot in node (var_of word) (tree_of levels seen (lo_of word)) (tree_of levels seen (hi_of word))
 
--- the cubes that are left of a set that the seat knows: there are 104 bits, so no tree has more levels
+-- the cubes that are left of a set that the seat knows: no tree has more levels than a header has bits, and its constants
 unfoldable pub cubes_left : SeatView → Cubes → ℕ
-cubes_left seat cubes = length (left cubes.last (tree_of 105 seat.view.seen cubes.set.index))
+cubes_left seat cubes = length (left cubes.last (tree_of (bit_count + 1) seat.view.seen cubes.set.index))

@@ -1,23 +1,11 @@
 -- The cubes of a set of headers: the ways through its tree to true.
-use Rattle.std.specs.Prelude.{◌≡◌, ℕ, ◌-◌, ◌^◌, ◌<◌, ◌⊎◌, Bool, true, false, cond, List, [], ◌∷◌, ◌++◌, map, nat_lt, if◌then◌else◌, bit_or, Option, Some, None}
-use Rattle.rc_base.specs.declared.header.Header.{Header}
+use Rattle.std.specs.Prelude.{◌≡◌, ℕ, ◌<◌, ◌⊎◌, Bool, true, false, cond, List, [], ◌∷◌, ◌++◌, map, Option, Some, None}
+use Rattle.rc_base.specs.Fields.{zeros}
+use Rattle.rc_base.specs.Header.{bit, bit_count, set_bit}
 use Rattle.rc_nodes.specs.declared.words.Node.{Node}
 use Rattle.rc_nodes.specs.Seats.{SeatView, SeatKnows}
 use Rattle.rc_trees.specs.Trees.{Tree, never, always, node}
-use Rattle.rc_trees.specs.Headers.{bit}
 use Rattle.rc_cubes.specs.declared.cube.Cube.{Cube}
-
--- the header with a bit set to 1
-abbrev pub set_bit : Header → ℕ → Header
-set_bit h k =
-    if nat_lt k 32 then record h { dst = bit_or h.dst (2 ^ (31 - k)) }
-    else if nat_lt k 64 then record h { src = bit_or h.src (2 ^ (63 - k)) }
-    else if nat_lt k 72 then record h { proto = bit_or h.proto (2 ^ (71 - k)) }
-    else if nat_lt k 88 then record h { sport = bit_or h.sport (2 ^ (87 - k)) }
-    else record h { dport = bit_or h.dport (2 ^ (103 - k)) }
-
-abbrev pub zeros : Header
-zeros = record { dst = 0; src = 0; proto = 0; sport = 0; dport = 0 }
 
 -- the cube of all headers tests no bit
 abbrev pub all : Cube
@@ -60,11 +48,11 @@ pub record IsOpened (seat : SeatView) (n : Node) (t : Tree) : Type 0 where
 
 -- the value has 0 in each bit that isn't under the mask
 abbrev pub IsTight : Cube → Type 0
-IsTight c = (k : ℕ) → k < 104 → bit c.mask k ≡ false → bit c.value k ≡ false
+IsTight c = (k : ℕ) → k < bit_count → bit c.mask k ≡ false → bit c.value k ≡ false
 
 -- the bits under the mask are those of the value
 abbrev pub IsIn : Cube → (ℕ → Bool) → Type 0
-IsIn c bits = (k : ℕ) → k < 104 → bit c.mask k ≡ true → bits k ≡ bit c.value k
+IsIn c bits = (k : ℕ) → k < bit_count → bit c.mask k ≡ true → bits k ≡ bit c.value k
 
 -- a header is in none of the cubes
 abbrev pub IsInNone : List Cube → (ℕ → Bool) → Type 0

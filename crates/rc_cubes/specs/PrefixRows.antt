@@ -1,9 +1,10 @@
 -- Sets over two prefixes and their cubes, by computation.
 use Rattle.std.specs.Prelude.{◌≡◌, refl, ℕ, ◌+◌, if◌then◌else◌, [], ◌∷◌, drop, length, map, take}
+use Rattle.rc_base.specs.Fields.{zeros}
+use Rattle.rc_base.specs.Header.{bit, set_bit}
 use Rattle.rc_base.specs.Prefix.{Cidr, prefix_at}
 use Rattle.rc_base.specs.declared.header.Header.{Header}
 use Rattle.rc_trees.specs.Combine as trees
-use Rattle.rc_trees.specs.Headers.{bit}
 use Rattle.rc_trees.specs.Trees.{holds}
 use Rattle.rc_trees.specs.Recipes.{Recipe, and, or, minus, tree}
 use Rattle.rc_trees.specs.Fields.{chain, masked}
@@ -15,7 +16,7 @@ ten = 167772160
 
 -- a packet to an address
 abbrev packet : ℕ → Header
-packet to = record { dst = to; src = 0; proto = 17; sport = 53; dport = 53 }
+packet to = record zeros { dst = to; proto = 17; sport = 53; dport = 53 }
 
 abbrev if_held : Recipe → ℕ → ℕ → ℕ
 if_held set to n = if holds (tree set) (packet to) then n else 0
@@ -44,18 +45,14 @@ pub every_address_and_a_host : map (holders (prefix_at 0 0) (prefix_at ten 32)) 
 unfolding masked bit trees.and trees.or trees.minus
 every_address_and_a_host = refl
 
--- each field is 0
-abbrev header : Header
-header = record { dst = 0; src = 0; proto = 0; sport = 0; dport = 0 }
-
 -- every address but 10.0.0.0/24: a cube for each bit of it, and the highest bit is 0 in all that come before the last
 pub all_but_a_network :
     (length (cubes (tree (minus (chain (prefix_at 0 0)) (chain (prefix_at ten 24))))) ≡ 24)
-    × (take 1 (cubes (tree (minus (chain (prefix_at 0 0)) (chain (prefix_at ten 24))))) ≡ record { value = header; mask = record header { dst = 0xf8000000 } } ∷ [])
-    × (drop 23 (cubes (tree (minus (chain (prefix_at 0 0)) (chain (prefix_at ten 24))))) ≡ record { value = record header { dst = 0x80000000 }; mask = record header { dst = 0x80000000 } } ∷ [])
-unfolding masked with_test trees.minus
+    × (take 1 (cubes (tree (minus (chain (prefix_at 0 0)) (chain (prefix_at ten 24))))) ≡ record { value = zeros; mask = record zeros { dst = 0xf8000000 } } ∷ [])
+    × (drop 23 (cubes (tree (minus (chain (prefix_at 0 0)) (chain (prefix_at ten 24))))) ≡ record { value = record zeros { dst = 0x80000000 }; mask = record zeros { dst = 0x80000000 } } ∷ [])
+unfolding masked with_test set_bit trees.minus
 all_but_a_network = (refl, refl, refl)
 
 pub nothing_is_left : cubes (tree (minus (chain (prefix_at ten 24)) (chain (prefix_at ten 24)))) ≡ []
-unfolding masked with_test trees.minus
+unfolding masked with_test set_bit trees.minus
 nothing_is_left = refl

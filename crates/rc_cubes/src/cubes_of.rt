@@ -1,6 +1,7 @@
 //! The cubes of a set, one after another.
 ghost use Rattle.std.specs.Prelude.{◌≡◌, ℕ, ◌+◌, ◌<◌, ◌≤◌, None, OnSome, slice_get};
 ghost use Rattle.std.specs.Option.{option_map};
+ghost use Rattle.rc_base.specs.Header.{bit_count};
 ghost use Rattle.rc_trees.specs.Trees.{Tree};
 ghost use Rattle.rc_nodes.specs.Seats.{IsKnown, IsSeatOf, Keeps, SeatKnows};
 ghost use Rattle.rc_bdd.specs.Work.{IsFrom};
@@ -8,7 +9,7 @@ ghost use Rattle.rc_cubes.specs.Count.{cubes_left};
 ghost use Rattle.rc_cubes.specs.Cubes.{with_test, cubes, later, left, Goes, IsOpened};
 
 use crate::Cube;
-use rc_bdd::header_bit;
+use rc_base::header_bit;
 use rc_nodes::{May, Node, Nodes, Ref, Seat};
 
 /// The cubes of a set that are left: those behind the last one, or all of them. It takes no memory.
@@ -20,7 +21,7 @@ pub struct Cubes {
 
 /// A cube, if there is one, that tests one bit more.
 fn with_test(cube: Option<Cube>, place: u8, bit: bool) -> Option<Cube>
-    requires { place < 104 }
+    requires { place < bit_count }
     ensures { result ≡ option_map (with_test place bit) cube }
 {
     match cube {
@@ -37,7 +38,7 @@ fn node_of<M: May>(nodes: &Nodes<M>, seat: &mut Seat<M>, from: u8, set: Ref) -> 
     requires from { IsFrom seat.old from set.index }
     ensures seat { IsSeatOf nodes.now seat.new }
     ensures keeps { Keeps seat.old seat.new }
-    ensures bit { (from ≤ result.var) × (result.var < 104) }
+    ensures bit { (from ≤ result.var) × (result.var < bit_count) }
     ensures low { IsKnown seat.new result.lo.index × IsFrom seat.new (result.var + 1) result.lo.index }
     ensures high { IsKnown seat.new result.hi.index × IsFrom seat.new (result.var + 1) result.hi.index }
     ensures opened { (t : Tree) → SeatKnows seat.old set.index t → IsOpened seat.new result t }

@@ -1,10 +1,10 @@
 //! What the cubes of a tree say of headers.
 ghost use Rattle.std.specs.Prelude.{◌≡◌, ◌++◌, ◌∷◌, List, Option, Some, true, false};
 ghost use Rattle.std.specs.List.{AllByRecursion};
+ghost use Rattle.rc_base.specs.Header.{bit};
 ghost use Rattle.rc_base.specs.declared.header.Header.{Header};
 ghost use Rattle.rc_cubes.specs.Cubes.{IsInNone, IsInOne, IsTight, cubes, left};
 ghost use Rattle.rc_cubes.specs.declared.cube.Cube.{Cube};
-ghost use Rattle.rc_trees.specs.Headers.{bit};
 ghost use Rattle.rc_trees.specs.Trees.{Tree, IsReduced, holds};
 
 /// A header is in exactly one cube of a reduced tree that holds it, and in none of one that doesn't.

@@ -9,11 +9,10 @@ use Rattle.rc_base.specs.Positions.{same_position}
 use Rattle.rc_base.specs.declared.header.Header.{Header}
 use Rattle.rc_base.specs.declared.position.Pos.{Pos}
 use Rattle.rc_config.specs.Members.{positions}
-use Rattle.rc_trees.specs.Headers.{bit}
 use Rattle.rc_trees.specs.Trees.{always, never, value}
 use Rattle.rc_trees.specs.Recipes.{has}
 use Rattle.rc_trees.proofs.RecipeLaws.{has-and, has-fold_or}
-use Rattle.rc_base.specs.Header.{IsHeader}
+use Rattle.rc_base.specs.Header.{IsHeader, bit}
 use Rattle.rc_sets.proofs.LongestLaws.{any-in}
 use Rattle.rc_walk.proofs.PositionLaws.{same_position-Decides}
 use Rattle.rc_walk.specs.Moves.{DataPlane, moves}

@@ -37,6 +37,7 @@ use Rattle.rc_trees.proofs.FieldLaws.{has-chain}
 use Rattle.rc_trees.specs.Fields.{chain, host}
 use Rattle.rc_sets.specs.AccessLists.{passing_set}
 use Rattle.rc_base.specs.Header.{IsHeader}
+use Rattle.rc_base.specs.declared.field.Field.TheVariants.{Dst}
 use Rattle.rc_sets.specs.Regions.{hop_set}
 use Rattle.rc_sets.proofs.AccessListLaws.{has-passing_set}
 use Rattle.rc_sets.proofs.RegionLaws.{has-hop_set}
@@ -83,7 +84,7 @@ module _ (plane : DataPlane) (ok : IsPlane plane) (h : Header) (header : IsHeade
   host_network a = ap (λ n. n * 1) (whole a) ∙ (let e : a * 1 ≡ a = omega arith in e)
 
   has-host : (a : ℕ) → has (host a) h ≡ (h.dst == a)
-  has-host a = has-chain h header.dst (prefix_at a 32) (let e : 32 ≤ 32 = omega arith in e) ∙ (λ i. whole h.dst i == (whole (prefix_at a 32).network ∙ host_network a) i)
+  has-host a = has-chain h (header Dst) (prefix_at a 32) (let e : 32 ≤ 32 = omega arith in e) ∙ (λ i. whole h.dst i == (whole (prefix_at a 32).network ∙ host_network a) i)
 
   has-hosts : (xs : List ℕ) → list_any (λ a. has (host a) h) xs ≡ list_any (λ a. h.dst == a) xs
   has-hosts xs = λ i. list_any (λ a. has-host a i) xs
@@ -108,7 +109,7 @@ module _ (plane : DataPlane) (ok : IsPlane plane) (h : Header) (header : IsHeade
 
   has-chains : (ps : List Cidr) → AllByRecursion IsShort ps → list_any (λ p. has (chain p) h) ps ≡ list_any (λ p. contains p h.dst) ps
   has-chains [] all = refl
-  has-chains (p ∷ ps) all = λ i. has-chain h header.dst p all.0 i || has-chains ps all.1 i
+  has-chains (p ∷ ps) all = λ i. has-chain h (header Dst) p all.0 i || has-chains ps all.1 i
 
   held : (i : IfId) (o : Option (List ℕ × Interface)) → list_any (λ p. contains p h.dst) (option_map_or (λ e. prefixes_of (interfaces_of plane.network i.router) e) o [])
       ≡ option_map_or (holds h.dst) (option_map (port_of (interfaces_of plane.network i.router)) o) false

@@ -20,7 +20,7 @@ use Rattle.rc_fib.specs.Forwarding.{hops_within}
 use Rattle.rc_walk.specs.Examples.{ip, network, with_address, gi0, lo0, plane, connected, port, static, via}
 use Rattle.rc_walk.specs.Moves.{DataPlane}
 use Rattle.rc_trees.specs.Trees.{Tree, never, node, is_node, always}
-use Rattle.rc_trees.specs.Headers.{bit}
+use Rattle.rc_base.specs.Header.{bit}
 use Rattle.rc_trees.specs.Combine.{and, or, minus}
 use Rattle.rc_trees.specs.Parts.{parts, subtrees}
 use Rattle.rc_trees.specs.Recipes.{tree, nodes}

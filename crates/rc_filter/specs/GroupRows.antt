@@ -1,5 +1,6 @@
 -- Worked cases of access groups at the interfaces of a network, each by computation.
 use Rattle.std.specs.Prelude.{◌≡◌, ℕ, true, false, List, [], ◌∷◌, codes, refl}
+use Rattle.rc_base.specs.Fields.{zeros}
 use Rattle.rc_base.specs.declared.header.Header.{Header}
 use Rattle.rc_base.specs.declared.position.IfId.{IfId}
 use Rattle.rc_config.specs.AccessList.{any_address, no_lines, standard_line, with_line}
@@ -26,7 +27,7 @@ abbrev port : ℕ → ℕ → IfId
 port r n = record { router = r; index = n }
 
 abbrev packet : Header
-packet = record { dst = 1; src = 2; proto = 6; sport = 40000; dport = 22 }
+packet = record zeros { dst = 1; src = 2; proto = 6; sport = 40000; dport = 22 }
 
 -- Router A's list denies all, and stands inbound at its first interface and outbound at its second; the third one has none. Router
 -- B's list of the same name permits all, and stands both ways at its interface.

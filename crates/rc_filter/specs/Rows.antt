@@ -1,5 +1,6 @@
 -- Worked cases of access lists, each by computation.
 use Rattle.std.specs.Prelude.{◌≡◌, ℕ, ◌+◌, ◌*◌, true, false, List, [], ◌∷◌, map, Some, None, codes, refl}
+use Rattle.rc_base.specs.Fields.{zeros}
 use Rattle.rc_base.specs.declared.header.Header.{Header}
 use Rattle.rc_config.specs.declared.access_list.Action.{Action}
 use Rattle.rc_config.specs.declared.access_list.Action.TheVariants.{Permit, Deny}
@@ -149,7 +150,7 @@ within_one_over = refl
 
 -- ---- lines: a packet from 10.0.0.1 to 192.0.2.1
 abbrev packet : ℕ → ℕ → ℕ → Header
-packet proto sport dport = record { dst = address 192 0 2 1; src = address 10 0 0 1; proto = proto; sport = sport; dport = dport }
+packet proto sport dport = record zeros { dst = address 192 0 2 1; src = address 10 0 0 1; proto = proto; sport = sport; dport = dport }
 
 -- permit tcp host 10.0.0.1 gt 1023 host 192.0.2.1 eq 22
 abbrev ssh : AccessListLine

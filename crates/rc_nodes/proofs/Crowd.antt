@@ -1,6 +1,7 @@
 -- A seat that saw every slot taken knows a tree for each.
 use Rattle.std.proofs.Common.{◌≡◌, ℕ, zero, suc, ◌+◌, ◌<◌, ◌≤◌, ⊎_elim, List, [], ◌∷◌, length, refl, sym, subst, ◌∙◌, arith}
 use Rattle.std.proofs.Math.Decide.{ℕ_discrete}
+use Rattle.rc_base.specs.Header.{bit_count}
 use Rattle.rc_trees.specs.Trees.{Tree, never, always, node, top, IsAmong}
 use Rattle.rc_nodes.specs.Words.{IsWord, var_of, lo_of, hi_of}
 use Rattle.rc_nodes.specs.Views.{View, Has, Knows, Grows, IsChild, Sound}
@@ -19,10 +20,10 @@ module _ (v : View) (s : Sound v) (f : (k : ℕ) → k < v.capacity → (w : ℕ
   abbrev Grown : ℕ → ℕ → Type 0
   Grown r x = (t : Tree) × Knows v r t × (x < top t)
 
-  constant : (x r : ℕ) → x < 104 → r < 2 → Grown r x
+  constant : (x r : ℕ) → x < bit_count → r < 2 → Grown r x
   constant x r b lt = elim (ℕ_discrete r 0) [ yes e ↦ (never, e, b) | no ne ↦ (always, omega arith, b) ]
 
-  complete : (fuel k w : ℕ) → Has v.seen k w → 104 ≤ var_of w + fuel → (low : Tree) × (high : Tree) × Knows v (k + 2) (node (var_of w) low high)
+  complete : (fuel k w : ℕ) → Has v.seen k w → bit_count ≤ var_of w + fuel → (low : Tree) × (high : Tree) × Knows v (k + 2) (node (var_of w) low high)
   complete zero k w h le = let b = (s.word k w h).1 in absurd (omega arith)
   complete (suc n) k w h le =
       let b = (s.word k w h).1 in
@@ -35,7 +36,7 @@ module _ (v : View) (s : Sound v) (f : (k : ℕ) → k < v.capacity → (w : ℕ
       (low, high, (k, w, refl, h, refl, pl, ph, kl, kh))
 
   pub tree_at : (k : ℕ) → k < v.capacity → (w : ℕ) × (low : Tree) × (high : Tree) × Has v.seen k w × Knows v (k + 2) (node (var_of w) low high)
-  tree_at k lt = let (w, h) = f k lt in let (low, high, u) = complete 104 k w h (omega arith) in (w, low, high, h, u)
+  tree_at k lt = let (w, h) = f k lt in let (low, high, u) = complete bit_count k w h (omega arith) in (w, low, high, h, u)
 
   -- the trees of the slots below n
   abbrev Row : ℕ → Type 0

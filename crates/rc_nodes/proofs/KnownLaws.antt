@@ -1,5 +1,6 @@
 -- What a seat knows are reduced trees.
 use Rattle.std.proofs.Common.{◌≡◌, ℕ, ◌<◌, ◌≤◌, refl, sym, subst, arith}
+use Rattle.rc_base.specs.Header.{bit_count}
 use Rattle.rc_trees.specs.Trees.{Tree, never, always, node, top, IsReduced}
 use Rattle.rc_nodes.specs.Views.{View, Knows, Sound}
 use Rattle.rc_nodes.specs.Words.{lo_of, hi_of}
@@ -34,7 +35,7 @@ known_node seat r always two k = absurd (omega arith)
 known_node seat r (node v l h) two k = (v, l, h, refl)
 
 -- a constant is known by a reference below 2
-pub small_tops : (seat : SeatView) (r : ℕ) (t : Tree) → r < 2 → SeatKnows seat r t → 104 ≡ top t
+pub small_tops : (seat : SeatView) (r : ℕ) (t : Tree) → r < 2 → SeatKnows seat r t → bit_count ≡ top t
 unfolding SeatKnows
 small_tops seat r never two k = refl
 small_tops seat r always two k = refl

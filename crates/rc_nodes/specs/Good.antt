@@ -3,6 +3,7 @@ use Rattle.std.specs.Prelude.{◌≡◌, ◌≢◌, ℕ, ◌+◌, ◌<◌, ◌�
 use mathlib.Core.Option.{some}
 use lib.ListN.{get_elem?}
 use Rattle.atomic_table.specs.Table.{State}
+use Rattle.rc_base.specs.Header.{bit_count}
 use Rattle.rc_trees.specs.Trees.{Tree, IsAmong}
 use Rattle.rc_nodes.specs.Words.{IsWord, var_of, lo_of, hi_of, slot_at}
 use Rattle.rc_nodes.specs.Seats.{TableView, SeatView}
@@ -15,7 +16,7 @@ IsBelow words v r = (r < 2) ⊎ ((k : ℕ) × (w : ℕ) × (r ≡ k + 2) × Stan
 -- the word of a node whose sides differ, each a constant or a slot with a node that tests a greater bit
 pub record IsNode (words : List ℕ) (w : ℕ) : Type 0 where
   pub is_word : IsWord w
-  pub bit : var_of w < 104
+  pub bit : var_of w < bit_count
   pub differ : lo_of w ≢ hi_of w
   pub lo : IsBelow words (var_of w) (lo_of w)
   pub hi : IsBelow words (var_of w) (hi_of w)

@@ -2,6 +2,7 @@
 use Rattle.std.specs.Prelude.{◌≡◌, ◌≢◌, ℕ, ◌+◌, ◌<◌, ◌≤◌, List, [], ◌∷◌, length, refl}
 use Rattle.std.specs.Coded.{Coded, code_by, coded×, coded_ℕ, coded_list}
 use Rattle.atomic_table.specs.Seated.{TableId, table_id_coded}
+use Rattle.rc_base.specs.Header.{bit_count}
 use Rattle.rc_trees.specs.Trees.{Tree, node, top, IsAmong}
 use Rattle.rc_nodes.specs.Views.{View, view_code, coded_tree, Has, Knows, Sound}
 
@@ -41,7 +42,7 @@ Keeps before after = (r : ℕ) (t : Tree) → SeatKnows before r t → SeatKnows
 
 -- both sides of a node are known and test greater bits, and the tree above them may be made
 pub record MayMake (nodes : TableView) (seat : SeatView) (var lo hi : ℕ) : Type 0 where
-  pub bit : var < 104
+  pub bit : var < bit_count
   pub differ : lo ≢ hi
   pub low : Tree
   pub high : Tree

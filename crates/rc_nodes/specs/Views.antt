@@ -2,6 +2,7 @@
 use Rattle.std.specs.Prelude.{◌≡◌, ◌≢◌, ℕ, ◌+◌, ◌<◌, ◌⊎◌, Bool, false, true, List, [], ◌∷◌, ◌++◌, slice_index, refl}
 use Rattle.std.specs.Coded.{Coded, code_by, coded×, coded_ℕ, coded_bool, coded_list}
 use base.Stored.{Gv, gnum, gcons}
+use Rattle.rc_base.specs.Header.{bit_count}
 use Rattle.rc_trees.specs.Trees.{Tree, never, always, node, top, IsAmong}
 use Rattle.rc_nodes.specs.Words.{IsWord, var_of, lo_of, hi_of, slot_at}
 
@@ -73,7 +74,7 @@ IsChild v x r = (r < 2) ⊎ ((k : ℕ) × (r ≡ k + 2) × (k < v.capacity) × (
 -- what holds of every view
 pub record Sound (v : View) : Type 0 where
   pub open_ : v.spent ≡ false
-  pub word : (k w : ℕ) → Has v.seen k w → IsWord w × (var_of w < 104) × (lo_of w ≢ hi_of w) × (k < v.capacity)
+  pub word : (k w : ℕ) → Has v.seen k w → IsWord w × (var_of w < bit_count) × (lo_of w ≢ hi_of w) × (k < v.capacity)
   pub same : (k w x : ℕ) → Has v.seen k w → Has v.seen k x → w ≡ x
   pub once : (k j w : ℕ) → Has v.seen k w → Has v.seen j w → k ≡ j
   pub below : (k w : ℕ) → Has v.seen k w → IsChild v (var_of w) (lo_of w) × IsChild v (var_of w) (hi_of w)
@@ -96,7 +97,7 @@ Claimed k x v n w = (n ≡ 0 → w ≡ noted v k x) × (n ≢ 0 → w ≡ noted 
 -- the word x may be written at slot k: its children are known, its tree may be made, and the slots before k on its path have other words
 pub record MayWrite (v : View) (k x : ℕ) : Type 0 where
   pub is_word : IsWord x
-  pub bit : var_of x < 104
+  pub bit : var_of x < bit_count
   pub differ : lo_of x ≢ hi_of x
   pub low : Tree
   pub high : Tree

@@ -14,7 +14,7 @@ pub const NEVER: Ref = Ref { index: 0 };
 /// The tree of every header.
 pub const ALWAYS: Ref = Ref { index: 1 };
 
-/// A test of a header's bit, from 0 to 103: `lo` is the tree where it is 0, `hi` the one where it is 1.
+/// A test of a header's bit, by its number: `lo` is the tree where it is 0, `hi` the one where it is 1.
 #[derive(Clone, Copy)]
 pub struct Node {
     pub var: u8,

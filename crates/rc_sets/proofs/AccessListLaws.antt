@@ -15,15 +15,15 @@ use Rattle.rc_config.specs.declared.access_list.ProtocolTest.{ProtocolTest}
 use Rattle.rc_config.specs.declared.access_list.ProtocolTest.TheVariants as protocol
 use Rattle.rc_filter.specs.Verdict.{matches, matches_port, matches_protocol, permits, first_action, group_verdict, passes}
 use Rattle.rc_filter.proofs.VerdictLaws.{first_action-cases}
-use Rattle.rc_base.specs.Header.{IsHeader}
-use Rattle.rc_trees.specs.Headers.{bit}
+use Rattle.rc_base.specs.Header.{IsHeader, bit, last_bit}
+use Rattle.rc_base.specs.declared.field.Field.TheVariants.{Dst, Src, Proto, Sport, Dport}
 use Rattle.rc_trees.specs.Trees.{always}
 use Rattle.rc_trees.specs.Recipes.{Recipe, given, and, has, union_of}
 use Rattle.rc_trees.proofs.TreeLaws.{value-minus}
 use Rattle.rc_trees.proofs.RecipeLaws.{has-and, has-or, has-minus, has-union_of}
 use Rattle.rc_trees.specs.Fields.{exact, below, at_most}
 use Rattle.rc_sets.specs.AccessLists.{protocol_set, port_set, address_set, line_set, with_line, lines_set, group_set, passing_set}
-use Rattle.rc_trees.proofs.FieldLaws.{Reads, value-exact, value-below, value-at_most, reads_dst, reads_src, reads_proto, reads_sport, reads_dport}
+use Rattle.rc_trees.proofs.FieldLaws.{Reads, value-exact, value-below, value-at_most, reads}
 use Rattle.rc_sets.proofs.WildcardLaws.{value-masked}
 
 module _ (h : Header) where
@@ -50,19 +50,19 @@ module _ (h : Header) where
   module _ (is : IsHeader h) where
     has-protocol_set : (t : ProtocolTest) → has (protocol_set t) h ≡ matches_protocol t h.proto
     has-protocol_set protocol.Any = refl
-    has-protocol_set (protocol.Is n) = value-exact h 71 h.proto 8 (reads_proto h) is.proto n
+    has-protocol_set (protocol.Is n) = value-exact h (last_bit Proto) h.proto 8 (reads h Proto) (is Proto) n
 
     -- a line's set holds the headers that it matches
     pub has-line_set : (l : AccessListLine) → has (line_set l) h ≡ matches l h
     unfolding line_set matches
     has-line_set l =
-        let p = protocol_set l.protocol in let s = address_set 63 l.source in let a = port_set 87 l.source_port in let d = address_set 31 l.destination in let b = port_set 103 l.destination_port in
+        let p = protocol_set l.protocol in let s = address_set (last_bit Src) l.source in let a = port_set (last_bit Sport) l.source_port in let d = address_set (last_bit Dst) l.destination in let b = port_set (last_bit Dport) l.destination_port in
         has-and h (and (and (and p s) a) d) b
         ∙ ap (λ x. x && has b h) (has-and h (and (and p s) a) d ∙ ap (λ x. x && has d h) (has-and h (and p s) a ∙ ap (λ x. x && has a h) (has-and h p s)))
-        ∙ (λ i. (((has-protocol_set l.protocol i && value-masked h 63 h.src 32 l.source.wildcard l.source.addr (reads_src h) i)
-        && has-port_set 87 h.sport (reads_sport h) is.sport l.source_port i)
-        && value-masked h 31 h.dst 32 l.destination.wildcard l.destination.addr (reads_dst h) i)
-        && has-port_set 103 h.dport (reads_dport h) is.dport l.destination_port i)
+        ∙ (λ i. (((has-protocol_set l.protocol i && value-masked h (last_bit Src) h.src 32 l.source.wildcard l.source.addr (reads h Src) i)
+        && has-port_set (last_bit Sport) h.sport (reads h Sport) (is Sport) l.source_port i)
+        && value-masked h (last_bit Dst) h.dst 32 l.destination.wildcard l.destination.addr (reads h Dst) i)
+        && has-port_set (last_bit Dport) h.dport (reads h Dport) (is Dport) l.destination_port i)
 
     has-with_line : (a : Action) (m t : Recipe) → has (with_line a m t) h ≡ cond (has m h) (permits a) (has t h)
     has-with_line Permit m t = has-or h t m ∙ at (has t h) (has m h)

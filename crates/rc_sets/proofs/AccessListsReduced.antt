@@ -1,6 +1,8 @@
 -- The sets of access lists are made of reduced trees.
 use Rattle.std.proofs.Common.{ℕ, ◌+◌, ◌<◌, ◌≤◌, List, [], ◌∷◌, Option, Some, None, arith}
 use Rattle.std.specs.Option.{option_map_or}
+use Rattle.rc_base.specs.Header.{bit_count, last_bit}
+use Rattle.rc_base.specs.declared.field.Field.TheVariants.{Dst, Src, Proto, Sport, Dport}
 use Rattle.rc_config.specs.Named.{named}
 use Rattle.rc_config.specs.declared.access_list.AccessList.{AccessList}
 use Rattle.rc_config.specs.declared.access_list.AccessListLine.{AccessListLine}
@@ -18,7 +20,7 @@ use Rattle.rc_trees.proofs.RecipeLaws.{every, of_reduced-union_of}
 use Rattle.rc_trees.proofs.ReducedLaws.{reduced-minus}
 use Rattle.rc_sets.specs.AccessLists.{protocol_set, port_set, line_set, with_line, lines_set, group_set, passing_set}
 
-module _ (last : ℕ) (bit : last < 104) (wide : 16 ≤ last + 1) where
+module _ (last : ℕ) (bit : last < bit_count) (wide : 16 ≤ last + 1) where
   of_reduced-port : (n : ℕ) → IsReduced (exact last 16 n)
   of_reduced-port n = reduced-exact last bit 16 n wide
 
@@ -32,16 +34,16 @@ module _ (last : ℕ) (bit : last < 104) (wide : 16 ≤ last + 1) where
 
 of_reduced-protocol_set : (t : ProtocolTest) → IsOfReduced (protocol_set t)
 of_reduced-protocol_set protocol.Any = tt
-of_reduced-protocol_set (protocol.Is n) = reduced-exact 71 (omega arith) 8 n (omega arith)
+of_reduced-protocol_set (protocol.Is n) = reduced-exact (last_bit Proto) (omega arith) 8 n (omega arith)
 
 pub of_reduced-line_set : (l : AccessListLine) → IsOfReduced (line_set l)
 unfolding line_set
 of_reduced-line_set l = (
   (
-    ((of_reduced-protocol_set l.protocol, reduced-masked 63 (omega arith) 32 l.source.wildcard l.source.addr (omega arith)), of_reduced-port_set 87 (omega arith) (omega arith) l.source_port),
-    reduced-masked 31 (omega arith) 32 l.destination.wildcard l.destination.addr (omega arith),
+    ((of_reduced-protocol_set l.protocol, reduced-masked (last_bit Src) (omega arith) 32 l.source.wildcard l.source.addr (omega arith)), of_reduced-port_set (last_bit Sport) (omega arith) (omega arith) l.source_port),
+    reduced-masked (last_bit Dst) (omega arith) 32 l.destination.wildcard l.destination.addr (omega arith),
   ),
-  of_reduced-port_set 103 (omega arith) (omega arith) l.destination_port,
+  of_reduced-port_set (last_bit Dport) (omega arith) (omega arith) l.destination_port,
 )
 
 with_action : (a : Action) (m r : Recipe) → IsOfReduced m → IsOfReduced r → IsOfReduced (with_line a m r)

@@ -5,16 +5,17 @@ use Rattle.std.proofs.Math.Nat.{mod-eq_of_lt}
 use Rattle.std.proofs.lemmas.Bool.Decides.{nat_tests}
 use Rattle.std.proofs.lemmas.Nat.{mod-pow-add, pow-add, mod_below, pow_pos}
 use Rattle.std.proofs.lemmas.Nat.Bits.{bit_at-lt}
-use Rattle.rc_base.specs.Header.{IsHeader}
+use Rattle.rc_base.specs.Fields.{of}
+use Rattle.rc_base.specs.Header.{IsHeader, bit, bit_count, last_bit}
+use Rattle.rc_base.specs.declared.field.Field.TheVariants.{Sport, Dport}
 use Rattle.rc_base.specs.declared.header.Header.{Header}
-use Rattle.rc_trees.specs.Headers.{bit}
 use Rattle.rc_trees.specs.Trees.{Tree, never, always, value, HasNodesOf}
 use Rattle.rc_trees.specs.Combine.{constant, joined, minus}
 use Rattle.rc_trees.specs.Fields.{below, at_most}
 use Rattle.rc_trees.proofs.TreeLaws.{value-joined, value-constant, value-minus}
 use Rattle.rc_trees.proofs.ReducedLaws.{Starts, starts-joined, sooner, reduced-minus}
 use Rattle.rc_trees.proofs.SideLaws.{joined_low, joined_high}
-use Rattle.rc_trees.proofs.FieldLaws.{Reads, fewer, value-below, value-at_most, reads_sport, reads_dport}
+use Rattle.rc_trees.proofs.FieldLaws.{Reads, fewer, value-below, value-at_most, reads}
 use Rattle.rc_trees.proofs.FieldsReduced.{reduced-below, reduced-at_most}
 use Rattle.rc_trees.proofs.HeaderLaws.{one_tree_per_set}
 use Rattle.rc_nodes.specs.Seats.{TableView, SeatView, SeatKnows}
@@ -81,8 +82,8 @@ module _ (last count low end : ℕ) (some : 1 ≤ count) where
 
 -- ---- it is reduced
 
-module _ (last : ℕ) (is_bit : last < 104) where
-  starts-constant : (u : ℕ) (b : Bool) → u ≤ 104 → Starts u (constant b)
+module _ (last : ℕ) (is_bit : last < bit_count) where
+  starts-constant : (u : ℕ) (b : Bool) → u ≤ bit_count → Starts u (constant b)
   starts-constant u true le = (tt, le)
   starts-constant u false le = (tt, le)
 
@@ -107,7 +108,7 @@ module _ (may : List Tree) (last count low end : ℕ) (some : 1 ≤ count) (has 
   pub may_ones : HasNodesOf may (ones last count low end some)
   may_ones = joined_high may (last - (count - 1)) (zeros last count low end some) (ones last count low end some) here
 
-pub may_join : (nodes : TableView) (seat : SeatView) (last count low end : ℕ) (some : 1 ≤ count) → last < 104 → count ≤ last + 1 → HasNodesOf nodes.may (between last count low end)
+pub may_join : (nodes : TableView) (seat : SeatView) (last count low end : ℕ) (some : 1 ≤ count) → last < bit_count → count ≤ last + 1 → HasNodesOf nodes.may (between last count low end)
     → (a b : ℕ) → SeatKnows seat a (zeros last count low end some) → SeatKnows seat b (ones last count low end some) → MayBranch nodes seat (last - (count - 1)) a b
 may_join nodes seat last count low end some is_bit fits has a b ka kb =
     let l = starts-between last is_bit (count - 1) low end (omega arith) in
@@ -147,7 +148,7 @@ module _ (h : Header) (last m : ℕ) where
 
 -- ---- the tests of ports
 
-module _ (last : ℕ) (number : Header → ℕ) (reads : (h : Header) → Reads h last (number h) 16) (small : (h : Header) → IsHeader h → number h < 2 ^ 16) (is_bit : last < 104) (wide : 16 ≤ last + 1) where
+module _ (last : ℕ) (number : Header → ℕ) (reads : (h : Header) → Reads h last (number h) 16) (small : (h : Header) → IsHeader h → number h < 2 ^ 16) (is_bit : last < bit_count) (wide : 16 ≤ last + 1) where
   value-port : (low end : ℕ) (h : Header) → IsHeader h → value (between last 16 low end) (bit h) ≡ (nat_le low (number h) && nat_lt (number h) end)
   value-port low end h is = value-between h last (number h) 16 low end (reads h) ∙ ap (λ n. nat_le low n && nat_lt n end) (mod-eq_of_lt (small h is))
 
@@ -178,19 +179,19 @@ module _ (last : ℕ) (number : Header → ℕ) (reads : (h : Header) → Reads 
       ∙ sym (value-minus (bit h) (at_most last 16 high) (below last 16 low) ∙ (λ i. value-at_most h last (number h) 16 (reads h) (small h is) high i && not (value-below h last (number h) 16 (reads h) (small h is) low i))))
 
 pub below_is : (last n : ℕ) → IsPort last → between last 16 0 n ≡ below last 16 n
-below_is last n (inl e) = subst (λ v. between v 16 0 n ≡ below v 16 n) (sym e) (below_port 87 (λ h. h.sport) reads_sport (λ h is. is.sport) (omega arith) (omega arith) n)
-below_is last n (inr e) = subst (λ v. between v 16 0 n ≡ below v 16 n) (sym e) (below_port 103 (λ h. h.dport) reads_dport (λ h is. is.dport) (omega arith) (omega arith) n)
+below_is last n (inl e) = subst (λ v. between v 16 0 n ≡ below v 16 n) (sym e) (below_port (last_bit Sport) (of Sport) (λ h. reads h Sport) (λ h is. is Sport) (omega arith) (omega arith) n)
+below_is last n (inr e) = subst (λ v. between v 16 0 n ≡ below v 16 n) (sym e) (below_port (last_bit Dport) (of Dport) (λ h. reads h Dport) (λ h is. is Dport) (omega arith) (omega arith) n)
 
 pub above_is : (last n : ℕ) → IsPort last → between last 16 (n + 1) 65536 ≡ minus always (at_most last 16 n)
-above_is last n (inl e) = subst (λ v. between v 16 (n + 1) 65536 ≡ minus always (at_most v 16 n)) (sym e) (above_port 87 (λ h. h.sport) reads_sport (λ h is. is.sport) (omega arith) (omega arith) n)
-above_is last n (inr e) = subst (λ v. between v 16 (n + 1) 65536 ≡ minus always (at_most v 16 n)) (sym e) (above_port 103 (λ h. h.dport) reads_dport (λ h is. is.dport) (omega arith) (omega arith) n)
+above_is last n (inl e) = subst (λ v. between v 16 (n + 1) 65536 ≡ minus always (at_most v 16 n)) (sym e) (above_port (last_bit Sport) (of Sport) (λ h. reads h Sport) (λ h is. is Sport) (omega arith) (omega arith) n)
+above_is last n (inr e) = subst (λ v. between v 16 (n + 1) 65536 ≡ minus always (at_most v 16 n)) (sym e) (above_port (last_bit Dport) (of Dport) (λ h. reads h Dport) (λ h is. is Dport) (omega arith) (omega arith) n)
 
 pub within_is : (last low high : ℕ) → IsPort last → between last 16 low (high + 1) ≡ minus (at_most last 16 high) (below last 16 low)
-within_is last low high (inl e) = subst (λ v. between v 16 low (high + 1) ≡ minus (at_most v 16 high) (below v 16 low)) (sym e) (within_port 87 (λ h. h.sport) reads_sport (λ h is. is.sport) (omega arith) (omega arith) low high)
-within_is last low high (inr e) = subst (λ v. between v 16 low (high + 1) ≡ minus (at_most v 16 high) (below v 16 low)) (sym e) (within_port 103 (λ h. h.dport) reads_dport (λ h is. is.dport) (omega arith) (omega arith) low high)
+within_is last low high (inl e) = subst (λ v. between v 16 low (high + 1) ≡ minus (at_most v 16 high) (below v 16 low)) (sym e) (within_port (last_bit Sport) (of Sport) (λ h. reads h Sport) (λ h is. is Sport) (omega arith) (omega arith) low high)
+within_is last low high (inr e) = subst (λ v. between v 16 low (high + 1) ≡ minus (at_most v 16 high) (below v 16 low)) (sym e) (within_port (last_bit Dport) (of Dport) (λ h. reads h Dport) (λ h is. is Dport) (omega arith) (omega arith) low high)
 
 -- the bits of a port
-pub port_bits : (last : ℕ) → IsPort last → (last < 104) × (16 ≤ last + 1)
+pub port_bits : (last : ℕ) → IsPort last → (last < bit_count) × (16 ≤ last + 1)
 port_bits last (inl e) = (omega arith, omega arith)
 port_bits last (inr e) = (omega arith, omega arith)
 

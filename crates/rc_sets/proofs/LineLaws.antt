@@ -2,6 +2,8 @@
 use Rattle.std.proofs.Common.{refl, ◌≡◌, ap, sym, ◌∙◌, subst, ℕ, zero, suc, ◌+◌, ◌^◌, ◌<◌, ◌≤◌, cond, List, [], ◌∷◌, ◌++◌, length, take, drop, get_or, Result, Ok, Err, IfOk, arith}
 use Rattle.std.specs.List.{fold}
 use Rattle.std.proofs.lemmas.Bool.{lt-ltb}
+use Rattle.rc_base.specs.Header.{last_bit}
+use Rattle.rc_base.specs.declared.field.Field.TheVariants.{Dst, Src, Proto, Sport, Dport}
 use Rattle.rc_config.specs.declared.access_list.Action.{Action}
 use Rattle.rc_config.specs.declared.access_list.Action.TheVariants.{Permit, Deny}
 use Rattle.rc_config.specs.declared.access_list.AccessListLine.{AccessListLine}
@@ -94,16 +96,16 @@ module _ (l : AccessListLine) where
   protocol = protocol_set l.protocol
 
   abbrev pub source : Recipe
-  source = address_set 63 l.source
+  source = address_set (last_bit Src) l.source
 
   abbrev pub source_port : Recipe
-  source_port = port_set 87 l.source_port
+  source_port = port_set (last_bit Sport) l.source_port
 
   abbrev pub destination : Recipe
-  destination = address_set 31 l.destination
+  destination = address_set (last_bit Dst) l.destination
 
   abbrev pub destination_port : Recipe
-  destination_port = port_set 103 l.destination_port
+  destination_port = port_set (last_bit Dport) l.destination_port
 
   abbrev pub sources : Recipe
   sources = and protocol source
@@ -213,8 +215,8 @@ pub deny_may : (nodes : TableView) (seat : SeatView) (action : Action) (matched 
 deny_may nodes seat Permit matched set is m = absurd (cc)
 deny_may nodes seat Deny matched set is m = may_minus nodes seat set matched m.rest m.line m.knows_rest m.knows_line m.allowed
 
-pub protocol_may : (may : List Tree) (test : ProtocolTest) (n : ℕ) → test ≡ protocols.Is n → HasNodes may (parts (protocol_set test)) → HasNodesOf may (exact 71 8 n)
-protocol_may may test n is has = has_recipe may (given (exact 71 8 n)) (subst (λ t. HasNodes may (parts (protocol_set t))) is has)
+pub protocol_may : (may : List Tree) (test : ProtocolTest) (n : ℕ) → test ≡ protocols.Is n → HasNodes may (parts (protocol_set test)) → HasNodesOf may (exact (last_bit Proto) 8 n)
+protocol_may may test n is has = has_recipe may (given (exact (last_bit Proto) 8 n)) (subst (λ t. HasNodes may (parts (protocol_set t))) is has)
 
 pub any_protocol : (seat : SeatView) (test : ProtocolTest) → test ≡ protocols.Any → SeatKnows seat 1 (tree (protocol_set test))
 any_protocol seat test is = subst (λ t. SeatKnows seat 1 (tree (protocol_set t))) (sym is) (knows_always seat)

@@ -2,11 +2,12 @@
 use Rattle.std.proofs.Common.{refl, ◌≡◌, ◌≢◌, ap, sym, subst, ◌∙◌, ℕ, zero, suc, ◌+◌, ◌-◌, ◌<◌, ◌≤◌, Bool, true, false, cond, ◌^◌, inl, inr, ◌⊎◌, List, Result, Ok, Err, IfOk, arith}
 use Rattle.std.proofs.lemmas.Bool.{cases_eq, lt-ltb}
 use Rattle.std.proofs.lemmas.Nat.{shr_below}
+use Rattle.rc_base.specs.Fields.{is_set}
+use Rattle.rc_base.specs.Header.{bit_count}
 use Rattle.rc_base.specs.Addr.{leading_bits}
 use Rattle.rc_base.specs.Prefix.{Cidr}
 use Rattle.rc_trees.specs.Recipes.{tree}
 use Rattle.rc_trees.specs.Trees.{Tree, never, always, node, HasNodesOf}
-use Rattle.rc_trees.specs.Headers.{is_set}
 use Rattle.rc_trees.specs.Combine.{joined}
 use Rattle.rc_trees.specs.Fields.{masked, with_bit, chain}
 use Rattle.rc_trees.proofs.FieldsReduced.{masked-bits}
@@ -93,7 +94,7 @@ again last w n k = refl
 pub one_more : (last w n k : ℕ) → masked last (k + 1) w n ≡ with_bit (is_set w k) (is_set n k) (last - k) (masked last k w n)
 one_more last w n k = ap (λ j. masked last j w n) (let e : k + 1 ≡ suc k = omega arith in e) ∙ again last w n k
 
-module _ (nodes : TableView) (seat : SeatView) (last count w n k r : ℕ) (bit : last < 104) (fits : count ≤ last + 1) (less : k < count) (known : SeatKnows seat r (masked last k w n)) (has : HasNodesOf nodes.may (masked last count w n)) where
+module _ (nodes : TableView) (seat : SeatView) (last count w n k r : ℕ) (bit : last < bit_count) (fits : count ≤ last + 1) (less : k < count) (known : SeatKnows seat r (masked last k w n)) (has : HasNodesOf nodes.may (masked last count w n)) where
   pub may_follow : (free one : Bool) → free ≡ is_set w k → one ≡ is_set n k → MayFollow nodes seat free one (last - k) r
   may_follow free one ef eo =
       let ok = masked-bits last bit k w n (omega arith) in

@@ -18,6 +18,7 @@ use Rattle.rc_trees.specs.Recipes.{has}
 use Rattle.rc_trees.specs.Fields.{chain}
 use Rattle.rc_fib.specs.Entries.{IsInOrder}
 use Rattle.rc_base.specs.Header.{IsHeader}
+use Rattle.rc_base.specs.declared.field.Field.TheVariants.{Dst}
 use Rattle.rc_sets.specs.Regions.{is_within, longer_within, region, gives, hop_set, hops_in}
 use Rattle.rc_trees.proofs.FieldLaws.{has-chain}
 use Rattle.rc_trees.proofs.RecipeLaws.{has-without, has-union_of}
@@ -30,7 +31,7 @@ module _ (fib : List Entry) (ordered : IsInOrder fib) where
     entry_has : (e : Entry) → In e fib → has (chain e.prefix) h ≡ contains e.prefix h.dst
     entry_has e there =
         let canonical = all-in (λ (x : Entry). IsCidr x.prefix) e fib (recursion_from_All (λ (x : Entry). IsCidr x.prefix) fib ordered.canonical) there in
-        has-chain h header.dst e.prefix canonical.short
+        has-chain h (header Dst) e.prefix canonical.short
 
     within_has : (p q : Cidr) → In q (longer_within fib p) → has (chain q) h ≡ contains q h.dst
     within_has p q there =

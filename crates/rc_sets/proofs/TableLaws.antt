@@ -8,17 +8,18 @@ use Rattle.std.specs.declared.cmp.Ordering.TheVariants.{Less}
 use Rattle.std.proofs.lemmas.Bool.Decides.{nat_tests}
 use Rattle.std.proofs.lemmas.List.Elements.{recursion_from_All}
 use Rattle.rc_base.specs.Addr.{leading_bits}
-use Rattle.rc_base.specs.Header.{IsHeader}
+use Rattle.rc_base.specs.Header.{HasBits, IsHeader, bit, bit_count, last_bit}
 use Rattle.rc_base.specs.Prefix.{Cidr, IsCidr, contains, prefix_cmp}
+use Rattle.rc_base.specs.declared.field.Field.TheVariants.{Dst}
 use Rattle.rc_base.specs.declared.header.Header.{Header}
+use Rattle.rc_base.proofs.HeaderLaws.{headers_are_bits}
 use Rattle.rc_fib.specs.Entries.{IsInOrder}
 use Rattle.rc_fib.specs.declared.entry.Entry.{Entry}
 use Rattle.rc_route.specs.Hops.{same_hop}
 use Rattle.rc_route.specs.declared.route.Hop.{Hop}
-use Rattle.rc_trees.specs.Headers.{bit, is_set}
 use Rattle.rc_trees.specs.Recipes.{tree}
 use Rattle.rc_trees.specs.Trees.{Tree, IsReduced, value, HasNodesOf}
-use Rattle.rc_trees.proofs.HeaderLaws.{header_of, is_header, bits_of_header}
+use Rattle.rc_trees.proofs.FieldLaws.{reads}
 use Rattle.rc_trees.proofs.OneTree.{by_bits}
 use Rattle.rc_trees.proofs.RecipeLaws.{reduced-tree}
 use Rattle.rc_sets.specs.Marks.{Mark, address_bit, mark_of, prefixes_over, digit, lead, inside, Before, IsPrefix, AreMarks, Rises, held, decided, IsHopSet, MayBuild}
@@ -58,12 +59,11 @@ is_lt : (m n : ℕ) → m < n → nat_lt m n ≡ true
 is_lt m n less = grind (arith, nat_tests)
 
 destination_bit : (h : Header) (k : ℕ) → k < 32 → bit h k ≡ address_bit h.dst k
-unfolding bit
-destination_bit h k lt = ap (λ b. if b then is_set h.dst (31 - k) else if nat_lt k 64 then is_set h.src (63 - k) else if nat_lt k 72 then is_set h.proto (71 - k) else if nat_lt k 88 then is_set h.sport (87 - k) else is_set h.dport (103 - k)) (is_lt k 32 lt)
+destination_bit h k lt = ap (bit h) (let at : k ≡ last_bit Dst - (31 - k) = omega arith in at) ∙ reads h Dst (31 - k) (omega arith)
 
 -- the first bits of a header are its destination's
 first_bits : (h : Header) → IsHeader h → (n : ℕ) → n ≤ 32 → lead (bit h) n ≡ leading_bits n h.dst
-first_bits h i zero le = no_bits h.dst i.dst
+first_bits h i zero le = no_bits h.dst (i Dst)
 first_bits h i (suc n) le =
     let before = first_bits h i n (omega arith) in
     (λ j. 2 * before j + digit (destination_bit h n (omega arith) j)) ∙ sym (leading_more h.dst n (omega arith))
@@ -132,7 +132,7 @@ module _ (x : Hop) (h : Header) (i : IsHeader h) where
 
 -- ---- the set of a hop is what the marks decide
 
-same_decided : (b c : ℕ → Bool) → ((v : ℕ) → v < 104 → b v ≡ c v) → (known : Bool) (ms : List Mark) → AreMarks ms → decided known ms b ≡ decided known ms c
+same_decided : (b c : ℕ → Bool) → ((v : ℕ) → v < bit_count → b v ≡ c v) → (known : Bool) (ms : List Mark) → AreMarks ms → decided known ms b ≡ decided known ms c
 same_decided b c same known [] ok = refl
 same_decided b c same known (m ∷ ms) ok =
     let short = ok.0.canonical.short in
@@ -156,10 +156,13 @@ module _ (fib : List Entry) (o : IsInOrder fib) (x : Hop) where
   on_header h is = has-hop_set fib o h is x ∙ sym (from_none x h is fib marks rises)
 
   values : (bits : ℕ → Bool) → value whole bits ≡ decided false (map (mark_of x) fib) bits
-  values bits =
-      by_bits whole reduced bits (bit (header_of bits)) (λ v less. sym (bits_of_header bits v less))
-      ∙ on_header (header_of bits) (is_header bits)
-      ∙ same_decided (bit (header_of bits)) bits (bits_of_header bits) false (map (mark_of x) fib) marks
+  values bits = of_bits (headers_are_bits bits)
+    where
+      of_bits : HasBits bits → value whole bits ≡ decided false (map (mark_of x) fib) bits
+      of_bits has =
+          by_bits whole reduced bits (bit has.header) (λ v less. sym (has.same v less))
+          ∙ on_header has.header has.fits
+          ∙ same_decided (bit has.header) bits has.same false (map (mark_of x) fib) marks
 
   all : IsHopSet 0 false fib (prefixes_over x fib) whole
   all = record {

@@ -3,9 +3,10 @@ use Rattle.std.proofs.Common.{refl, ◌≡◌, ap, sym, ◌∙◌, ℕ, zero, su
 use Rattle.std.specs.Int.{bit_at}
 use Rattle.std.specs.List.{list_all, range_with_len}
 use Rattle.std.proofs.lemmas.Nat.Bits.{bit_at-lt}
+use Rattle.rc_base.specs.Fields.{is_set}
+use Rattle.rc_base.specs.Header.{bit}
 use Rattle.rc_base.specs.declared.header.Header.{Header}
 use Rattle.rc_filter.specs.Verdict.{is_same_bit, same_bits}
-use Rattle.rc_trees.specs.Headers.{is_set, bit}
 use Rattle.rc_trees.specs.Trees.{value}
 use Rattle.rc_trees.specs.Fields.{masked}
 use Rattle.rc_trees.proofs.FieldLaws.{Reads, fewer, value-with_bit}

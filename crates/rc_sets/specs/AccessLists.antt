@@ -1,6 +1,8 @@
 -- The headers that access lists permit (IOS `access-list`), as recipes of trees.
 use Rattle.std.specs.Prelude.{ℕ, List, [], ◌∷◌, Option, Some, None}
 use Rattle.std.specs.Option.{option_map_or}
+use Rattle.rc_base.specs.Header.{last_bit}
+use Rattle.rc_base.specs.declared.field.Field.TheVariants.{Dst, Src, Proto, Sport, Dport}
 use Rattle.rc_config.specs.Named.{named}
 use Rattle.rc_config.specs.declared.access_list.Action.{Action}
 use Rattle.rc_config.specs.declared.access_list.Action.TheVariants.{Permit, Deny}
@@ -23,7 +25,7 @@ address_set last t = given (masked last 32 t.wildcard t.addr)
 
 abbrev pub protocol_set : ProtocolTest → Recipe
 protocol_set protocol.Any = given always
-protocol_set (protocol.Is n) = given (exact 71 8 n)
+protocol_set (protocol.Is n) = given (exact (last_bit Proto) 8 n)
 
 -- `eq` joins its ports, and `neq` takes them away; each other test is given: `gt` is all but the ports up to its own, and `range`
 -- those up to its end without those below its start
@@ -40,7 +42,7 @@ port_set last (Within low high) = given (trees.minus (at_most last 16 high) (bel
 -- the headers that a line matches
 unfoldable pub line_set : AccessListLine → Recipe
 line_set l =
-    and (and (and (and (protocol_set l.protocol) (address_set 63 l.source)) (port_set 87 l.source_port)) (address_set 31 l.destination)) (port_set 103 l.destination_port)
+    and (and (and (and (protocol_set l.protocol) (address_set (last_bit Src) l.source)) (port_set (last_bit Sport) l.source_port)) (address_set (last_bit Dst) l.destination)) (port_set (last_bit Dport) l.destination_port)
 
 -- a line in front of a set: permit adds what it matches, deny takes it away
 abbrev pub with_line : Action → Recipe → Recipe → Recipe

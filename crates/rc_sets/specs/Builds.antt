@@ -1,5 +1,6 @@
 -- What the parts of a set's making ask.
 use Rattle.std.specs.Prelude.{◌≢◌, ℕ, ◌<◌, Bool}
+use Rattle.rc_base.specs.Header.{bit_count}
 use Rattle.rc_config.specs.declared.access_list.Action.{Action}
 use Rattle.rc_trees.specs.Trees.{Tree, never, top, HasNodes, HasNodesOf}
 use Rattle.rc_trees.specs.Recipes.{Recipe, parts, tree}
@@ -9,7 +10,7 @@ use Rattle.rc_sets.specs.AccessLists.{with_line}
 
 -- a known tree of some headers that tests greater bits, and the nodes of what comes with one bit more may be made
 pub record MayFollow (nodes : TableView) (seat : SeatView) (free one : Bool) (var r : ℕ) : Type 0 where
-  pub bit : var < 104
+  pub bit : var < bit_count
   pub rest : Tree
   pub known : SeatKnows seat r rest
   pub some : rest ≢ never

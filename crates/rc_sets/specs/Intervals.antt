@@ -1,5 +1,7 @@
 -- Intervals of a number in a header, as trees.
 use Rattle.std.specs.Prelude.{◌≡◌, ◌⊎◌, ℕ, zero, suc, ◌-◌, ◌^◌, ◌&&◌, nat_le, nat_lt}
+use Rattle.rc_base.specs.Header.{last_bit}
+use Rattle.rc_base.specs.declared.field.Field.TheVariants.{Sport, Dport}
 use Rattle.rc_trees.specs.Trees.{Tree}
 use Rattle.rc_trees.specs.Combine.{constant, joined}
 
@@ -11,4 +13,4 @@ between last (suc k) low end = joined (last - k) (between last k low end) (betwe
 
 -- a port of a header ends at this bit: the source port, or the destination port
 abbrev pub IsPort : ℕ → Type 0
-IsPort last = (last ≡ 87) ⊎ (last ≡ 103)
+IsPort last = (last ≡ last_bit Sport) ⊎ (last ≡ last_bit Dport)

@@ -1,8 +1,10 @@
 -- Sets by computation: tests at their edges, nested prefixes, holes.
 use Rattle.std.specs.Prelude.{◌≡◌, refl, ℕ, true, false, List, [], ◌∷◌, length}
+use Rattle.rc_base.specs.Fields.{zeros}
+use Rattle.rc_base.specs.Header.{bit, last_bit}
 use Rattle.rc_base.specs.Prefix.{prefix_at}
+use Rattle.rc_base.specs.declared.field.Field.TheVariants.{Dport}
 use Rattle.rc_base.specs.declared.header.Header.{Header}
-use Rattle.rc_config.specs.declared.access_list.AccessListLine.{AccessListLine}
 use Rattle.rc_config.specs.declared.access_list.Action.TheVariants.{Permit}
 use Rattle.rc_config.specs.declared.access_list.AddressTest.{AddressTest}
 use Rattle.rc_config.specs.declared.access_list.PortTest.TheVariants.{Below, Above, Within}
@@ -10,7 +12,6 @@ use Rattle.rc_config.specs.declared.access_list.ProtocolTest.TheVariants as prot
 use Rattle.rc_fib.specs.declared.entry.Entry.{Entry}
 use Rattle.rc_route.specs.declared.route.Hop.TheVariants.{Null}
 use Rattle.rc_trees.specs.Trees.{never, always}
-use Rattle.rc_trees.specs.Headers.{bit}
 use Rattle.rc_trees.specs.Combine as trees
 use Rattle.rc_trees.specs.Recipes.{nodes, tree}
 use Rattle.rc_trees.specs.Recipes as recipe
@@ -20,28 +21,28 @@ use Rattle.rc_sets.specs.Regions.{region, hop_set}
 
 -- ---- ports at their edges
 
-all_ports : tree (port_set 103 (Within 0 65535)) ≡ always
+all_ports : tree (port_set (last_bit Dport) (Within 0 65535)) ≡ always
 unfolding under trees.minus
 all_ports = refl
 
-no_port_is_below_0 : tree (port_set 103 (Below 0)) ≡ never
+no_port_is_below_0 : tree (port_set (last_bit Dport) (Below 0)) ≡ never
 unfolding under
 no_port_is_below_0 = refl
 
-no_port_is_above_the_last : tree (port_set 103 (Above 65535)) ≡ never
+no_port_is_above_the_last : tree (port_set (last_bit Dport) (Above 65535)) ≡ never
 unfolding under trees.minus
 no_port_is_above_the_last = refl
 
-an_empty_range : tree (port_set 103 (Within 80 79)) ≡ never
+an_empty_range : tree (port_set (last_bit Dport) (Within 80 79)) ≡ never
 unfolding under trees.minus
 an_empty_range = refl
 
 -- the ports of one half test one bit
-the_upper_half : length (nodes (port_set 103 (Above 32767))) ≡ 1
+the_upper_half : length (nodes (port_set (last_bit Dport) (Above 32767))) ≡ 1
 unfolding nodes under trees.minus
 the_upper_half = refl
 
-one_port : length (nodes (port_set 103 (Within 80 80))) ≡ 16
+one_port : length (nodes (port_set (last_bit Dport) (Within 80 80))) ≡ 16
 unfolding nodes under trees.minus
 one_port = refl
 
@@ -71,7 +72,7 @@ abbrev table : List Entry
 table = default ∷ other ∷ back ∷ []
 
 abbrev packet : ℕ → Header
-packet to = record { dst = to; src = 0; proto = 6; sport = 1024; dport = 80 }
+packet to = record zeros { dst = to; proto = 6; sport = 1024; dport = 80 }
 
 by_the_default : recipe.has (hop_set table Null) (packet 184549376) ≡ true
 unfolding hop_set region masked bit trees.or trees.minus

@@ -1,5 +1,6 @@
 //! The sets of access lists.
 ghost use Rattle.std.specs.Prelude.{◌≡◌, ◌⊎◌, ◌^◌, ◌<◌, ◌≤◌, ◌+◌, IfOk, IfErr, ℕ};
+ghost use Rattle.rc_base.specs.Header.{bit_count};
 ghost use Rattle.rc_bdd.specs.Work.{IsCause, IsWantOfRoom};
 ghost use Rattle.rc_nodes.specs.Seats.{IsSeatOf, Keeps, SeatKnows};
 ghost use Rattle.rc_sets.specs.AccessLists.{address_set, line_set, lines_set, protocol_set, with_line};
@@ -9,6 +10,7 @@ ghost use Rattle.rc_trees.specs.Trees.{HasNodes};
 
 use crate::number::{exact_set, masked_set};
 use crate::ports::port_set;
+use rc_base::{DPORT_LAST, DST_LAST, PROTO_LAST, SPORT_LAST, SRC_LAST};
 use rc_bdd::{SetError, Work};
 use rc_config::{AccessList, AccessListLine, Action, AddressTest, ProtocolTest};
 use rc_nodes::{ALWAYS, May, NEVER, Nodes, Ref};
@@ -21,7 +23,7 @@ fn address_set<M: May>(
     test: AddressTest,
 ) -> Result<Ref, SetError>
     requires seat { IsSeatOf nodes.now work.old }
-    requires bits { (31 ≤ last) × (last < 104) }
+    requires bits { (31 ≤ last) × (last < bit_count) }
     requires may { HasNodes nodes.now.may (parts (address_set last test)) }
     ensures seat { IsSeatOf nodes.now work.new }
     ensures keeps { Keeps work.old work.new }
@@ -56,7 +58,7 @@ fn protocol_set<M: May>(
 {
     match test {
         ProtocolTest::Any => Ok(ALWAYS),
-        ProtocolTest::Is(number) => exact_set(work, nodes, 71, 8, u32::from(number)),
+        ProtocolTest::Is(number) => exact_set(work, nodes, PROTO_LAST, 8, u32::from(number)),
     }
 }
 
@@ -74,13 +76,13 @@ fn line_set<M: May>(
     ensures cause { IfErr result (IsCause nodes.now work.new) }
 {
     let protocol = protocol_set(work, nodes, line.protocol)?;
-    let source = address_set(work, nodes, 63, line.source)?;
+    let source = address_set(work, nodes, SRC_LAST, line.source)?;
     let sources = work.and(nodes, protocol, source)?;
-    let source_port = port_set(work, nodes, 87, &line.source_port)?;
+    let source_port = port_set(work, nodes, SPORT_LAST, &line.source_port)?;
     let senders = work.and(nodes, sources, source_port)?;
-    let destination = address_set(work, nodes, 31, line.destination)?;
+    let destination = address_set(work, nodes, DST_LAST, line.destination)?;
     let ways = work.and(nodes, senders, destination)?;
-    let destination_port = port_set(work, nodes, 103, &line.destination_port)?;
+    let destination_port = port_set(work, nodes, DPORT_LAST, &line.destination_port)?;
     work.and(nodes, ways, destination_port)
 }
 

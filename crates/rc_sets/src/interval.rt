@@ -1,5 +1,6 @@
 //! The sets of intervals of a number in a header.
 ghost use Rattle.std.specs.Prelude.{◌≡◌, ◌+◌, ◌^◌, ◌<◌, ◌≤◌, IfOk, IfErr, ℕ, MatchOption};
+ghost use Rattle.rc_base.specs.Header.{bit_count};
 ghost use Rattle.rc_nodes.specs.Seats.{IsFull, IsSeatOf, Keeps, SeatKnows, SeatView};
 ghost use Rattle.rc_sets.specs.Intervals.{between};
 ghost use Rattle.rc_trees.specs.Trees.{HasNodesOf};
@@ -44,7 +45,7 @@ pub(crate) fn interval<M: May>(
     end: u32,
 ) -> Result<Ref, Full>
     requires seat { IsSeatOf nodes.now work.old }
-    requires bits { (last < 104) × (count ≤ last + 1) × (count < 32) }
+    requires bits { (last < bit_count) × (count ≤ last + 1) × (count < 32) }
     requires may { HasNodesOf nodes.now.may (between last count low end) }
     ensures seat { IsSeatOf nodes.now work.new }
     ensures keeps { Keeps work.old work.new }

@@ -1,5 +1,6 @@
 //! The sets of numbers in a header.
 ghost use Rattle.std.specs.Prelude.{◌≡◌, ◌≢◌, ◌+◌, ◌^◌, ◌<◌, ◌≤◌, false, IfOk, IfErr};
+ghost use Rattle.rc_base.specs.Header.{bit_count};
 ghost use Rattle.rc_bdd.specs.Work.{IsWantOfRoom};
 ghost use Rattle.rc_nodes.specs.Seats.{IsFull, IsSeatOf, Keeps, SeatKnows};
 ghost use Rattle.rc_sets.specs.Builds.{MayFollow};
@@ -20,7 +21,7 @@ pub(crate) fn masked_set<M: May>(
     number: u32,
 ) -> Result<Ref, Full>
     requires seat { IsSeatOf nodes.now work.old }
-    requires bits { (last < 104) × (count ≤ last + 1) × (count ≤ 32) }
+    requires bits { (last < bit_count) × (count ≤ last + 1) × (count ≤ 32) }
     requires may { HasNodesOf nodes.now.may (masked last count wildcard number) }
     ensures seat { IsSeatOf nodes.now work.new }
     ensures keeps { Keeps work.old work.new }
@@ -71,7 +72,7 @@ pub(crate) fn exact_set<M: May>(
     number: u32,
 ) -> Result<Ref, SetError>
     requires seat { IsSeatOf nodes.now work.old }
-    requires bits { (last < 104) × (count ≤ last + 1) × (count ≤ 32) }
+    requires bits { (last < bit_count) × (count ≤ last + 1) × (count ≤ 32) }
     requires fits { number < 2 ^ count }
     requires may { HasNodesOf nodes.now.may (exact last count number) }
     ensures seat { IsSeatOf nodes.now work.new }

@@ -7,9 +7,13 @@ use Rattle.std.proofs.lemmas.Bool.Decides.{nat_tests}
 use Rattle.std.proofs.lemmas.Nat.{mod-pow-add, shr-shr, mod_below, shr_below, pow_pos}
 use Rattle.std.proofs.lemmas.Nat.Bits.{bit_at-lt, bit_at-zero}
 use Rattle.rc_base.specs.Addr.{leading_bits}
+use Rattle.rc_base.specs.Fields.{is_set, of, width}
+use Rattle.rc_base.specs.Header.{bit, last_bit}
 use Rattle.rc_base.specs.Prefix.{Cidr, contains}
+use Rattle.rc_base.specs.declared.field.Field.{Field}
+use Rattle.rc_base.specs.declared.field.Field.TheVariants.{Dst}
 use Rattle.rc_base.specs.declared.header.Header.{Header}
-use Rattle.rc_trees.specs.Headers.{is_set, bit}
+use Rattle.rc_base.proofs.BitLaws.{fields_are_read}
 use Rattle.rc_trees.specs.Trees.{Tree, never, always, value}
 use Rattle.rc_trees.specs.Recipes.{has}
 use Rattle.rc_trees.proofs.TreeLaws.{value-joined}
@@ -139,39 +143,8 @@ module _ (h : Header) (last m : ℕ) where
 
 -- ---- a header's fields
 
-module _ (h : Header) where
-  past : {A : Type 0} (v n : ℕ) (x y : A) → n ≤ v → cond (nat_lt v n) x y ≡ y
-  past v n x y le = cond-false (nat_lt v n) x y (le-ltb v n le)
-
-  within : {A : Type 0} (v n : ℕ) (x y : A) → v < n → cond (nat_lt v n) x y ≡ x
-  within v n x y less = cond-true (nat_lt v n) x y (lt-ltb v n less)
-
-  at_place : (n a b : ℕ) → a ≡ b → is_set n a ≡ is_set n b
-  at_place n a b e = ap (is_set n) e
-
-  pub reads_dst : Reads h 31 h.dst 32
-  unfolding bit
-  reads_dst i less = within (31 - i) 32 _ _ (omega arith) ∙ at_place h.dst (31 - (31 - i)) i (omega arith)
-
-  pub reads_src : Reads h 63 h.src 32
-  unfolding bit
-  reads_src i less = past (63 - i) 32 _ _ (omega arith) ∙ within (63 - i) 64 _ _ (omega arith) ∙ at_place h.src (63 - (63 - i)) i (omega arith)
-
-  pub reads_proto : Reads h 71 h.proto 8
-  unfolding bit
-  reads_proto i less = past (71 - i) 32 _ _ (omega arith) ∙ past (71 - i) 64 _ _ (omega arith) ∙ within (71 - i) 72 _ _ (omega arith) ∙ at_place h.proto (71 - (71 - i)) i (omega arith)
-
-  pub reads_sport : Reads h 87 h.sport 16
-  unfolding bit
-  reads_sport i less =
-      past (87 - i) 32 _ _ (omega arith) ∙ past (87 - i) 64 _ _ (omega arith) ∙ past (87 - i) 72 _ _ (omega arith)
-      ∙ within (87 - i) 88 _ _ (omega arith) ∙ at_place h.sport (87 - (87 - i)) i (omega arith)
-
-  pub reads_dport : Reads h 103 h.dport 16
-  unfolding bit
-  reads_dport i less =
-      past (103 - i) 32 _ _ (omega arith) ∙ past (103 - i) 64 _ _ (omega arith) ∙ past (103 - i) 72 _ _ (omega arith)
-      ∙ past (103 - i) 88 _ _ (omega arith) ∙ at_place h.dport (103 - (103 - i)) i (omega arith)
+pub reads : (h : Header) (f : Field) → Reads h (last_bit f) (of f h) (width f)
+reads h f = fields_are_read h f
 
 -- ---- prefixes
 
@@ -181,8 +154,8 @@ module _ (h : Header) (small : h.dst < 2 ^ 32) (p : Cidr) (short : p.len ≤ 32)
 
   reads_front : Reads h (p.len - 1) (leading_bits p.len h.dst) p.len
   reads_front i less =
-      ap (bit h) (let e : p.len - 1 - i ≡ 31 - (32 - p.len + i) = omega arith in e)
-      ∙ reads_dst h (32 - p.len + i) (omega arith)
+      ap (bit h) (let e : p.len - 1 - i ≡ last_bit Dst - (32 - p.len + i) = omega arith in e)
+      ∙ reads h Dst (32 - p.len + i) (omega arith)
       ∙ ap (λ n. n % 2 == 1) (sym (shr-shr h.dst (32 - p.len) i))
 
   -- the chain of a prefix holds the headers whose destination the prefix holds

@@ -1,9 +1,10 @@
 -- The trees of numbers are reduced.
 use Rattle.std.proofs.Common.{sym, ℕ, zero, suc, ◌+◌, ◌-◌, ◌^◌, ◌<◌, ◌≤◌, Bool, true, false, cond, nat_lt, arith}
 use Rattle.std.specs.Prelude.{◌≢◌}
+use Rattle.rc_base.specs.Header.{bit_count}
 use Rattle.rc_base.specs.Addr.{leading_bits}
 use Rattle.rc_base.specs.Prefix.{Cidr, prefix_at}
-use Rattle.rc_trees.specs.Headers.{is_set}
+use Rattle.rc_base.specs.Fields.{is_set}
 use Rattle.rc_trees.specs.Trees.{Tree, never, always, top, IsReduced}
 use Rattle.rc_trees.specs.Combine.{joined}
 use Rattle.rc_trees.specs.Recipes.{IsOfReduced}
@@ -12,7 +13,7 @@ use Rattle.rc_trees.proofs.ReducedLaws.{Starts, starts-joined, sooner}
 
 -- ---- numbers
 
-module _ (last : ℕ) (bit : last < 104) where
+module _ (last : ℕ) (bit : last < bit_count) where
   not_never : (v : ℕ) (one : Bool) (t : Tree) → t ≢ never → with_bit false one v t ≢ never
   not_never v true t other = λ e. absurd (cc)
   not_never v false t other = λ e. absurd (cc)

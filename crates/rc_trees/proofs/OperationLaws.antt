@@ -1,5 +1,6 @@
 -- What the operations do with two reduced trees: both sides at a bit are combined and joined, and some results need no step.
 use Rattle.std.proofs.Common.{◌≡◌, ℕ, suc, ◌<◌, ◌≤◌, Bool, true, false, not, ◌&&◌, ◌||◌, cond, refl, sym, ◌∙◌}
+use Rattle.rc_base.specs.Header.{bit_count}
 use Rattle.rc_trees.specs.Trees.{Tree, never, always, top, value, IsReduced, low_side, high_side}
 use Rattle.rc_trees.specs.Combine.{joined, combined, and_not}
 use Rattle.rc_trees.proofs.OneTree.{combined_is}
@@ -10,7 +11,7 @@ use Rattle.rc_trees.proofs.TreeLaws.{value-combined, value-joined}
 -- ---- the sides
 
 -- at a bit that neither tree tests before, each side of the one with that of the other starts behind it
-module _ (table : Bool → Bool → Bool) (v : ℕ) (s t : Tree) (r : IsReduced s) (q : IsReduced t) (less : v < 104) (vs : v ≤ top s) (vt : v ≤ top t) where
+module _ (table : Bool → Bool → Bool) (v : ℕ) (s t : Tree) (r : IsReduced s) (q : IsReduced t) (less : v < bit_count) (vs : v ≤ top s) (vt : v ≤ top t) where
   pub low_starts : Starts (suc v) (combined table (low_side v s) (low_side v t))
   low_starts = starts-combined table (suc v) (low_side v s) (low_side v t) (low_reduced v s r, low_top v s r less vs) (low_reduced v t q, low_top v t q less vt)
 

@@ -7,6 +7,7 @@ use Rattle.std.specs.declared.cmp.Ordering.{Ordering}
 use Rattle.std.specs.declared.cmp.Ordering.TheVariants.{Less, Equal, Greater}
 use Rattle.std.proofs.lemmas.Bool.{cond-true, cond-false, eq-eqb, ne_eqb, cases_eq, cases_lt, or_left, or_right}
 use Rattle.std.proofs.lemmas.Bool.Decides.{nat_tests}
+use Rattle.rc_base.specs.Header.{bit_count}
 use Rattle.rc_base.proofs.FirstSeenLaws.{any-first_seen}
 use Rattle.rc_base.proofs.KeepLaws.{In}
 use Rattle.rc_trees.specs.Trees.{Tree, never, always, node, low_side, high_side, first_of, is_node, same_tree, IsAmong, HasNodes}
@@ -132,15 +133,15 @@ module _ (table : Bool → Bool → Bool) where
 
   -- two trees are combined side by side at the least variable that one of them tests on top, and their parts are the result and the
   -- parts of both sides
-  pub step : (s t : Tree) → first_of s t < 104 → IsStep (first_of s t) s t
+  pub step : (s t : Tree) → first_of s t < bit_count → IsStep (first_of s t) s t
   step never never less = absurd (omega arith)
   step never always less = absurd (omega arith)
-  step never (node w m n) less = subst (λ v. IsStep v never (node w m n)) (let e : w ≡ min 104 w = omega arith in e) (step_constant_never w m n)
+  step never (node w m n) less = subst (λ v. IsStep v never (node w m n)) (let e : w ≡ min bit_count w = omega arith in e) (step_constant_never w m n)
   step always never less = absurd (omega arith)
   step always always less = absurd (omega arith)
-  step always (node w m n) less = subst (λ v. IsStep v always (node w m n)) (let e : w ≡ min 104 w = omega arith in e) (step_constant_always w m n)
-  step (node v l h) never less = subst (λ u. IsStep u (node v l h) never) (let e : v ≡ min v 104 = omega arith in e) (step_never v l h)
-  step (node v l h) always less = subst (λ u. IsStep u (node v l h) always) (let e : v ≡ min v 104 = omega arith in e) (step_always v l h)
+  step always (node w m n) less = subst (λ v. IsStep v always (node w m n)) (let e : w ≡ min bit_count w = omega arith in e) (step_constant_always w m n)
+  step (node v l h) never less = subst (λ u. IsStep u (node v l h) never) (let e : v ≡ min v bit_count = omega arith in e) (step_never v l h)
+  step (node v l h) always less = subst (λ u. IsStep u (node v l h) always) (let e : v ≡ min v bit_count = omega arith in e) (step_always v l h)
   step (node v l h) (node w m n) less = both_nodes v l h w m n (cases_lt v w)
 
   -- ---- the parts are the subtrees of the result

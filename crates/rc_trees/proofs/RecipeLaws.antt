@@ -2,7 +2,7 @@
 use Rattle.std.proofs.Common.{refl, ◌≡◌, ap, ◌∙◌, Bool, true, false, not, ◌&&◌, ◌||◌, List, [], ◌∷◌}
 use Rattle.std.specs.List.{list_any, fold, AllByRecursion}
 use Rattle.rc_base.specs.declared.header.Header.{Header}
-use Rattle.rc_trees.specs.Headers.{bit}
+use Rattle.rc_base.specs.Header.{bit}
 use Rattle.rc_trees.specs.Trees.{never, IsReduced}
 use Rattle.rc_trees.specs.Recipes.{Recipe, given, and, or, minus, tree, has, IsOfReduced, union_of, without}
 use Rattle.rc_trees.proofs.ReducedLaws.{reduced-and, reduced-or, reduced-minus}

@@ -4,6 +4,7 @@ use Rattle.std.specs.Ordering.{nat_cmp}
 use Rattle.std.specs.declared.cmp.Ordering.{Ordering}
 use Rattle.std.specs.declared.cmp.Ordering.TheVariants.{Less, Equal, Greater}
 use Rattle.std.proofs.lemmas.Bool.Decides.{nat_tests}
+use Rattle.rc_base.specs.Header.{bit_count}
 use Rattle.rc_trees.specs.Trees.{Tree, never, always, node, top, IsReduced, same_tree}
 use Rattle.rc_trees.specs.Combine.{joined, constant, with_constant, with_node, combined, and, or, minus, and_not}
 use Rattle.rc_trees.proofs.TreeLaws.{same_tree-Decides}
@@ -12,7 +13,7 @@ use Rattle.rc_trees.proofs.TreeLaws.{same_tree-Decides}
 abbrev pub Starts : ℕ → Tree → Type 0
 Starts u t = IsReduced t × (u ≤ top t)
 
-pub top-le : (t : Tree) → IsReduced t → top t ≤ 104
+pub top-le : (t : Tree) → IsReduced t → top t ≤ bit_count
 top-le never r = omega arith
 top-le always r = omega arith
 top-le (node v l h) r = let low = top-le l r.3 in let a = r.0 in omega arith
@@ -24,7 +25,7 @@ starts-joined v l h a b = by (same_tree l h) (same_tree-Decides l h).1
     by true same = (a.0, let low = a.1 in omega arith)
     by false same = ((let low = a.1 in omega arith, let high = b.1 in omega arith, λ e. let x : false ≡ true = same e in cc, a.0, b.0), omega arith)
 
-starts-constant : (u : ℕ) (b : Bool) → u ≤ 104 → Starts u (constant b)
+starts-constant : (u : ℕ) (b : Bool) → u ≤ bit_count → Starts u (constant b)
 starts-constant u true le = (tt, le)
 starts-constant u false le = (tt, le)
 
@@ -56,7 +57,7 @@ module _ (table : Bool → Bool → Bool) where
         let less : w < v = grind (arith, nat_tests) in
         sooner u w (joined w (with_node table v low high m) (with_node table v low high n)) s.1 (starts-joined w (with_node table v low high m) (with_node table v low high n) (p less) (q less))
 
-    starts-with_node : (u : ℕ) (t : Tree) → u ≤ v → v < 104 → Starts u t → Starts u (with_node table v low high t)
+    starts-with_node : (u : ℕ) (t : Tree) → u ≤ v → v < bit_count → Starts u t → Starts u (with_node table v low high t)
     starts-with_node u never le bit s = first u never le (tt, bit)
     starts-with_node u always le bit s = first u always le (tt, bit)
     starts-with_node u (node w m n) le bit s =
@@ -67,7 +68,7 @@ module _ (table : Bool → Bool → Bool) where
   starts-combined u never t a b = starts-with_constant u false t b
   starts-combined u always t a b = starts-with_constant u true t b
   starts-combined u (node v l h) t a b =
-      let bit : v < 104 = (let low = top-le l a.0.3 in let c = a.0.0 in omega arith) in
+      let bit : v < bit_count = (let low = top-le l a.0.3 in let c = a.0.0 in omega arith) in
       starts-with_node v (combined table l) (combined table h)
       (λ x s. starts-combined (suc v) l x (a.0.3, a.0.0) s)
       (λ x s. starts-combined (suc v) h x (a.0.4, a.0.1) s)

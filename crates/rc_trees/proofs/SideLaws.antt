@@ -1,6 +1,7 @@
 -- A tree and its sides at a bit.
 use Rattle.std.proofs.Common.{◌≡◌, ◌≢◌, ℕ, ◌<◌, ◌≤◌, ◌⊎◌, inl, inr, Bool, true, false, cond, ◌==◌, refl, sym, ap, subst, ◌∙◌, arith, List, eq-eqb, ne_eqb}
 use Rattle.std.proofs.Math.Decide.{ℕ_discrete}
+use Rattle.rc_base.specs.Header.{bit_count}
 use Rattle.rc_trees.specs.Trees.{Tree, never, always, node, top, value, IsReduced, IsAmong, HasNodesOf, same_tree, low_side, high_side}
 use Rattle.rc_trees.specs.Combine.{joined}
 use Rattle.rc_trees.proofs.OneTree.{one_tree}
@@ -61,7 +62,7 @@ high_reduced v never r = tt
 high_reduced v always r = tt
 high_reduced v (node w l h) r = elim (v == w) as (λ b. IsReduced (cond b h (node w l h))) [ true ↦ r.4 | false ↦ r ]
 
-pub low_top : (v : ℕ) (t : Tree) → IsReduced t → v < 104 → v ≤ top t → v < top (low_side v t)
+pub low_top : (v : ℕ) (t : Tree) → IsReduced t → v < bit_count → v ≤ top t → v < top (low_side v t)
 low_top v never r lt le = lt
 low_top v always r lt le = lt
 low_top v (node w l h) r lt le = elim (ℕ_discrete v w) [
@@ -69,7 +70,7 @@ low_top v (node w l h) r lt le = elim (ℕ_discrete v w) [
   | no ne ↦ let P : Bool → Type 0 = λ b. v < top (cond b l (node w l h)) in subst P (sym (ne_eqb v w ne)) (let d : v ≤ w = le in omega arith)
 ]
 
-pub high_top : (v : ℕ) (t : Tree) → IsReduced t → v < 104 → v ≤ top t → v < top (high_side v t)
+pub high_top : (v : ℕ) (t : Tree) → IsReduced t → v < bit_count → v ≤ top t → v < top (high_side v t)
 high_top v never r lt le = lt
 high_top v always r lt le = lt
 high_top v (node w l h) r lt le = elim (ℕ_discrete v w) [
@@ -94,7 +95,7 @@ high_value v (node w l h) bits e = elim (ℕ_discrete v w) [
 ]
 
 -- a tree is its sides, joined
-pub rejoined : (v : ℕ) (t : Tree) → IsReduced t → v < 104 → v ≤ top t → joined v (low_side v t) (high_side v t) ≡ t
+pub rejoined : (v : ℕ) (t : Tree) → IsReduced t → v < bit_count → v ≤ top t → joined v (low_side v t) (high_side v t) ≡ t
 rejoined v t r lt le =
     one_tree (joined v (low_side v t) (high_side v t)) t (joined_reduced v (low_side v t) (high_side v t) (low_reduced v t r) (high_reduced v t r) (low_top v t r lt le) (high_top v t r lt le)) r
     (λ bits. value-joined bits v (low_side v t) (high_side v t) ∙ go bits (bits v) refl)

@@ -1,8 +1,8 @@
 -- The trees of tests of a header's fields.
 use Rattle.std.specs.Prelude.{ℕ, zero, suc, ◌-◌, ◌^◌, Bool, true, false, nat_lt, if◌then◌else◌, List, flat_map}
 use Rattle.rc_base.specs.Addr.{leading_bits}
+use Rattle.rc_base.specs.Fields.{is_set}
 use Rattle.rc_base.specs.Prefix.{Cidr, prefix_at}
-use Rattle.rc_trees.specs.Headers.{is_set}
 use Rattle.rc_trees.specs.Trees.{Tree, never, always, node}
 use Rattle.rc_trees.specs.Combine.{joined}
 use Rattle.rc_trees.specs.Recipes.{Recipe, given, nodes}

@@ -1,4 +1,3 @@
-pub mod Headers
 pub mod Trees
 pub mod Combine
 pub mod Parts

@@ -1,9 +1,11 @@
 -- Trees by computation.
 use Rattle.std.specs.Prelude.{◌≡◌, refl, true, false, length, filter}
 use Rattle.std.specs.List.{list_any}
+use Rattle.rc_base.specs.Fields.{zeros}
+use Rattle.rc_base.specs.Header.{bit, last_bit}
 use Rattle.rc_base.specs.Prefix.{Cidr}
+use Rattle.rc_base.specs.declared.field.Field.TheVariants.{Proto, Sport, Dport}
 use Rattle.rc_base.specs.declared.header.Header.{Header}
-use Rattle.rc_trees.specs.Headers.{bit}
 use Rattle.rc_trees.specs.Trees.{Tree, never, always, node, holds, same_tree}
 use Rattle.rc_trees.specs.Combine.{and, or, minus}
 use Rattle.rc_trees.specs.Recipes.{nodes, has, tree}
@@ -77,7 +79,7 @@ shared_nodes = refl
 
 -- tcp from 11.0.0.1 port 1024 to 10.0.0.7 port 80
 abbrev packet : Header
-packet = record { dst = 167772167; src = 184549377; proto = 6; sport = 1024; dport = 80 }
+packet = record zeros { dst = 167772167; src = 184549377; proto = 6; sport = 1024; dport = 80 }
 
 to_ten : has (chain ten) packet ≡ true
 unfolding masked bit
@@ -87,25 +89,25 @@ not_to_eleven : has (chain eleven) packet ≡ false
 unfolding masked bit
 not_to_eleven = refl
 
-of_tcp : holds (exact 71 8 6) packet ≡ true
+of_tcp : holds (exact (last_bit Proto) 8 6) packet ≡ true
 unfolding masked bit
 of_tcp = refl
 
-not_of_udp : holds (exact 71 8 17) packet ≡ false
+not_of_udp : holds (exact (last_bit Proto) 8 17) packet ≡ false
 unfolding masked bit
 not_of_udp = refl
 
-source_port_below : holds (below 87 16 1024) packet ≡ false
+source_port_below : holds (below (last_bit Sport) 16 1024) packet ≡ false
 unfolding under bit
 source_port_below = refl
 
-source_port_at_most : holds (at_most 87 16 1024) packet ≡ true
+source_port_at_most : holds (at_most (last_bit Sport) 16 1024) packet ≡ true
 unfolding under bit
 source_port_at_most = refl
 
 -- a number of more bits than the field has: none is it, all are below it
-none_is_more : exact 103 16 65536 ≡ never
+none_is_more : exact (last_bit Dport) 16 65536 ≡ never
 none_is_more = refl
 
-all_are_below : below 103 16 65536 ≡ always
+all_are_below : below (last_bit Dport) 16 65536 ≡ always
 all_are_below = refl

@@ -1,7 +1,7 @@
 -- Decision trees over the bits of a header (Bryant 1986): a set of headers as a tree of tests.
 use Rattle.std.specs.Prelude.{◌≡◌, ◌≢◌, ℕ, ◌<◌, ◌==◌, Bool, true, false, ◌&&◌, ◌⊎◌, min, if◌then◌else◌, List, [], ◌∷◌}
+use Rattle.rc_base.specs.Header.{bit, bit_count}
 use Rattle.rc_base.specs.declared.header.Header.{Header}
-use Rattle.rc_trees.specs.Headers.{bit}
 
 -- a set of headers as a tree (Bryant 1986): no header, every header, or a test of a bit with the tree for 0 (low) and the tree for 1
 -- (high)
@@ -22,10 +22,10 @@ holds t h = value t (bit h)
 
 -- ---- reduced trees
 
--- the bit tested on top; a constant tests none, which comes behind all 104
+-- the bit tested on top; a constant tests none, which comes behind all of them
 abbrev pub top : Tree → ℕ
-top never = 104
-top always = 104
+top never = bit_count
+top always = bit_count
 top (node v low high) = v
 
 -- a tree in which bits rise from the top down and no test is idle; each set has one such tree

@@ -1,6 +1,6 @@
 //! What decision trees say of headers (Bryant 1986).
 ghost use Rattle.std.specs.Prelude.{◌≡◌, ◌↔◌, ◌<◌, ◌≤◌, Bool, not, ◌&&◌, ◌||◌};
-ghost use Rattle.rc_base.specs.Header.{IsHeader};
+ghost use Rattle.rc_base.specs.Header.{IsHeader, bit_count};
 ghost use Rattle.rc_base.specs.Prefix.{Cidr, contains};
 ghost use Rattle.rc_base.specs.declared.header.Header.{Header};
 ghost use Rattle.rc_trees.specs.Combine.{joined, combined, and, or, minus};
@@ -23,7 +23,7 @@ pub fn operations_combine()
 
 /// Two trees that aren't both constants are combined side by side, at the least bit that one of them tests on top.
 pub fn operations_go_by_sides()
-    ensures { (table : Bool → Bool → Bool) (s t : Tree) → first_of s t < 104 → combined table s t ≡ joined (first_of s t) (combined table (low_side (first_of s t) s) (low_side (first_of s t) t)) (combined table (high_side (first_of s t) s) (high_side (first_of s t) t)) }
+    ensures { (table : Bool → Bool → Bool) (s t : Tree) → first_of s t < bit_count → combined table s t ≡ joined (first_of s t) (combined table (low_side (first_of s t) s) (low_side (first_of s t) t)) (combined table (high_side (first_of s t) s) (high_side (first_of s t) t)) }
 {}
 
 /// Of reduced trees the operations make reduced trees.

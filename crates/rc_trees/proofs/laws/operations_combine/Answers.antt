@@ -1,4 +1,4 @@
-use Rattle.rc_trees.specs.Headers.{bit}
+use Rattle.rc_base.specs.Header.{bit}
 use Rattle.rc_trees.proofs.TreeLaws as law
 use Rattle.rc_trees.proofs.laws.operations_combine.Goals as goal
 
