@@ -6,18 +6,19 @@ use Rattle.std.specs.Option.{option_map, option_or}
 use Rattle.std.proofs.lemmas.Bool.{or_parts}
 use Rattle.rc_base.specs.Prefix.{Cidr, prefix_cmp, same_prefix, default_prefix}
 use Rattle.rc_base.proofs.OrderedLaws.{any-in_order, in_order-sorted, prefix_cmp_total, same_by_prefix_cmp}
-use Rattle.rc_bgp_decide.specs.Decision.{best_path, is_originated}
+use Rattle.rc_bgp_decide.specs.Decision.{is_originated}
 use Rattle.rc_config.specs.declared.bgp.Neighbor.{Neighbor}
 use Rattle.rc_config.specs.declared.network.Network.{Network}
 use Rattle.rc_config.specs.declared.router_text.RouterText.{RouterText}
-use Rattle.rc_route.specs.Tables.{IsPathList}
+use Rattle.rc_route.specs.Tables.{IsBestList, best_for, best_path_for}
+use Rattle.rc_route.specs.declared.best.Best.{Best}
 use Rattle.rc_route.specs.declared.path.BgpPath.{BgpPath}
 use Rattle.rc_route.specs.declared.route.Route.{Route}
 use Rattle.rc_route.specs.declared.state.RouterState.{RouterState}
 use Rattle.rc_topology.proofs.ListLaws.{all_filter, any_append, filter_agree}
-use Rattle.rc_bgp.specs.Candidates.{advertised_best, advertised_default, best_at, best_among, best_paths, heard, own_at, prefixes_of, prefixes_seen, reachable, sender_prefixes}
+use Rattle.rc_bgp.specs.Candidates.{advertised_best, advertised_default, best_at, best_among, best_of, best_paths, heard, own_at, prefixes_of, prefixes_seen, reachable, sender_prefixes}
 use Rattle.rc_bgp.specs.Changes.{AreChanges, AreMended, CoversChange, IsHeardAlike, ReadsAlike, changes_of, mended_paths, suspects}
-use Rattle.rc_bgp.specs.Known.{path_at, paths_of, table_of}
+use Rattle.rc_bgp.specs.Known.{paths_of, table_of}
 use Rattle.rc_bgp.specs.Mending.{mended}
 use Rattle.rc_bgp.specs.Own.{own_paths}
 use Rattle.rc_bgp_session.specs.Passing.{as_received, as_sent, default_path, export, exported, import, imported, is_withheld, mapped_path, next_hop_over, originated_default, passes_list, with_med}
@@ -25,13 +26,13 @@ use Rattle.rc_bgp.specs.Reaching.{metric_to}
 use Rattle.rc_bgp.specs.Sessions.{is_up, sessions_of, up_sessions}
 use Rattle.rc_bgp_session.specs.declared.session.Session.{Session}
 use Rattle.rc_bgp.proofs.BestLaws.{among_has, best_in_order}
-use Rattle.rc_bgp.proofs.ChangeLaws.{covered, none_named}
+use Rattle.rc_bgp.proofs.ChangeLaws.{covered, none_best_for, none_named}
 use Rattle.rc_bgp.proofs.ListLaws.{first_left}
 use Rattle.rc_bgp.proofs.ListedLaws.{at_made, at_mended, same_lists, up_mended}
 use Rattle.rc_bgp.proofs.PartLaws.{Has, ask_has, either_has, map_has, mapped_has, none_has, or_has, some_has, then_has}
 
-abbrev prefix_of : BgpPath → Cidr
-prefix_of x = x.prefix
+abbrev best_prefix : Best → Cidr
+best_prefix b = b.path.prefix
 
 -- ---- what comes over a session to another AS has the sender's address as its next hop
 
@@ -82,11 +83,11 @@ module _ (net : Network) (s : Session) (external : s.is_external ≡ true) where
       let is = has x refl in
       ap (option_map (λ metric. record x { igp_metric = metric })) (ap (metric_to t) is ∙ same ∙ sym (ap (metric_to u) is))
 
-  heard_alike : (old now : List RouterState) (t u : List Route) (p : Cidr) → metric_to t s.sender_address ≡ metric_to u s.sender_address → path_at (paths_of old s.sender) p ≡ path_at (paths_of now s.sender) p
+  heard_alike : (old now : List RouterState) (t u : List Route) (p : Cidr) → metric_to t s.sender_address ≡ metric_to u s.sender_address → best_path_for (paths_of old s.sender) p ≡ best_path_for (paths_of now s.sender) p
       → heard net old t s p ≡ heard net now u s p
   heard_alike old now t u p metric same =
       ap (λ o. option_and_then (reachable t) (option_and_then (import net s) (offered p o))) same
-      ∙ reached_alike t u metric (option_and_then (import net s) (offered p (path_at (paths_of now s.sender) p))) (taken_hop p (path_at (paths_of now s.sender) p))
+      ∙ reached_alike t u metric (option_and_then (import net s) (offered p (best_path_for (paths_of now s.sender) p))) (taken_hop p (best_path_for (paths_of now s.sender) p))
 
 -- ---- session by session
 
@@ -115,7 +116,7 @@ module _ (net : Network) (old : List RouterState) where
       let parts = or_parts (list_any (same_prefix p) (sender_prefixes old s)) (list_any (same_prefix p) (flat_map (sender_prefixes old) ss)) (sym (any_append (same_prefix p) (sender_prefixes old s) (flat_map (sender_prefixes old) ss)) ∙ none) in
       ap (λ o. cons_option o (filter_map (λ t. heard net old table t p) ss))
       (ap (λ b. option_and_then (reachable table) (option_and_then (import net s) (cond b (advertised_default net old s p) (advertised_best net old s p)))) other
-      ∙ ap (λ o. option_and_then (reachable table) (option_and_then (import net s) (option_and_then (export net s) o))) (none_named (paths_of old s.sender) p parts.0))
+      ∙ ap (λ o. option_and_then (reachable table) (option_and_then (import net s) (option_and_then (export net s) o))) (ap (option_map (λ (b : Best). b.path)) (none_best_for (paths_of old s.sender) p parts.0)))
       ∙ none_heard table ss p other parts.1
 
   none_best : (table : List Route) (own : List (List BgpPath)) (ss : List Session) (p : Cidr) → list_any (same_prefix p) (prefixes_seen old own ss) ≡ false → best_among net old table own ss p ≡ None
@@ -123,45 +124,45 @@ module _ (net : Network) (old : List RouterState) where
       let seen = sym (any-in_order prefix_cmp same_by_prefix_cmp (same_prefix p) (default_prefix ∷ (flat_map prefixes_of own ++ flat_map (sender_prefixes old) ss))) ∙ none in
       let parts = or_parts (same_prefix p default_prefix) (list_any (same_prefix p) (flat_map prefixes_of own ++ flat_map (sender_prefixes old) ss)) seen in
       let others = or_parts (list_any (same_prefix p) (flat_map prefixes_of own)) (list_any (same_prefix p) (flat_map (sender_prefixes old) ss)) (sym (any_append (same_prefix p) (flat_map prefixes_of own) (flat_map (sender_prefixes old) ss)) ∙ parts.1) in
-      ap best_path (λ i. none_own own p others.0 i ++ none_heard table ss p parts.0 others.1 i)
+      ap best_of (λ i. none_own own p others.0 i ++ none_heard table ss p parts.0 others.1 i)
 
 module _ (net : Network) (sessions : List (List Session)) (r : ℕ) (changes : List (List Cidr)) (now : List RouterState) where
-  keeps : (p : Cidr) (x : BgpPath) → best_at net sessions now r p ≡ Some x → x.prefix ≡ p
+  keeps : (p : Cidr) (b : Best) → best_at net sessions now r p ≡ Some b → b.path.prefix ≡ p
   keeps p = among_has net now p (table_of now r) (own_paths net (table_of now r) r) (up_sessions sessions now r)
 
   ordered : IsStrictlySortedBy prefix_cmp (suspects changes (up_sessions sessions now r))
   ordered = in_order-sorted prefix_cmp prefix_cmp_total (flat_map (λ (s : Session). changes_of changes s.sender) (up_sessions sessions now r))
 
   -- what is mended, from its parts
-  pub of_parts : (table : List Route) (own : List (List BgpPath)) (up : List Session) (known paths : List BgpPath) (ps : List Cidr) → table ≡ table_of now r → own ≡ own_paths net (table_of now r) r → up ≡ up_sessions sessions now r
-      → known ≡ paths_of now r → ps ≡ suspects changes (up_sessions sessions now r) → paths ≡ mended prefix_of (best_among net now table own up) known ps → paths ≡ mended_paths net sessions changes now r
-  of_parts table own up known paths ps a b c d e is = is ∙ (λ i. mended prefix_of (best_among net now (a i) (b i) (c i)) (d i) (e i))
+  pub of_parts : (table : List Route) (own : List (List BgpPath)) (up : List Session) (known paths : List Best) (ps : List Cidr) → table ≡ table_of now r → own ≡ own_paths net (table_of now r) r → up ≡ up_sessions sessions now r
+      → known ≡ paths_of now r → ps ≡ suspects changes (up_sessions sessions now r) → paths ≡ mended best_prefix (best_among net now table own up) known ps → paths ≡ mended_paths net sessions changes now r
+  of_parts table own up known paths ps a b c d e is = is ∙ (λ i. mended best_prefix (best_among net now (a i) (b i) (c i)) (d i) (e i))
 
   -- what is mended is in order; at the prefixes that changed at senders it says what is best now, and at others what is known
-  pub mended_in_order : IsPathList (paths_of now r) → (paths : List BgpPath) → paths ≡ mended_paths net sessions changes now r → IsPathList paths
-  mended_in_order up paths is = subst IsPathList (sym is) (up_mended prefix_of (best_at net sessions now r) keeps (suspects changes (up_sessions sessions now r)) ordered (paths_of now r) up)
+  pub mended_in_order : IsBestList (paths_of now r) → (paths : List Best) → paths ≡ mended_paths net sessions changes now r → IsBestList paths
+  mended_in_order up paths is = subst IsBestList (sym is) (up_mended best_prefix (best_at net sessions now r) keeps (suspects changes (up_sessions sessions now r)) ordered (paths_of now r) up)
 
-  says_mended : (paths : List BgpPath) → paths ≡ mended_paths net sessions changes now r → (p : Cidr)
-      → path_at paths p ≡ cond (list_any (same_prefix p) (suspects changes (up_sessions sessions now r))) (best_at net sessions now r p) (path_at (paths_of now r) p)
-  says_mended paths is p = ap (λ l. path_at l p) is ∙ at_mended prefix_of (best_at net sessions now r) keeps (suspects changes (up_sessions sessions now r)) ordered (paths_of now r) p
+  says_mended : (paths : List Best) → paths ≡ mended_paths net sessions changes now r → (p : Cidr)
+      → best_for paths p ≡ cond (list_any (same_prefix p) (suspects changes (up_sessions sessions now r))) (best_at net sessions now r p) (best_for (paths_of now r) p)
+  says_mended paths is p = ap (λ l. best_for l p) is ∙ at_mended best_prefix (best_at net sessions now r) keeps (suspects changes (up_sessions sessions now r)) ordered (paths_of now r) p
 
-  pub mended_covered : (paths : List BgpPath) (changed : List Cidr) → AreMended net sessions changes now r paths changed → CoversChange changed (paths_of now r) paths
+  pub mended_covered : (paths : List Best) (changed : List Cidr) → AreMended net sessions changes now r paths changed → CoversChange changed (paths_of now r) paths
   mended_covered paths changed mended =
       covered (suspects changes (up_sessions sessions now r)) changed (paths_of now r) paths
-      (λ p none. sym (says_mended paths mended.value p ∙ ap (λ b. cond b (best_at net sessions now r p) (path_at (paths_of now r) p)) none)) mended.told
+      (λ p none. sym (says_mended paths mended.value p ∙ ap (λ b. cond b (best_at net sessions now r p) (best_for (paths_of now r) p)) none)) mended.told
 
 module _ (net : Network) (sessions : List (List Session)) (r : ℕ) where
   -- at every prefix the best paths say what is best there
-  says_best : (old : List RouterState) (p : Cidr) → path_at (best_paths net sessions old r) p ≡ best_at net sessions old r p
+  says_best : (old : List RouterState) (p : Cidr) → best_for (best_paths net sessions old r) p ≡ best_at net sessions old r p
   unfolding best_paths
   says_best old p =
       let table = table_of old r in
       let own = own_paths net table r in
       let up = up_sessions sessions old r in
-      at_made prefix_of (best_among net old table own up) (λ q. among_has net old q table own up) (prefixes_seen old own up)
+      at_made best_prefix (best_among net old table own up) (λ q. among_has net old q table own up) (prefixes_seen old own up)
       (in_order-sorted prefix_cmp prefix_cmp_total (default_prefix ∷ (flat_map prefixes_of own ++ flat_map (sender_prefixes old) up))) p (none_best net old table own up p)
 
-  pub best_up : (old : List RouterState) → IsPathList (best_paths net sessions old r)
+  pub best_up : (old : List RouterState) → IsBestList (best_paths net sessions old r)
   unfolding best_paths
   best_up old = best_in_order net old (table_of old r) (own_paths net (table_of old r) r) (up_sessions sessions old r) (best_paths net sessions old r) refl
 
@@ -179,23 +180,23 @@ module _ (net : Network) (sessions : List (List Session)) (r : ℕ) where
     all_heard p (s ∷ ss) all none =
         let parts = or_parts (list_any (same_prefix p) (changes_of changes s.sender)) (list_any (same_prefix p) (flat_map (λ (t : Session). changes_of changes t.sender) ss))
         (sym (any_append (same_prefix p) (changes_of changes s.sender) (flat_map (λ (t : Session). changes_of changes t.sender) ss)) ∙ none) in
-        let here = heard_alike net s all.0.external old now (table_of old r) (table_of now r) p all.0.metric ((told.each s.sender).elsewhere p parts.0) in
+        let here = heard_alike net s all.0.external old now (table_of old r) (table_of now r) p all.0.metric (ap (option_map (λ (b : Best). b.path)) ((told.each s.sender).elsewhere p parts.0)) in
         λ i. cons_option (here i) (all_heard p ss all.1 parts.1 i)
 
     -- what didn't change at a sender of a session that is up has the best path that it had
     stays_best : (p : Cidr) → list_any (same_prefix p) (suspects changes (up_sessions sessions now r)) ≡ false → best_at net sessions old r p ≡ best_at net sessions now r p
     stays_best p none =
         let unsuspected = sym (any-in_order prefix_cmp same_by_prefix_cmp (same_prefix p) (flat_map (λ (s : Session). changes_of changes s.sender) (up_sessions sessions now r))) ∙ none in
-        ap (λ ss. best_path (own_at (own_paths net (table_of old r) r) p ++ filter_map (λ s. heard net old (table_of old r) s p) ss)) same_up
-        ∙ (λ i. best_path (own_at (alike.own i) p ++ all_heard p (up_sessions sessions now r) (all_filter (IsHeardAlike r old now) (is_up now) (sessions_of sessions r) alike.heard) unsuspected i))
+        ap (λ ss. best_of (own_at (own_paths net (table_of old r) r) p ++ filter_map (λ s. heard net old (table_of old r) s p) ss)) same_up
+        ∙ (λ i. best_of (own_at (alike.own i) p ++ all_heard p (up_sessions sessions now r) (all_filter (IsHeardAlike r old now) (is_up now) (sessions_of sessions r) alike.heard) unsuspected i))
 
-    pub mended_is_best : (paths : List BgpPath) (changed : List Cidr) → paths_of now r ≡ best_paths net sessions old r → AreMended net sessions changes now r paths changed → paths ≡ best_paths net sessions now r
+    pub mended_is_best : (paths : List Best) (changed : List Cidr) → paths_of now r ≡ best_paths net sessions old r → AreMended net sessions changes now r paths changed → paths ≡ best_paths net sessions now r
     mended_is_best paths changed is mended =
-        same_lists prefix_of paths (best_paths net sessions now r) (mended_in_order net sessions r changes now (subst IsPathList (sym is) (best_up old)) paths mended.value) (best_up now)
+        same_lists best_prefix paths (best_paths net sessions now r) (mended_in_order net sessions r changes now (subst IsBestList (sym is) (best_up old)) paths mended.value) (best_up now)
         (λ p. says_mended net sessions r changes now paths mended.value p ∙ by p (list_any (same_prefix p) (suspects changes (up_sessions sessions now r))) refl ∙ sym (says_best now p))
       where
         by : (p : Cidr) (b : Bool) → list_any (same_prefix p) (suspects changes (up_sessions sessions now r)) ≡ b
-            → cond (list_any (same_prefix p) (suspects changes (up_sessions sessions now r))) (best_at net sessions now r p) (path_at (paths_of now r) p) ≡ best_at net sessions now r p
-        by p true e = ap (λ b. cond b (best_at net sessions now r p) (path_at (paths_of now r) p)) e
+            → cond (list_any (same_prefix p) (suspects changes (up_sessions sessions now r))) (best_at net sessions now r p) (best_for (paths_of now r) p) ≡ best_at net sessions now r p
+        by p true e = ap (λ b. cond b (best_at net sessions now r p) (best_for (paths_of now r) p)) e
         by p false e =
-            ap (λ b. cond b (best_at net sessions now r p) (path_at (paths_of now r) p)) e ∙ ap (λ paths. path_at paths p) is ∙ says_best old p ∙ stays_best p e
+            ap (λ b. cond b (best_at net sessions now r p) (best_for (paths_of now r) p)) e ∙ ap (λ paths. best_for paths p) is ∙ says_best old p ∙ stays_best p e

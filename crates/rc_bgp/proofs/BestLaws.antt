@@ -16,12 +16,14 @@ use Rattle.rc_config.specs.declared.bgp.Neighbor.{Neighbor}
 use Rattle.rc_config.specs.declared.bgp.OspfKinds.{OspfKinds}
 use Rattle.rc_config.specs.declared.network.Network.{Network}
 use Rattle.rc_config.specs.declared.router_text.RouterText.{RouterText}
+use Rattle.rc_route.specs.Best.{alone}
+use Rattle.rc_route.specs.declared.best.Best.{Best}
 use Rattle.rc_route.specs.declared.path.BgpPath.{BgpPath}
 use Rattle.rc_route.specs.declared.route.Route.{Route}
 use Rattle.rc_route.specs.declared.state.RouterState.{RouterState}
 use Rattle.rc_route.specs.declared.path.PathSource.{PathSource}
 use Rattle.rc_route.specs.declared.path.PathSource.TheVariants.{Network as ByNetwork}
-use Rattle.rc_route.specs.Tables.{IsPathList, IsTable}
+use Rattle.rc_route.specs.Tables.{IsBestList, IsPathList, IsTable, best_for, best_path_for}
 use Rattle.rc_topology.proofs.ListLaws.{all_append, found_passes}
 use Rattle.rc_bgp.specs.Known.{path_at, paths_of, route_at}
 use Rattle.rc_bgp.specs.Originating.{by_network, by_networks, from_route, is_bgp, originated}
@@ -58,13 +60,20 @@ imported_has p s x is file asn n =
 at_has : (p : Cidr) (paths : List BgpPath) → Has prefix_of p (path_at paths p)
 at_has p paths x e = sym (same_is p x.prefix (found_passes (λ (y : BgpPath). same_prefix p y.prefix) paths x e))
 
+known_has : (p : Cidr) (paths : List Best) → Has prefix_of p (best_path_for paths p)
+known_has p paths = by (best_for paths p) (λ b e. sym (same_is p b.path.prefix (found_passes (λ (y : Best). same_prefix p y.path.prefix) paths b e)))
+  where
+    by : (o : Option Best) → ((b : Best) → o ≡ Some b → b.path.prefix ≡ p) → Has prefix_of p (option_map (λ (b : Best). b.path) o)
+    by None has = none_has prefix_of p
+    by (Some b) has = some_has prefix_of p b.path (has b refl)
+
 default_has : (p : Cidr) (net : Network) (s : Session) → default_prefix ≡ p → Has prefix_of p (originated_default net s)
 default_has p net s is = ask_has prefix_of p net s.sender s.receiver_address (λ file asn n. cond n.default_originate (Some (default_path asn s)) None)
     (λ file asn n. either_has prefix_of p n.default_originate (Some (default_path asn s)) None (some_has prefix_of p (default_path asn s) is) (none_has prefix_of p))
 
 module _ (net : Network) (old : List RouterState) where
   best_has : (p : Cidr) (s : Session) → Has prefix_of p (advertised_best net old s p)
-  best_has p s = then_has prefix_of p (export net s) (λ x is. ask_has prefix_of p net s.sender s.receiver_address (λ file asn n. exported file asn n s x) (exported_has p s x is)) (path_at (paths_of old s.sender) p) (at_has p (paths_of old s.sender))
+  best_has p s = then_has prefix_of p (export net s) (λ x is. ask_has prefix_of p net s.sender s.receiver_address (λ file asn n. exported file asn n s x) (exported_has p s x is)) (best_path_for (paths_of old s.sender) p) (known_has p (paths_of old s.sender))
 
   advertised_has : (p : Cidr) (s : Session) → Has prefix_of p (advertised net old s p)
   advertised_has p s = by (same_prefix p default_prefix) refl
@@ -104,8 +113,8 @@ module _ (net : Network) (old : List RouterState) where
           by None has all = all
           by (Some x) has all = (has x refl, all)
 
-  pub among_has : (p : Cidr) (table : List Route) (own : List (List BgpPath)) (sessions : List Session) → Has prefix_of p (best_among net old table own sessions p)
-  among_has p table own sessions x e =
+  chosen_has : (p : Cidr) (table : List Route) (own : List (List BgpPath)) (sessions : List Session) → Has prefix_of p (best_path (candidates_at net old table own sessions p))
+  chosen_has p table own sessions x e =
       let paths = candidates_at net old table own sessions p in
       by paths (best_place paths) (candidates_have p table own sessions) (sym (best_path_at_place paths) ∙ e)
     where
@@ -113,10 +122,17 @@ module _ (net : Network) (old : List RouterState) where
       by paths None all found = absurd (cc)
       by paths (Some i) all found = at_index (λ (y : BgpPath). y.prefix ≡ p) paths i x all found
 
+  pub among_has : (p : Cidr) (table : List Route) (own : List (List BgpPath)) (sessions : List Session) (b : Best) → best_among net old table own sessions p ≡ Some b → b.path.prefix ≡ p
+  among_has p table own sessions b e = by (best_path (candidates_at net old table own sessions p)) (chosen_has p table own sessions) e
+    where
+      by : (o : Option BgpPath) → Has prefix_of p o → option_map alone o ≡ Some b → b.path.prefix ≡ p
+      by None has found = absurd (cc)
+      by (Some x) has found = (let same : alone x ≡ b = cc in ap (λ (c : Best). c.path.prefix) (sym same) ∙ has x refl)
+
   -- the best paths of prefixes in order are in order
-  pub best_in_order : (table : List Route) (own : List (List BgpPath)) (sessions : List Session) (paths : List BgpPath) → paths ≡ filter_map (best_among net old table own sessions) (prefixes_seen old own sessions) → IsPathList paths
-  best_in_order table own sessions paths is = subst IsPathList (sym is)
-      (made_in_order (λ (x : BgpPath). x.prefix) (best_among net old table own sessions) (λ p. among_has p table own sessions) (prefixes_seen old own sessions)
+  pub best_in_order : (table : List Route) (own : List (List BgpPath)) (sessions : List Session) (paths : List Best) → paths ≡ filter_map (best_among net old table own sessions) (prefixes_seen old own sessions) → IsBestList paths
+  best_in_order table own sessions paths is = subst IsBestList (sym is)
+      (made_in_order (λ (b : Best). b.path.prefix) (best_among net old table own sessions) (λ p. among_has p table own sessions) (prefixes_seen old own sessions)
       (in_order-sorted prefix_cmp prefix_cmp_total (default_prefix ∷ (flat_map prefixes_of own ++ flat_map (sender_prefixes old) sessions))))
 
 -- ---- own paths

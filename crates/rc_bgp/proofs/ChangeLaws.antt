@@ -9,39 +9,19 @@ use Rattle.std.proofs.lemmas.List.Sums.{fold-append}
 use Rattle.rc_base.specs.Lists.{in_order}
 use Rattle.rc_base.specs.Prefix.{Cidr, prefix_cmp, same_prefix}
 use Rattle.rc_base.proofs.OrderedLaws.{any-in_order, same_by_prefix_cmp}
-use Rattle.rc_route.proofs.EqualLaws.{state_decides}
+use Rattle.rc_route.proofs.EqualLaws.{path_decides}
 use Rattle.rc_route.specs.contracts.path.BgpPathPartialEq.TheImpl as path_impl
-use Rattle.rc_route.specs.contracts.state.RouterStatePartialEq.TheImpl as router_impl
+use Rattle.rc_route.specs.Tables.{best_for}
+use Rattle.rc_route.specs.declared.best.Best.{Best}
 use Rattle.rc_route.specs.declared.path.BgpPath.{BgpPath}
-use Rattle.rc_route.specs.declared.state.RouterState.{RouterState}
 use Rattle.rc_topology.proofs.ListLaws.{any_append}
-use Rattle.rc_bgp.specs.Candidates.{prefixes_of}
+use Rattle.rc_bgp.specs.Candidates.{best_prefixes, prefixes_of}
 use Rattle.rc_bgp.specs.Changes.{AreToldAmong, CoversChange}
 use Rattle.rc_bgp.specs.Known.{path_at}
 use Rattle.rc_bgp.proofs.ListLaws.{first_left}
 use Rattle.rc_bgp.proofs.PrefixLaws.{same_is}
 
--- ---- the test of two paths decides whether they are equal, as that of states with them alone does
-
-abbrev alone : BgpPath → List RouterState
-alone x = record { table = []; paths = x ∷ [] } ∷ []
-
-with_true : (b : Bool) → (b && true) ≡ b
-with_true true = refl
-with_true false = refl
-
-alone_test : (x y : BgpPath) → pointwise router_impl.eq-value.it (alone x) (alone y) ≡ path_impl.eq-value.it x y
-alone_test x y = with_true _ ∙ with_true _
-
-abbrev first_paths : List RouterState → List BgpPath
-first_paths [] = []
-first_paths (s ∷ ss) = s.paths
-
-alone_same : (x y : BgpPath) → alone x ≡ alone y → x ≡ y
-alone_same x y e = (let paths : x ∷ [] ≡ y ∷ [] = ap first_paths e in cc)
-
-pub path_decides : (x y : BgpPath) → Decides (path_impl.eq-value.it x y) (x ≡ y)
-path_decides x y = (λ is. alone_same x y ((state_decides (alone x) (alone y)).0 (alone_test x y ∙ is)), λ same. sym (alone_test x y) ∙ (state_decides (alone x) (alone y)).1 (ap alone same))
+-- ---- the test of lists of paths decides whether they are equal
 
 pub lists_decide : (xs ys : List (List BgpPath)) → Decides (pointwise (pointwise path_impl.eq-value.it) xs ys) (xs ≡ ys)
 lists_decide = pointwise_decides (pointwise_decides path_decides)
@@ -51,9 +31,9 @@ as_path_decides = bytes_decides
 
 -- ---- the prefixes of two lists
 
-pub both_listed : (old new : List BgpPath) (first last : List Cidr) → first ≡ fold (insert_key prefix_cmp) [] (prefixes_of old) → last ≡ fold (insert_key prefix_cmp) first (prefixes_of new)
-    → last ≡ in_order prefix_cmp (prefixes_of old ++ prefixes_of new)
-both_listed old new first last a b = b ∙ ap (λ ks. fold (insert_key prefix_cmp) ks (prefixes_of new)) a ∙ sym (fold-append (insert_key prefix_cmp) [] (prefixes_of old) (prefixes_of new))
+pub both_listed : (old new : List Best) (first last : List Cidr) → first ≡ fold (insert_key prefix_cmp) [] (best_prefixes old) → last ≡ fold (insert_key prefix_cmp) first (best_prefixes new)
+    → last ≡ in_order prefix_cmp (best_prefixes old ++ best_prefixes new)
+both_listed old new first last a b = b ∙ ap (λ ks. fold (insert_key prefix_cmp) ks (best_prefixes new)) a ∙ sym (fold-append (insert_key prefix_cmp) [] (best_prefixes old) (best_prefixes new))
 
 -- a prefix that no path has is that of none
 pub none_named : (paths : List BgpPath) (p : Cidr) → list_any (same_prefix p) (prefixes_of paths) ≡ false → path_at paths p ≡ None
@@ -62,29 +42,35 @@ none_named (x ∷ xs) p none =
     let parts = or_parts (same_prefix p x.prefix) (list_any (same_prefix p) (prefixes_of xs)) none in
     ap (λ b. cond b (Some x) (path_at xs p)) parts.0 ∙ none_named xs p parts.1
 
+pub none_best_for : (paths : List Best) (p : Cidr) → list_any (same_prefix p) (best_prefixes paths) ≡ false → best_for paths p ≡ None
+none_best_for [] p none = refl
+none_best_for (x ∷ xs) p none =
+    let parts = or_parts (same_prefix p x.path.prefix) (list_any (same_prefix p) (best_prefixes xs)) none in
+    ap (λ b. cond b (Some x) (best_for xs p)) parts.0 ∙ none_best_for xs p parts.1
+
 -- ---- of some prefixes one more is told, where both say otherwise there
 
 -- those of the prefixes that aren't left are told
-pub record AreToldSoFar (prefixes left changed : List Cidr) (old new : List BgpPath) : Type 0 where
-  pub each : (p : Cidr) → list_any (same_prefix p) prefixes ≡ true → list_any (same_prefix p) left ≡ false → list_any (same_prefix p) changed ≡ false → path_at old p ≡ path_at new p
+pub record AreToldSoFar (prefixes left changed : List Cidr) (old new : List Best) : Type 0 where
+  pub each : (p : Cidr) → list_any (same_prefix p) prefixes ≡ true → list_any (same_prefix p) left ≡ false → list_any (same_prefix p) changed ≡ false → best_for old p ≡ best_for new p
 
-pub none_told : (prefixes changed : List Cidr) (old new : List BgpPath) → AreToldSoFar prefixes prefixes changed old new
+pub none_told : (prefixes changed : List Cidr) (old new : List Best) → AreToldSoFar prefixes prefixes changed old new
 none_told prefixes changed old new = record { each = λ p here left none. absurd (let clash : true ≡ false = sym here ∙ left in cc) }
 
-pub all_told : (prefixes changed : List Cidr) (old new : List BgpPath) → AreToldSoFar prefixes [] changed old new → AreToldAmong prefixes changed old new
+pub all_told : (prefixes changed : List Cidr) (old new : List Best) → AreToldSoFar prefixes [] changed old new → AreToldAmong prefixes changed old new
 all_told prefixes changed old new told = record { each = λ p here none. told.each p here refl none }
 
-module _ (prefixes : List Cidr) (old new : List BgpPath) (i : ℕ) (q : Cidr) (less : i < length prefixes) (is : q ≡ get_or prefixes i q) where
+module _ (prefixes : List Cidr) (old new : List Best) (i : ℕ) (q : Cidr) (less : i < length prefixes) (is : q ≡ get_or prefixes i q) where
   left_behind : (p : Cidr) (b : Bool) → same_prefix p q ≡ b → list_any (same_prefix p) (drop (i + 1) prefixes) ≡ false → list_any (same_prefix p) (drop i prefixes) ≡ b
   left_behind p true e none = ap (list_any (same_prefix p)) (first_left prefixes i q less is) ∙ ap (λ b. b || list_any (same_prefix p) (drop (i + 1) prefixes)) e
   left_behind p false e none = ap (list_any (same_prefix p)) (first_left prefixes i q less is) ∙ ap (λ b. b || list_any (same_prefix p) (drop (i + 1) prefixes)) e ∙ none
 
   -- both say the same there
-  pub stays : (changed : List Cidr) → path_at old q ≡ path_at new q → AreToldSoFar prefixes (drop i prefixes) changed old new → AreToldSoFar prefixes (drop (i + 1) prefixes) changed old new
+  pub stays : (changed : List Cidr) → best_for old q ≡ best_for new q → AreToldSoFar prefixes (drop i prefixes) changed old new → AreToldSoFar prefixes (drop (i + 1) prefixes) changed old new
   stays changed same told = record { each = λ p here left none. by p (same_prefix p q) refl here left none }
     where
-      by : (p : Cidr) (b : Bool) → same_prefix p q ≡ b → list_any (same_prefix p) prefixes ≡ true → list_any (same_prefix p) (drop (i + 1) prefixes) ≡ false → list_any (same_prefix p) changed ≡ false → path_at old p ≡ path_at new p
-      by p true e here left none = subst (λ r. path_at old r ≡ path_at new r) (sym (same_is p q e)) same
+      by : (p : Cidr) (b : Bool) → same_prefix p q ≡ b → list_any (same_prefix p) prefixes ≡ true → list_any (same_prefix p) (drop (i + 1) prefixes) ≡ false → list_any (same_prefix p) changed ≡ false → best_for old p ≡ best_for new p
+      by p true e here left none = subst (λ r. best_for old r ≡ best_for new r) (sym (same_is p q e)) same
       by p false e here left none = told.each p here (left_behind p false e left) none
 
   -- or it is told
@@ -95,26 +81,26 @@ module _ (prefixes : List Cidr) (old new : List BgpPath) (i : ℕ) (q : Cidr) (l
       parts p none = or_parts (list_any (same_prefix p) changed) (same_prefix p q || false) (sym (any_append (same_prefix p) changed (q ∷ [])) ∙ ap (list_any (same_prefix p)) (sym pushed) ∙ none)
 
       by : (p : Cidr) (b : Bool) → same_prefix p q ≡ b → list_any (same_prefix p) prefixes ≡ true → list_any (same_prefix p) (drop (i + 1) prefixes) ≡ false → (list_any (same_prefix p) changed ≡ false) × ((same_prefix p q || false) ≡ false)
-          → path_at old p ≡ path_at new p
+          → best_for old p ≡ best_for new p
       by p true e here left none = absurd (let clash : true ≡ false = sym (ap (λ b. b || false) e) ∙ none.1 in cc)
       by p false e here left none = told.each p here (left_behind p false e left) none.0
 
 -- ---- all that changes is told, where both say the same at all other prefixes
 
-pub covered : (prefixes changed : List Cidr) (old new : List BgpPath) → ((p : Cidr) → list_any (same_prefix p) prefixes ≡ false → path_at old p ≡ path_at new p) → AreToldAmong prefixes changed old new
+pub covered : (prefixes changed : List Cidr) (old new : List Best) → ((p : Cidr) → list_any (same_prefix p) prefixes ≡ false → best_for old p ≡ best_for new p) → AreToldAmong prefixes changed old new
     → CoversChange changed old new
 covered prefixes changed old new others told = record { elsewhere = λ p none. by p none (list_any (same_prefix p) prefixes) refl }
   where
-    by : (p : Cidr) → list_any (same_prefix p) changed ≡ false → (b : Bool) → list_any (same_prefix p) prefixes ≡ b → path_at old p ≡ path_at new p
+    by : (p : Cidr) → list_any (same_prefix p) changed ≡ false → (b : Bool) → list_any (same_prefix p) prefixes ≡ b → best_for old p ≡ best_for new p
     by p none true here = told.each p here none
     by p none false there = others p there
 
-pub both_covered : (prefixes changed : List Cidr) (old new : List BgpPath) → prefixes ≡ in_order prefix_cmp (prefixes_of old ++ prefixes_of new) → AreToldAmong prefixes changed old new → CoversChange changed old new
+pub both_covered : (prefixes changed : List Cidr) (old new : List Best) → prefixes ≡ in_order prefix_cmp (best_prefixes old ++ best_prefixes new) → AreToldAmong prefixes changed old new → CoversChange changed old new
 both_covered prefixes changed old new is told = covered prefixes changed old new others told
   where
-    others : (p : Cidr) → list_any (same_prefix p) prefixes ≡ false → path_at old p ≡ path_at new p
+    others : (p : Cidr) → list_any (same_prefix p) prefixes ≡ false → best_for old p ≡ best_for new p
     others p none =
-        let parts = or_parts (list_any (same_prefix p) (prefixes_of old)) (list_any (same_prefix p) (prefixes_of new))
-        (sym (any_append (same_prefix p) (prefixes_of old) (prefixes_of new)) ∙ sym (any-in_order prefix_cmp same_by_prefix_cmp (same_prefix p) (prefixes_of old ++ prefixes_of new))
+        let parts = or_parts (list_any (same_prefix p) (best_prefixes old)) (list_any (same_prefix p) (best_prefixes new))
+        (sym (any_append (same_prefix p) (best_prefixes old) (best_prefixes new)) ∙ sym (any-in_order prefix_cmp same_by_prefix_cmp (same_prefix p) (best_prefixes old ++ best_prefixes new))
         ∙ ap (list_any (same_prefix p)) (sym is) ∙ none) in
-        none_named old p parts.0 ∙ sym (none_named new p parts.1)
+        none_best_for old p parts.0 ∙ sym (none_best_for new p parts.1)

@@ -2,6 +2,7 @@ mod ReachLaws
 pub mod PrefixLaws
 mod ListLaws
 mod KnownLaws
+pub mod LearningLaws
 mod RangeLaws
 mod BestLaws
 mod WayLaws

@@ -1,8 +1,8 @@
--- Things in order of prefix: the one of a prefix is found by bisection, and what is made prefix by prefix is in order.
-use Rattle.std.proofs.Common.{refl, ◌≡◌, ap, sym, subst, ◌∙◌, ℕ, zero, suc, ◌≤◌, Bool, true, false, not, cond, List, [], ◌∷◌, length, map, filter, take, drop, get_or, Option, Some, None, option_and_then, arith}
+-- Things in order of prefix: what stands before one and behind it is found by bisection, and what is made prefix by prefix is in order.
+use Rattle.std.proofs.Common.{refl, ◌≡◌, ap, sym, subst, ◌∙◌, ℕ, zero, suc, ◌≤◌, Bool, true, false, not, cond, List, [], ◌∷◌, length, map, filter, take, drop, get_or, Option, Some, None, arith}
 use Rattle.std.specs.List.{AllByRecursion, cons_option, filter_map, find}
 use Rattle.std.specs.List.Sorted.{IsStrictlySortedBy, IsPartitionedBy, IsPartitionPoint}
-use Rattle.std.specs.Ordering.{is_eq, is_lt, is_some_and, partial_lt, partial_ordering_then, nat_cmp, ordering_reverse, ordering_then}
+use Rattle.std.specs.Ordering.{is_eq, is_lt, is_some_and, partial_lt, partial_ordering_then, nat_cmp, ordering_then}
 use Rattle.std.specs.declared.cmp.Ordering.{Ordering}
 use Rattle.std.specs.declared.cmp.Ordering.TheVariants.{Less, Equal, Greater}
 use Rattle.rc_base.specs.Prefix.{Cidr, prefix_cmp, same_prefix}
@@ -24,14 +24,6 @@ then_equal Greater = refl
 -- what `<` of prefixes says
 pub lt_code : (p q : Cidr) → partial_lt partial_impl.partial_cmp-value.it p q ≡ is_lt (prefix_cmp p q)
 lt_code p q = both_lt (nat_cmp p.network q.network) (nat_cmp p.len q.len) ∙ sym (ap (λ o. is_lt (ordering_then (nat_cmp p.network q.network) o)) (then_equal (nat_cmp p.len q.len)))
-
-reversed_eq : (o : Ordering) → is_eq (ordering_reverse o) ≡ is_eq o
-reversed_eq Less = refl
-reversed_eq Equal = refl
-reversed_eq Greater = refl
-
-turned : (p q : Cidr) → same_prefix p q ≡ is_eq (prefix_cmp q p)
-turned p q = ap is_eq (prefix_cmp_total.antisymm p q) ∙ reversed_eq (prefix_cmp q p)
 
 eq_equal : (o : Ordering) → is_eq o ≡ true → o ≡ Equal
 eq_equal Less e = absurd (cc e)
@@ -114,48 +106,9 @@ module _ {A : Type 0} (prefix_of : A → Cidr) where
   parted_behind p (x ∷ xs) up (suc i) zero d le less passes = absurd (omega arith)
   parted_behind p (x ∷ xs) up (suc i) (suc j) d le less passes = parted_behind p xs up.1 i j d (omega arith) (omega arith) passes
 
-  abbrev pub if_same : Cidr → A → Option A
-  if_same p x = cond (same_prefix p (prefix_of x)) (Some x) None
-
   pub none_later : (p : Cidr) (xs : List A) → AllByRecursion (λ q. prefix_cmp p q ≡ Less) (map prefix_of xs) → find (λ x. same_prefix p (prefix_of x)) xs ≡ None
   none_later p [] later = refl
   none_later p (x ∷ xs) later = ap (λ o. cond (is_eq o) (Some x) (find (λ y. same_prefix p (prefix_of y)) xs)) later.0 ∙ none_later p xs later.1
-
-  -- the one of a prefix is the first that doesn't stand before it, or there is none
-  pub found_first : (p : Cidr) (xs : List A) → IsStrictlySortedBy prefix_cmp (map prefix_of xs) → find (λ x. same_prefix p (prefix_of x)) xs ≡ option_and_then (if_same p) (find (λ x. not (is_before prefix_of p x)) xs)
-  unfolding IsStrictlySortedBy
-  found_first p [] up = refl
-  found_first p (x ∷ xs) up = by (prefix_cmp (prefix_of x) p) refl (found_first p xs up.1)
-    where
-      same_is : (o : Ordering) → prefix_cmp (prefix_of x) p ≡ o → same_prefix p (prefix_of x) ≡ is_eq o
-      same_is o e = turned p (prefix_of x) ∙ ap is_eq e
-
-      rest_none : prefix_cmp (prefix_of x) p ≡ Greater → find (λ y. same_prefix p (prefix_of y)) xs ≡ None
-      rest_none e =
-          let less : prefix_cmp p (prefix_of x) ≡ Less = prefix_cmp_total.antisymm p (prefix_of x) ∙ ap ordering_reverse e in
-          none_later p xs (all-weaker (λ q. prefix_cmp (prefix_of x) q ≡ Less) (λ q. prefix_cmp p q ≡ Less) (λ q behind. prefix_cmp_total.trans p (prefix_of x) q less behind) (map prefix_of xs) up.0)
-
-      by : (o : Ordering) → prefix_cmp (prefix_of x) p ≡ o → find (λ y. same_prefix p (prefix_of y)) xs ≡ option_and_then (if_same p) (find (λ y. not (is_before prefix_of p y)) xs)
-          → cond (same_prefix p (prefix_of x)) (Some x) (find (λ y. same_prefix p (prefix_of y)) xs) ≡ option_and_then (if_same p) (cond (not (is_before prefix_of p x)) (Some x) (find (λ y. not (is_before prefix_of p y)) xs))
-      by Less e rest =
-          ap (λ b. cond b (Some x) (find (λ y. same_prefix p (prefix_of y)) xs)) (same_is Less e) ∙ rest
-          ∙ sym (ap (λ o. option_and_then (if_same p) (cond (not (is_lt o)) (Some x) (find (λ y. not (is_before prefix_of p y)) xs))) e)
-      by Equal e rest =
-          ap (λ b. cond b (Some x) (find (λ y. same_prefix p (prefix_of y)) xs)) (same_is Equal e)
-          ∙ sym (ap (λ o. option_and_then (if_same p) (cond (not (is_lt o)) (Some x) (find (λ y. not (is_before prefix_of p y)) xs))) e ∙ ap (λ b. cond b (Some x) None) (same_is Equal e))
-      by Greater e rest =
-          ap (λ b. cond b (Some x) (find (λ y. same_prefix p (prefix_of y)) xs)) (same_is Greater e) ∙ rest_none e
-          ∙ sym (ap (λ o. option_and_then (if_same p) (cond (not (is_lt o)) (Some x) (find (λ y. not (is_before prefix_of p y)) xs))) e ∙ ap (λ b. cond b (Some x) None) (same_is Greater e))
-
-  -- what bisection gives, by cases
-  pub here : (p : Cidr) (xs : List A) → IsStrictlySortedBy prefix_cmp (map prefix_of xs) → (x : A) → Some x ≡ find (λ y. not (is_before prefix_of p y)) xs → same_prefix p (prefix_of x) ≡ true → Some x ≡ find (λ y. same_prefix p (prefix_of y)) xs
-  here p xs up x first is = sym (found_first p xs up ∙ ap (option_and_then (if_same p)) (sym first) ∙ ap (λ b. cond b (Some x) None) is)
-
-  pub not_here : (p : Cidr) (xs : List A) → IsStrictlySortedBy prefix_cmp (map prefix_of xs) → (x : A) → Some x ≡ find (λ y. not (is_before prefix_of p y)) xs → same_prefix p (prefix_of x) ≡ false → None ≡ find (λ y. same_prefix p (prefix_of y)) xs
-  not_here p xs up x first is = sym (found_first p xs up ∙ ap (option_and_then (if_same p)) (sym first) ∙ ap (λ b. cond b (Some x) None) is)
-
-  pub nowhere : (p : Cidr) (xs : List A) → IsStrictlySortedBy prefix_cmp (map prefix_of xs) → None ≡ find (λ y. not (is_before prefix_of p y)) xs → None ≡ find (λ y. same_prefix p (prefix_of y)) xs
-  nowhere p xs up first = sym (found_first p xs up ∙ ap (option_and_then (if_same p)) (sym first))
 
 -- ---- what is made one by one of things in order is in order
 

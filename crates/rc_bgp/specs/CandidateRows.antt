@@ -1,11 +1,12 @@
 -- Worked cases of origination, candidates and best paths, each by computation.
-use Rattle.std.specs.Prelude.{◌≡◌, true, List, [], ◌∷◌, Some, None, refl}
+use Rattle.std.specs.Prelude.{◌≡◌, true, List, [], ◌∷◌, map, Some, None, refl}
 use Rattle.rc_base.specs.Prefix.{prefix_at}
 use Rattle.rc_config.specs.IfType.{type_of}
 use Rattle.rc_config.specs.declared.bgp.Neighbor.{Neighbor}
 use Rattle.rc_config.specs.declared.network.Network.{Network}
 use Rattle.rc_config.specs.declared.router_text.RouterText.{RouterText}
 use Rattle.rc_fib.specs.Forwarding.{hops_within}
+use Rattle.rc_route.specs.Best.{alone}
 use Rattle.rc_route.specs.declared.path.BgpPath.{BgpPath}
 use Rattle.rc_route.specs.declared.path.PathSource.TheVariants.{Network as ByNetwork, External, Internal}
 use Rattle.rc_route.specs.declared.route.Hop.TheVariants.{Null, Via}
@@ -71,11 +72,11 @@ state table = knows (connected 0 (subnet 9) 1 ∷ connected 0 (subnet 12) 0 ∷ 
 abbrev heard_by_r2 : BgpPath
 heard_by_r2 = record (ninth 0 External) { next_hop = ip 12 1; weight = 0; as_path = 65001 ∷ []; sender_id = ip 12 1; neighbor = ip 12 1 }
 
-pub r2_hears_r1 : best_paths plain one_session (state (connected 1 (subnet 12) 0 ∷ [])) 1 ≡ heard_by_r2 ∷ []
+pub r2_hears_r1 : best_paths plain one_session (state (connected 1 (subnet 12) 0 ∷ [])) 1 ≡ map alone (heard_by_r2 ∷ [])
 unfolding best_paths hops_within
 r2_hears_r1 = refl
 
-pub r1_keeps_its_own : best_paths plain one_session (state (connected 1 (subnet 12) 0 ∷ [])) 0 ≡ ninth 0 ByNetwork ∷ []
+pub r1_keeps_its_own : best_paths plain one_session (state (connected 1 (subnet 12) 0 ∷ [])) 0 ≡ map alone (ninth 0 ByNetwork ∷ [])
 unfolding best_paths hops_within
 r1_keeps_its_own = refl
 
@@ -93,7 +94,7 @@ pub null_next_hop : best_paths plain one_session (state (record (static (subnet 
 unfolding best_paths hops_within
 null_next_hop = refl
 
-pub next_hop_by_default : best_paths plain one_session (state (record (static (prefix_at 0 0) (ip 23 3)) { metric = 6 } ∷ connected 1 (subnet 23) 0 ∷ [])) 1 ≡ record heard_by_r2 { igp_metric = 6 } ∷ []
+pub next_hop_by_default : best_paths plain one_session (state (record (static (prefix_at 0 0) (ip 23 3)) { metric = 6 } ∷ connected 1 (subnet 23) 0 ∷ [])) 1 ≡ map alone (record heard_by_r2 { igp_metric = 6 } ∷ [])
 unfolding best_paths hops_within
 next_hop_by_default = refl
 
@@ -101,12 +102,12 @@ next_hop_by_default = refl
 abbrev default_of_r1 : BgpPath
 default_of_r1 = record heard_by_r2 { prefix = prefix_at 0 0 }
 
-pub default_originate : best_paths (pair (record (peer (ip 12 2) 65002) { default_originate = true })) one_session (state (connected 1 (subnet 12) 0 ∷ [])) 1 ≡ default_of_r1 ∷ heard_by_r2 ∷ []
+pub default_originate : best_paths (pair (record (peer (ip 12 2) 65002) { default_originate = true })) one_session (state (connected 1 (subnet 12) 0 ∷ [])) 1 ≡ map alone (default_of_r1 ∷ heard_by_r2 ∷ [])
 unfolding best_paths hops_within
 default_originate = refl
 
 pub default_in_place : best_paths (pair (record (peer (ip 12 2) 65002) { default_originate = true })) one_session
-    (knows [] (record (ninth 0 External) { prefix = prefix_at 0 0; med = 70; as_path = 65003 ∷ [] } ∷ []) ∷ knows (connected 1 (subnet 12) 0 ∷ []) [] ∷ []) 1 ≡ default_of_r1 ∷ []
+    (knows [] (record (ninth 0 External) { prefix = prefix_at 0 0; med = 70; as_path = 65003 ∷ [] } ∷ []) ∷ knows (connected 1 (subnet 12) 0 ∷ []) [] ∷ []) 1 ≡ map alone (default_of_r1 ∷ [])
 unfolding best_paths hops_within
 default_in_place = refl
 
@@ -130,7 +131,7 @@ chain_state second =
     ∷ knows (connected 1 (subnet 12) 0 ∷ connected 1 (subnet 23) 1 ∷ []) second
     ∷ knows (static (subnet 12) (ip 23 2) ∷ connected 2 (subnet 23) 0 ∷ []) [] ∷ []
 
-pub second_hears : best_paths chain chain_sessions (chain_state []) 1 ≡ heard_inside ∷ []
+pub second_hears : best_paths chain chain_sessions (chain_state []) 1 ≡ map alone (heard_inside ∷ [])
 unfolding best_paths hops_within
 second_hears = refl
 
@@ -173,5 +174,5 @@ pub r2_goes_on : candidates plain both_ways 1 (chosen (ninth 0 ByNetwork ∷ [])
 unfolding candidates hops_within
 r2_goes_on = refl
 
-pub route_of_r2 : learned_route heard_by_r2 ≡ Some (record { prefix = subnet 9; source = Ebgp; distance = 20; metric = 0; hops = Via (ip 12 1) None ∷ [] })
+pub route_of_r2 : learned_route (alone heard_by_r2) ≡ Some (record { prefix = subnet 9; source = Ebgp; distance = 20; metric = 0; hops = Via (ip 12 1) None ∷ [] })
 route_of_r2 = refl

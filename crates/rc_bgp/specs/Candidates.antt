@@ -6,6 +6,9 @@ use Rattle.rc_base.specs.Lists.{in_order}
 use Rattle.rc_base.specs.Prefix.{Cidr, prefix_cmp, same_prefix, default_prefix}
 use Rattle.rc_bgp_decide.specs.Decision.{best_path}
 use Rattle.rc_config.specs.declared.network.Network.{Network}
+use Rattle.rc_route.specs.Best.{alone}
+use Rattle.rc_route.specs.Tables.{best_path_for}
+use Rattle.rc_route.specs.declared.best.Best.{Best}
 use Rattle.rc_route.specs.declared.path.BgpPath.{BgpPath}
 use Rattle.rc_route.specs.declared.route.Route.{Route}
 use Rattle.rc_route.specs.declared.state.RouterState.{RouterState}
@@ -16,12 +19,15 @@ use Rattle.rc_bgp.specs.Reaching.{metric_to}
 use Rattle.rc_bgp.specs.Sessions.{received, up_sessions}
 use Rattle.rc_bgp_session.specs.declared.session.Session.{Session}
 
--- the prefixes of paths, and those of a session's sender's best paths
+-- the prefixes of paths, those of best paths, and of these those of a session's sender
 abbrev pub prefixes_of : List BgpPath → List Cidr
 prefixes_of paths = map (λ (x : BgpPath). x.prefix) paths
 
+abbrev pub best_prefixes : List Best → List Cidr
+best_prefixes paths = map (λ (b : Best). b.path.prefix) paths
+
 abbrev pub sender_prefixes : List RouterState → Session → List Cidr
-sender_prefixes old s = prefixes_of (paths_of old s.sender)
+sender_prefixes old s = best_prefixes (paths_of old s.sender)
 
 -- the prefixes that may have candidates, by address, then length
 abbrev pub prefixes_seen : List RouterState → List (List BgpPath) → List Session → List Cidr
@@ -35,10 +41,14 @@ own_at own p = filter_map (λ paths. path_at paths p) own
 abbrev pub reachable : List Route → BgpPath → Option BgpPath
 reachable table x = option_map (λ metric. record x { igp_metric = metric }) (metric_to table x.next_hop)
 
+-- the best of some paths, without further next hops
+abbrev pub best_of : List BgpPath → Option Best
+best_of paths = option_map alone (best_path paths)
+
 module _ (net : Network) (old : List RouterState) where
   -- what the sender's best path of a prefix becomes on a session
   abbrev pub advertised_best : Session → Cidr → Option BgpPath
-  advertised_best s p = option_and_then (export net s) (path_at (paths_of old s.sender) p)
+  advertised_best s p = option_and_then (export net s) (best_path_for (paths_of old s.sender) p)
 
   -- the default path of `default-originate` stands in place of any other for 0.0.0.0/0
   abbrev pub advertised_default : Session → Cidr → Option BgpPath
@@ -61,11 +71,11 @@ module _ (net : Network) (old : List RouterState) where
   all_candidates table own sessions = flat_map (candidates_at table own sessions) (prefixes_seen old own sessions)
 
   -- the best path for a prefix
-  abbrev pub best_among : List Route → List (List BgpPath) → List Session → Cidr → Option BgpPath
-  best_among table own sessions p = best_path (candidates_at table own sessions p)
+  abbrev pub best_among : List Route → List (List BgpPath) → List Session → Cidr → Option Best
+  best_among table own sessions p = best_of (candidates_at table own sessions p)
 
   -- the best path of each prefix that has one, by address, then length
-  abbrev pub all_best : List Route → List (List BgpPath) → List Session → List BgpPath
+  abbrev pub all_best : List Route → List (List BgpPath) → List Session → List Best
   all_best table own sessions = filter_map (best_among table own sessions) (prefixes_seen old own sessions)
 
 -- the candidates of a router in a state, by prefix: what it originates, then what it hears over the sessions that are up in it
@@ -73,9 +83,9 @@ unfoldable pub candidates : Network → List Session → ℕ → List RouterStat
 candidates net sessions r old = all_candidates net old (table_of old r) (own_paths net (table_of old r) r) (received sessions r)
 
 -- the best path of a router for a prefix, after the state, from the configured sessions
-abbrev pub best_at : Network → List (List Session) → List RouterState → ℕ → Cidr → Option BgpPath
+abbrev pub best_at : Network → List (List Session) → List RouterState → ℕ → Cidr → Option Best
 best_at net sessions old r p = best_among net old (table_of old r) (own_paths net (table_of old r) r) (up_sessions sessions old r) p
 
 -- the best path of a router for each prefix that has one, after a state, from the configured sessions
-unfoldable pub best_paths : Network → List (List Session) → List RouterState → ℕ → List BgpPath
+unfoldable pub best_paths : Network → List (List Session) → List RouterState → ℕ → List Best
 best_paths net sessions old r = all_best net old (table_of old r) (own_paths net (table_of old r) r) (up_sessions sessions old r)

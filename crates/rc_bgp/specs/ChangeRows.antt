@@ -1,8 +1,10 @@
 -- Worked cases of what changes from one state to the next, each by computation.
-use Rattle.std.specs.Prelude.{◌≡◌, true, false, List, [], ◌∷◌, refl}
+use Rattle.std.specs.Prelude.{◌≡◌, true, false, List, [], ◌∷◌, map, refl}
 use Rattle.rc_base.specs.Prefix.{Cidr}
 use Rattle.rc_config.specs.declared.network.Network.{Network}
 use Rattle.rc_fib.specs.Forwarding.{hops_within}
+use Rattle.rc_route.specs.Best.{alone}
+use Rattle.rc_route.specs.declared.best.Best.{Best}
 use Rattle.rc_route.specs.declared.path.BgpPath.{BgpPath}
 use Rattle.rc_route.specs.declared.path.PathSource.TheVariants.{Network as ByNetwork, External}
 use Rattle.rc_route.specs.declared.route.Route.{Route}
@@ -42,14 +44,14 @@ abbrev heard : Cidr → BgpPath
 heard p = record (ninth 0 External) { prefix = p; next_hop = ip 12 1; weight = 0; as_path = 65001 ∷ []; sender_id = ip 12 1; neighbor = ip 12 1 }
 
 -- what R2 makes of its known paths, where R1 tells of these prefixes
-abbrev made : List Cidr → List BgpPath → List BgpPath → List BgpPath
+abbrev made : List Cidr → List BgpPath → List BgpPath → List Best
 made changed first second = mended_paths net all (changed ∷ [] ∷ []) (state first second) 1
 
-pub gains : made (subnet 9 ∷ []) (sent (subnet 9) ∷ []) [] ≡ heard (subnet 9) ∷ []
+pub gains : made (subnet 9 ∷ []) (sent (subnet 9) ∷ []) [] ≡ map alone (heard (subnet 9) ∷ [])
 unfolding hops_within
 gains = refl
 
-pub gains_between : made (subnet 9 ∷ []) (sent (subnet 8) ∷ sent (subnet 9) ∷ sent (subnet 10) ∷ []) (heard (subnet 8) ∷ heard (subnet 10) ∷ []) ≡ heard (subnet 8) ∷ heard (subnet 9) ∷ heard (subnet 10) ∷ []
+pub gains_between : made (subnet 9 ∷ []) (sent (subnet 8) ∷ sent (subnet 9) ∷ sent (subnet 10) ∷ []) (heard (subnet 8) ∷ heard (subnet 10) ∷ []) ≡ map alone (heard (subnet 8) ∷ heard (subnet 9) ∷ heard (subnet 10) ∷ [])
 unfolding hops_within
 gains_between = refl
 
@@ -57,16 +59,16 @@ pub loses : made (subnet 9 ∷ []) [] (heard (subnet 9) ∷ []) ≡ []
 unfolding hops_within
 loses = refl
 
-pub stays : made (subnet 9 ∷ []) (sent (subnet 9) ∷ []) (heard (subnet 9) ∷ []) ≡ heard (subnet 9) ∷ []
+pub stays : made (subnet 9 ∷ []) (sent (subnet 9) ∷ []) (heard (subnet 9) ∷ []) ≡ map alone (heard (subnet 9) ∷ [])
 unfolding hops_within
 stays = refl
 
-pub changes_its_med : made (subnet 9 ∷ []) (record (sent (subnet 9)) { med = 7 } ∷ []) (heard (subnet 9) ∷ []) ≡ record (heard (subnet 9)) { med = 7 } ∷ []
+pub changes_its_med : made (subnet 9 ∷ []) (record (sent (subnet 9)) { med = 7 } ∷ []) (heard (subnet 9) ∷ []) ≡ map alone (record (heard (subnet 9)) { med = 7 } ∷ [])
 unfolding hops_within
 changes_its_med = refl
 
 -- nothing is decided at a prefix of which nobody tells
-pub untold : made (subnet 9 ∷ []) (sent (subnet 9) ∷ []) (heard (subnet 8) ∷ []) ≡ heard (subnet 8) ∷ heard (subnet 9) ∷ []
+pub untold : made (subnet 9 ∷ []) (sent (subnet 9) ∷ []) (heard (subnet 8) ∷ []) ≡ map alone (heard (subnet 8) ∷ heard (subnet 9) ∷ [])
 unfolding hops_within
 untold = refl
 
@@ -90,6 +92,6 @@ pub hears_nothing_at_first : best_paths net ([] ∷ (far ∷ []) ∷ []) (with_r
 unfolding best_paths hops_within
 hears_nothing_at_first = refl
 
-pub hears_what_was_there : best_paths net ([] ∷ (far ∷ []) ∷ []) (with_route (connected 1 (subnet 12) 0 ∷ [])) 1 ≡ heard (subnet 9) ∷ []
+pub hears_what_was_there : best_paths net ([] ∷ (far ∷ []) ∷ []) (with_route (connected 1 (subnet 12) 0 ∷ [])) 1 ≡ map alone (heard (subnet 9) ∷ [])
 unfolding best_paths hops_within
 hears_what_was_there = refl

@@ -4,10 +4,11 @@ use Rattle.std.specs.List.{AllByRecursion, flat_map, list_any}
 use Rattle.rc_base.specs.Lists.{in_order}
 use Rattle.rc_base.specs.Prefix.{Cidr, prefix_cmp, same_prefix}
 use Rattle.rc_config.specs.declared.network.Network.{Network}
-use Rattle.rc_route.specs.declared.path.BgpPath.{BgpPath}
+use Rattle.rc_route.specs.Tables.{best_for}
+use Rattle.rc_route.specs.declared.best.Best.{Best}
 use Rattle.rc_route.specs.declared.state.RouterState.{RouterState}
 use Rattle.rc_bgp.specs.Candidates.{best_at}
-use Rattle.rc_bgp.specs.Known.{path_at, paths_of, table_of}
+use Rattle.rc_bgp.specs.Known.{paths_of, table_of}
 use Rattle.rc_bgp.specs.Mending.{mended}
 use Rattle.rc_bgp.specs.Own.{own_paths}
 use Rattle.rc_bgp.specs.Reaching.{metric_to}
@@ -18,17 +19,17 @@ use Rattle.rc_bgp_session.specs.declared.session.Session.{Session}
 abbrev pub changes_of : List (List Cidr) → ℕ → List Cidr
 changes_of all r = unwrap_or (slice_get all r) []
 
--- all that changes from one list of paths to the other is told: at a prefix that isn't, both say the same
-pub record CoversChange (changed : List Cidr) (old new : List BgpPath) : Type 0 where
-  pub elsewhere : (p : Cidr) → list_any (same_prefix p) changed ≡ false → path_at old p ≡ path_at new p
+-- all that changes from one list of best paths to the other is told: at a prefix that isn't, both say the same
+pub record CoversChange (changed : List Cidr) (old new : List Best) : Type 0 where
+  pub elsewhere : (p : Cidr) → list_any (same_prefix p) changed ≡ false → best_for old p ≡ best_for new p
 
 -- all that changes from one state to the other in the best paths of each router is told of it
 pub record AreChanges (changes : List (List Cidr)) (old new : List RouterState) : Type 0 where
   pub each : (r : ℕ) → CoversChange (changes_of changes r) (paths_of old r) (paths_of new r)
 
 -- of these prefixes all are told at which the lists say otherwise
-pub record AreToldAmong (prefixes changed : List Cidr) (old new : List BgpPath) : Type 0 where
-  pub each : (p : Cidr) → list_any (same_prefix p) prefixes ≡ true → list_any (same_prefix p) changed ≡ false → path_at old p ≡ path_at new p
+pub record AreToldAmong (prefixes changed : List Cidr) (old new : List Best) : Type 0 where
+  pub each : (p : Cidr) → list_any (same_prefix p) prefixes ≡ true → list_any (same_prefix p) changed ≡ false → best_for old p ≡ best_for new p
 
 -- ---- where a router's best paths change by those of its senders alone
 
@@ -48,11 +49,11 @@ abbrev pub suspects : List (List Cidr) → List Session → List Cidr
 suspects changes ss = in_order prefix_cmp (flat_map (λ (s : Session). changes_of changes s.sender) ss)
 
 -- the known paths of a router, with what is best now at the prefixes that changed at the senders of its sessions
-abbrev pub mended_paths : Network → List (List Session) → List (List Cidr) → List RouterState → ℕ → List BgpPath
+abbrev pub mended_paths : Network → List (List Session) → List (List Cidr) → List RouterState → ℕ → List Best
 mended_paths net sessions changes now r =
-    mended (λ (x : BgpPath). x.prefix) (best_at net sessions now r) (paths_of now r) (suspects changes (up_sessions sessions now r))
+    mended (λ (b : Best). b.path.prefix) (best_at net sessions now r) (paths_of now r) (suspects changes (up_sessions sessions now r))
 
 -- these are those paths, and of those prefixes all are told at which they say other than what is known
-pub record AreMended (net : Network) (sessions : List (List Session)) (changes : List (List Cidr)) (now : List RouterState) (r : ℕ) (paths : List BgpPath) (changed : List Cidr) : Type 0 where
+pub record AreMended (net : Network) (sessions : List (List Session)) (changes : List (List Cidr)) (now : List RouterState) (r : ℕ) (paths : List Best) (changed : List Cidr) : Type 0 where
   pub value : paths ≡ mended_paths net sessions changes now r
   pub told : AreToldAmong (suspects changes (up_sessions sessions now r)) changed (paths_of now r) paths

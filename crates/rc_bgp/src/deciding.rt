@@ -1,15 +1,15 @@
 //! A router's candidates and best paths.
-ghost use Rattle.std.specs.Prelude.{◌≡◌, ◌↔◌, ◌++◌, All, IfOk, IsTrue, OnOk};
+ghost use Rattle.std.specs.Prelude.{◌≡◌, ◌↔◌, ◌++◌, All, IfOk, IsTrue, OnOk, slice_get};
 ghost use Rattle.std.specs.List.{fold, flat_map, filter_map};
-ghost use Rattle.std.specs.Option.{option_to_list};
+ghost use Rattle.std.specs.Option.{option_copied, option_to_list};
 ghost use Rattle.std.specs.BTreeSet.{keys, insert_key};
 ghost use Rattle.rc_base.specs.Prefix.{prefix_cmp};
 ghost use Rattle.rc_bgp_decide.specs.Decision.{best_path};
-ghost use Rattle.rc_route.specs.Tables.{IsPathList, IsRouterState};
+ghost use Rattle.rc_route.specs.Tables.{IsBestList, IsPathList, IsRouterState};
 ghost use Rattle.rc_bgp.specs.Candidates as spec;
 
 use crate::hearing::candidates_at;
-use crate::known::{at_path, paths_of, table_of};
+use crate::known::{paths_of, table_of};
 use crate::originating::{insert, listed};
 use crate::own_paths::own_paths;
 use crate::resolver::Resolver;
@@ -19,13 +19,20 @@ use rc_as_path::AsPath;
 use rc_base::{Items, Prefix, RouterId};
 use rc_bgp_decide::best;
 use rc_config::Network;
-use rc_route::{BgpPath, State};
+use rc_route::{Best, BgpPath, State};
 use std::alloc::{AllocError, Global};
 use std::collections::BTreeSet;
 
+/// The path at an index.
+fn at_path(paths: &[BgpPath], index: usize) -> Option<&BgpPath>
+    ensures { option_copied result ≡ slice_get paths.now index }
+{
+    paths.get(index)
+}
+
 /// The best of some paths, again.
 #[tactic(auto, using(rc_bgp_decide::proofs::DecisionLaws::best_path_at_place))]
-fn best_of(paths: &[BgpPath]) -> Result<Option<BgpPath>, AllocError>
+fn best_path(paths: &[BgpPath]) -> Result<Option<BgpPath>, AllocError>
     ensures { IfOk result (λ path. path ≡ best_path paths.now) }
 {
     let place = best(paths);
@@ -41,6 +48,17 @@ fn best_of(paths: &[BgpPath]) -> Result<Option<BgpPath>, AllocError>
     }
 }
 
+/// The same with what goes with it: no further next hops.
+fn best_of(paths: &[BgpPath]) -> Result<Option<Best>, AllocError>
+    ensures { IfOk result (λ best. best ≡ spec.best_of paths.now) }
+{
+    let path = best_path(paths)?;
+    match path {
+        None => Ok(None),
+        Some(path) => Ok(Some(Best::alone(path))),
+    }
+}
+
 /// The best path for a prefix.
 pub(crate) fn best_among(
     alloc: Global,
@@ -50,10 +68,10 @@ pub(crate) fn best_among(
     own: &[Items<BgpPath>],
     sessions: &[Session],
     prefix: &Prefix,
-) -> Result<Option<BgpPath>, AllocError>
+) -> Result<Option<Best>, AllocError>
     requires state { All IsRouterState state.now }
     requires own { All IsPathList own.now }
-    ensures value { IfOk result (λ path. path ≡ spec.best_among net.now state.now resolver.old own.now sessions.now prefix.now) }
+    ensures value { IfOk result (λ best. best ≡ spec.best_among net.now state.now resolver.old own.now sessions.now prefix.now) }
     ensures same { OnOk result (resolver.new ≡ resolver.old) }
 {
     let paths = candidates_at(alloc, net, state, resolver, own, sessions, prefix)?;
@@ -61,11 +79,24 @@ pub(crate) fn best_among(
 }
 
 /// Puts the prefixes of paths into a set.
-pub(crate) fn add_prefixes(set: &mut BTreeSet<Prefix>, paths: &[BgpPath]) -> Result<(), AllocError>
+fn add_prefixes(set: &mut BTreeSet<Prefix>, paths: &[BgpPath]) -> Result<(), AllocError>
     ensures { OnOk result (keys set.new ≡ fold (insert_key prefix_cmp) (keys set.old) (spec.prefixes_of paths.now)) }
 {
     for path in paths {
         insert(set, path.prefix)?;
+    }
+    Ok(())
+}
+
+/// Puts the prefixes of best paths into a set.
+pub(crate) fn add_best_prefixes(
+    set: &mut BTreeSet<Prefix>,
+    paths: &[Best],
+) -> Result<(), AllocError>
+    ensures { OnOk result (keys set.new ≡ fold (insert_key prefix_cmp) (keys set.old) (spec.best_prefixes paths.now)) }
+{
+    for best in paths {
+        insert(set, best.path.prefix)?;
     }
     Ok(())
 }
@@ -90,7 +121,7 @@ fn add_senders(
     ensures { OnOk result (keys set.new ≡ fold (insert_key prefix_cmp) (keys set.old) (flat_map (spec.sender_prefixes state.now) sessions.now)) }
 {
     for session in sessions {
-        add_prefixes(set, paths_of(state, session.sender))?;
+        add_best_prefixes(set, paths_of(state, session.sender))?;
     }
     Ok(())
 }
@@ -121,37 +152,37 @@ fn is_same_way(path: &AsPath, other: &AsPath) -> bool
     *path == *other
 }
 
-/// A path, which shares the AS path of another one where both are the same.
-fn sharing(other: &BgpPath, path: BgpPath) -> Result<BgpPath, AllocError>
-    ensures { IfOk result (λ made. made ≡ path) }
+/// A best path, which shares the AS path of another one where both are the same.
+fn sharing(other: &BgpPath, best: Best) -> Result<Best, AllocError>
+    ensures { IfOk result (λ made. made ≡ best) }
 {
-    if !is_same_way(&other.as_path, &path.as_path) {
-        return Ok(path);
+    if !is_same_way(&other.as_path, &best.path.as_path) {
+        return Ok(best);
     }
-    let mut made = path;
-    made.as_path = other.as_path.share()?;
+    let mut made = best;
+    made.path.as_path = other.as_path.share()?;
     Ok(made)
 }
 
-/// A path, which shares the AS path of the last of some: paths of one origin mostly stand side by side.
-fn sharing_last(paths: &[BgpPath], path: BgpPath) -> Result<BgpPath, AllocError>
-    ensures { IfOk result (λ made. made ≡ path) }
+/// A best path, which shares the AS path of the last of some: paths of one origin mostly stand side by side.
+fn sharing_last(paths: &[Best], best: Best) -> Result<Best, AllocError>
+    ensures { IfOk result (λ made. made ≡ best) }
 {
     let last = paths.last();
     match last {
-        None => Ok(path),
-        Some(last) => sharing(last, path),
+        None => Ok(best),
+        Some(last) => sharing(&last.path, best),
     }
 }
 
-/// One path more, if there is one.
-pub(crate) fn push_some(paths: &mut Items<BgpPath>, path: Option<BgpPath>) -> Result<(), AllocError>
-    ensures { OnOk result (paths.new ≡ paths.old ++ option_to_list path) }
+/// One best path more, if there is one.
+pub(crate) fn push_some(paths: &mut Items<Best>, best: Option<Best>) -> Result<(), AllocError>
+    ensures { OnOk result (paths.new ≡ paths.old ++ option_to_list best) }
 {
-    match path {
-        Some(path) => {
-            let path = sharing_last(paths.as_slice(), path)?;
-            paths.push(path)?;
+    match best {
+        Some(best) => {
+            let best = sharing_last(paths.as_slice(), best)?;
+            paths.push(best)?;
         }
         None => {}
     }
@@ -167,15 +198,15 @@ fn best_for(
     own: &[Items<BgpPath>],
     sessions: &[Session],
     prefixes: &[Prefix],
-) -> Result<Items<BgpPath>, AllocError>
+) -> Result<Items<Best>, AllocError>
     requires state { All IsRouterState state.now }
     requires own { All IsPathList own.now }
     ensures { IfOk result (λ paths. paths ≡ filter_map (spec.best_among net.now state.now resolver.old own.now sessions.now) prefixes.now) }
 {
     let mut paths = Items::new(alloc);
     for prefix in prefixes {
-        let path = best_among(alloc, net, state, resolver, own, sessions, prefix)?;
-        push_some(&mut paths, path)?;
+        let best = best_among(alloc, net, state, resolver, own, sessions, prefix)?;
+        push_some(&mut paths, best)?;
     }
     Ok(paths)
 }
@@ -189,10 +220,10 @@ pub(crate) fn best_paths(
     sessions: &ConfiguredSessions,
     previous: &State,
     router: RouterId,
-) -> Result<Items<BgpPath>, AllocError>
+) -> Result<Items<Best>, AllocError>
     requires { All IsRouterState previous.now }
     ensures value { IfOk result (λ paths. paths ≡ spec.best_paths net.now sessions.now previous.now router) }
-    ensures in_order { IfOk result IsPathList }
+    ensures in_order { IfOk result IsBestList }
 {
     let table = table_of(previous, router);
     let own = own_paths(alloc, net, table, router)?;

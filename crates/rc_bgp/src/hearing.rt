@@ -6,13 +6,13 @@ ghost use Rattle.rc_bgp.specs.Candidates as spec;
 ghost use Rattle.rc_bgp.specs.Known.{path_at};
 ghost use Rattle.rc_bgp_session.specs.Passing as pass;
 
-use crate::known::{path_at, paths_of};
+use crate::known::paths_of;
 use crate::resolver::Resolver;
 use crate::{Session, export};
 use rc_base::{Items, Prefix};
 use rc_bgp_session::{originated_default, taken};
 use rc_config::Network;
-use rc_route::{BgpPath, State};
+use rc_route::{BgpPath, State, best_path_for, listed_at};
 use std::alloc::{AllocError, Global};
 
 /// What the sender's best path of a prefix becomes on a session.
@@ -26,7 +26,7 @@ fn advertised_best(
     requires { All IsRouterState state.now }
     ensures { IfOk result (λ made. made ≡ spec.advertised_best net.now state.now session.now prefix.now) }
 {
-    let found = path_at(paths_of(state, session.sender), prefix);
+    let found = best_path_for(paths_of(state, session.sender), prefix);
     match found {
         Some(path) => export(alloc, net, session, path),
         None => Ok(None),
@@ -143,7 +143,7 @@ fn copied_at(paths: &[BgpPath], prefix: &Prefix) -> Result<Option<BgpPath>, Allo
     requires { IsPathList paths.now }
     ensures { IfOk result (λ path. path ≡ path_at paths.now prefix.now) }
 {
-    let found = path_at(paths, prefix);
+    let found = listed_at(paths, prefix);
     match found {
         Some(path) => Ok(Some(path.copy()?)),
         None => Ok(None),

@@ -1,30 +1,94 @@
 //! The routes that best paths give.
-ghost use Rattle.std.specs.Prelude.{◌≡◌};
+ghost use Rattle.std.specs.Prelude.{◌≡◌, IfOk, OnOk, Some, map};
+ghost use Rattle.std.specs.BTreeSet.{keys, insert_key};
+ghost use Rattle.std.specs.List.{fold};
+ghost use Rattle.std.specs.Ordering.{nat_cmp};
 ghost use Rattle.rc_bgp.specs.Learning as spec;
 
-use rc_route::{BgpPath, Hop, Hops, PathSource, Route, Source};
+use rc_base::Addr;
+use rc_route::{Best, Hop, Hops, PathSource, Route, Source};
+use std::alloc::{AllocError, Global};
+use std::collections::BTreeSet;
 
-/// The route of a path over its next hop.
-fn route_over(path: &BgpPath, source: Source, distance: u8) -> Route
-    ensures { result ≡ spec.route_over path.now source distance }
+/// Puts an address into a set.
+fn insert(set: &mut BTreeSet<Addr>, addr: Addr) -> Result<(), AllocError>
+    ensures { OnOk result (keys set.new ≡ insert_key nat_cmp (keys set.old) addr) }
 {
-    Route {
-        prefix: path.prefix,
-        source,
-        distance,
-        metric: path.med,
-        hops: Hops::one(Hop::Via(path.next_hop, None)),
-    }
+    set.insert(addr)?;
+    Ok(())
 }
 
-/// The route that a best path gives its router's table: over the next hop, with the MED as metric, and with the administrative
-/// distance 20 from another AS and 200 from the own one. What the router originates gives none. It takes no memory.
-pub fn learned_route(path: &BgpPath) -> Option<Route>
-    ensures { result ≡ spec.learned_route path.now }
+/// Puts addresses into a set.
+fn insert_all(set: &mut BTreeSet<Addr>, addresses: &[Addr]) -> Result<(), AllocError>
+    ensures { OnOk result (keys set.new ≡ fold (insert_key nat_cmp) (keys set.old) addresses.now) }
 {
-    match path.source {
-        PathSource::External => Some(route_over(path, Source::Ebgp, 20)),
-        PathSource::Internal => Some(route_over(path, Source::Ibgp, 200)),
-        _ => None,
+    for addr in addresses {
+        insert(set, *addr)?;
+    }
+    Ok(())
+}
+
+/// The gateways of a set, as hops.
+fn gateways(alloc: Global, set: BTreeSet<Addr>) -> Result<Hops, AllocError>
+    ensures { IfOk result (λ hops. hops ≡ map spec.gateway (keys set)) }
+{
+    let mut hops = Hops::none();
+    for addr in set {
+        hops.push(alloc, Hop::Via(addr, None))?;
+    }
+    Ok(hops)
+}
+
+/// The next hop of a best path and those beside it, of which there are some.
+#[tactic(auto, using(crate::proofs::LearningLaws::hops_in_parts))]
+fn all_hops(alloc: Global, best: &Best) -> Result<Hops, AllocError>
+    ensures { IfOk result (λ hops. hops ≡ spec.hops_of best.now) }
+{
+    let mut set = BTreeSet::new(alloc);
+    insert(&mut set, best.path.next_hop)?;
+    insert_all(&mut set, best.also.as_slice())?;
+    gateways(alloc, set)
+}
+
+/// The next hop of a best path and those beside it.
+#[tactic(auto, using(crate::proofs::LearningLaws::no_further))]
+fn hops_of(alloc: Global, best: &Best) -> Result<Hops, AllocError>
+    ensures { IfOk result (λ hops. hops ≡ spec.hops_of best.now) }
+{
+    if best.also.is_empty() {
+        return Ok(Hops::one(Hop::Via(best.path.next_hop, None)));
+    }
+    all_hops(alloc, best)
+}
+
+/// The route of a best path over its next hops.
+fn route_by(
+    alloc: Global,
+    best: &Best,
+    source: Source,
+    distance: u8,
+) -> Result<Option<Route>, AllocError>
+    ensures { IfOk result (λ route. route ≡ Some (spec.route_by best.now source distance)) }
+{
+    let hops = hops_of(alloc, best)?;
+    Ok(Some(Route {
+        prefix: best.path.prefix,
+        source,
+        distance,
+        metric: best.path.med,
+        hops,
+    }))
+}
+
+/// The route that a best path gives its router's table: over its next hop and those that go with it, with the MED as metric, and with
+/// the administrative distance 20 from another AS and 200 from the own one. What the router originates gives none. It takes no memory
+/// where no further next hop goes with the path, and errs only where memory runs out.
+pub fn learned_route(alloc: Global, best: &Best) -> Result<Option<Route>, AllocError>
+    ensures { IfOk result (λ route. route ≡ spec.learned_route best.now) }
+{
+    match best.path.source {
+        PathSource::External => route_by(alloc, best, Source::Ebgp, 20),
+        PathSource::Internal => route_by(alloc, best, Source::Ibgp, 200),
+        _ => Ok(None),
     }
 }

@@ -1,7 +1,7 @@
 //! Known paths, with what is best now at some prefixes in place of what they say there.
 ghost use Rattle.std.specs.Prelude.{◌≡◌, ◌++◌, All, IfOk, OnOk};
-ghost use Rattle.rc_route.specs.Tables.{IsPathList, IsRouterState};
-ghost use Rattle.rc_route.specs.declared.path.BgpPath.{BgpPath as Path};
+ghost use Rattle.rc_route.specs.Tables.{IsBestList, IsPathList, IsRouterState};
+ghost use Rattle.rc_route.specs.declared.best.Best.{Best as BestModel};
 ghost use Rattle.rc_bgp.specs.Candidates.{best_among};
 ghost use Rattle.rc_bgp.specs.Mending as spec;
 
@@ -10,34 +10,34 @@ use crate::deciding::{best_among, push_some};
 use crate::resolver::Resolver;
 use rc_base::{Items, Prefix};
 use rc_config::Network;
-use rc_route::{BgpPath, State};
+use rc_route::{Best, BgpPath, State};
 use std::alloc::{AllocError, Global};
 
 /// The paths before a prefix, by bisection.
-fn before<'a>(paths: &'a [BgpPath], prefix: &Prefix) -> &'a [BgpPath]
-    requires { IsPathList paths.now }
-    ensures { result.now ≡ spec.before (λ (x : Path). x.prefix) prefix.now paths.now }
+fn before<'a>(paths: &'a [Best], prefix: &Prefix) -> &'a [Best]
+    requires { IsBestList paths.now }
+    ensures { result.now ≡ spec.before (λ (b : BestModel). b.path.prefix) prefix.now paths.now }
 {
-    let index = paths.partition_point(|path| path.prefix < *prefix);
+    let index = paths.partition_point(|best| best.path.prefix < *prefix);
     &paths[..index]
 }
 
 /// The paths behind a prefix, by bisection.
-fn behind<'a>(paths: &'a [BgpPath], prefix: &Prefix) -> &'a [BgpPath]
-    requires { IsPathList paths.now }
-    ensures value { result.now ≡ spec.behind (λ (x : Path). x.prefix) prefix.now paths.now }
-    ensures in_order { IsPathList result.now }
+fn behind<'a>(paths: &'a [Best], prefix: &Prefix) -> &'a [Best]
+    requires { IsBestList paths.now }
+    ensures value { result.now ≡ spec.behind (λ (b : BestModel). b.path.prefix) prefix.now paths.now }
+    ensures in_order { IsBestList result.now }
 {
-    let index = paths.partition_point(|path| !(*prefix < path.prefix));
+    let index = paths.partition_point(|best| !(*prefix < best.path.prefix));
     &paths[index..]
 }
 
-/// Puts paths at the end of others, in memory of their own.
-fn append_copies(made: &mut Items<BgpPath>, paths: &[BgpPath]) -> Result<(), AllocError>
+/// Puts best paths at the end of others, again.
+fn append_copies(made: &mut Items<Best>, paths: &[Best]) -> Result<(), AllocError>
     ensures { OnOk result (made.new ≡ made.old ++ paths.now) }
 {
-    for path in paths {
-        made.push(path.copy()?)?;
+    for best in paths {
+        made.push(best.copy()?)?;
     }
     Ok(())
 }
@@ -50,13 +50,13 @@ pub(crate) fn mended(
     resolver: &mut Resolver<'_>,
     own: &[Items<BgpPath>],
     sessions: &[Session],
-    known: &[BgpPath],
+    known: &[Best],
     prefixes: &[Prefix],
-) -> Result<Items<BgpPath>, AllocError>
+) -> Result<Items<Best>, AllocError>
     requires state { All IsRouterState state.now }
     requires own { All IsPathList own.now }
-    requires known { IsPathList known.now }
-    ensures { IfOk result (λ paths. paths ≡ spec.mended (λ (x : Path). x.prefix) (best_among net.now state.now resolver.old own.now sessions.now) known.now prefixes.now) }
+    requires known { IsBestList known.now }
+    ensures { IfOk result (λ paths. paths ≡ spec.mended (λ (b : BestModel). b.path.prefix) (best_among net.now state.now resolver.old own.now sessions.now) known.now prefixes.now) }
 {
     let room = known.len().saturating_add(prefixes.len());
     let mut paths = Items::with_room(alloc, room)?;
@@ -64,8 +64,8 @@ pub(crate) fn mended(
     for prefix in prefixes {
         append_copies(&mut paths, before(left, prefix))?;
         left = behind(left, prefix);
-        let path = best_among(alloc, net, state, resolver, own, sessions, prefix)?;
-        push_some(&mut paths, path)?;
+        let best = best_among(alloc, net, state, resolver, own, sessions, prefix)?;
+        push_some(&mut paths, best)?;
     }
     append_copies(&mut paths, left)?;
     Ok(paths)

@@ -7,10 +7,9 @@ ghost use Rattle.rc_base.specs.Prefix.{prefix_cmp};
 ghost use Rattle.rc_route.specs.Tables.{IsPathList, IsTable};
 ghost use Rattle.rc_bgp.specs.Originating as spec;
 
-use crate::known::route_at;
 use rc_as_path::AsPath;
 use rc_base::{Addr, Communities, Items, Origin, Prefix, RouterId};
-use rc_route::{BgpPath, PathSource, Route, Source};
+use rc_route::{BgpPath, PathSource, Route, Source, listed_at};
 use std::alloc::{AllocError, Global};
 use std::collections::BTreeSet;
 
@@ -72,7 +71,7 @@ fn by_network(router: RouterId, table: &[Route], prefix: &Prefix) -> Option<BgpP
     requires { IsTable table.now }
     ensures { result ≡ spec.by_network router table.now prefix.now }
 {
-    let found = route_at(table, prefix);
+    let found = listed_at(table, prefix);
     match found {
         Some(route) => from_route(router, route, prefix),
         None => None,

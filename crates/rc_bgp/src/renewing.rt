@@ -4,7 +4,7 @@ ghost use Rattle.std.specs.List.{flat_map, fold};
 ghost use Rattle.std.specs.Prelude.{◌≡◌, ◌↔◌, ◌++◌, All, IfOk, IsTrue, OnOk, false};
 ghost use Rattle.rc_base.specs.Lists.{in_order};
 ghost use Rattle.rc_base.specs.Prefix.{prefix_cmp};
-ghost use Rattle.rc_route.specs.Tables.{IsPathList, IsRouterState};
+ghost use Rattle.rc_route.specs.Tables.{IsBestList, IsRouterState, best_for};
 ghost use Rattle.rc_bgp.specs.Candidates as spec;
 ghost use Rattle.rc_bgp.specs.Changes.{AreChanges, AreMended, AreToldAmong, CoversChange};
 ghost use Rattle.rc_bgp.specs.Changes as change_spec;
@@ -12,8 +12,8 @@ ghost use Rattle.rc_bgp_session.specs.declared.session.Session.{Session as Sessi
 ghost use Rattle.rc_bgp.specs.Known as known_spec;
 
 use crate::alike::reads_alike;
-use crate::deciding::{add_prefixes, best_paths};
-use crate::known::{path_at, paths_of, table_of};
+use crate::deciding::{add_best_prefixes, best_paths};
+use crate::known::{paths_of, table_of};
 use crate::mending::mended;
 use crate::originating::{insert_all, listed};
 use crate::own_paths::own_paths;
@@ -22,26 +22,26 @@ use crate::up::up_sessions;
 use crate::{Changes, ConfiguredSessions, Renewed, Session};
 use rc_base::{Items, Prefix, RouterId};
 use rc_config::Network;
-use rc_route::{BgpPath, State};
+use rc_route::{Best, State, listed_at};
 use std::alloc::{AllocError, Global};
 use std::collections::BTreeSet;
 
-/// Whether two paths are the same.
-#[tactic(auto, using(crate::proofs::ChangeLaws::path_decides))]
-fn is_same(path: &BgpPath, other: &BgpPath) -> bool
-    ensures { IsTrue result ↔ (path.now ≡ other.now) }
+/// Whether two best paths are the same, with what goes with them.
+#[tactic(auto, using(rc_route::proofs::EqualLaws::best_decides))]
+fn is_same(best: &Best, other: &Best) -> bool
+    ensures { IsTrue result ↔ (best.now ≡ other.now) }
 {
-    *path == *other
+    *best == *other
 }
 
 /// Whether two lists of paths say otherwise at a prefix.
-fn differ_at(old: &[BgpPath], new: &[BgpPath], prefix: &Prefix) -> bool
-    requires old { IsPathList old.now }
-    requires new { IsPathList new.now }
-    ensures { result ≡ false → known_spec.path_at old.now prefix.now ≡ known_spec.path_at new.now prefix.now }
+fn differ_at(old: &[Best], new: &[Best], prefix: &Prefix) -> bool
+    requires old { IsBestList old.now }
+    requires new { IsBestList new.now }
+    ensures { result ≡ false → best_for old.now prefix.now ≡ best_for new.now prefix.now }
 {
-    let before = path_at(old, prefix);
-    let after = path_at(new, prefix);
+    let before = listed_at(old, prefix);
+    let after = listed_at(new, prefix);
     match before {
         None => after.is_some(),
         Some(before) => match after {
@@ -54,12 +54,12 @@ fn differ_at(old: &[BgpPath], new: &[BgpPath], prefix: &Prefix) -> bool
 /// Those of some prefixes at which two lists of paths say otherwise.
 fn differing(
     alloc: Global,
-    old: &[BgpPath],
-    new: &[BgpPath],
+    old: &[Best],
+    new: &[Best],
     prefixes: &[Prefix],
 ) -> Result<Items<Prefix>, AllocError>
-    requires old { IsPathList old.now }
-    requires new { IsPathList new.now }
+    requires old { IsBestList old.now }
+    requires new { IsBestList new.now }
     ensures { IfOk result (λ changed. AreToldAmong prefixes.now changed old.now new.now) }
 {
     let mut changed = Items::new(alloc);
@@ -73,24 +73,20 @@ fn differing(
 
 /// The prefixes of two lists of paths, in order, each once.
 #[tactic(auto, using(crate::proofs::ChangeLaws::both_listed))]
-fn prefixes_of_both(
-    alloc: Global,
-    old: &[BgpPath],
-    new: &[BgpPath],
-) -> Result<Items<Prefix>, AllocError>
-    ensures { IfOk result (λ prefixes. prefixes ≡ in_order prefix_cmp (spec.prefixes_of old.now ++ spec.prefixes_of new.now)) }
+fn prefixes_of_both(alloc: Global, old: &[Best], new: &[Best]) -> Result<Items<Prefix>, AllocError>
+    ensures { IfOk result (λ prefixes. prefixes ≡ in_order prefix_cmp (spec.best_prefixes old.now ++ spec.best_prefixes new.now)) }
 {
     let mut set = BTreeSet::new(alloc);
-    add_prefixes(&mut set, old)?;
-    add_prefixes(&mut set, new)?;
+    add_best_prefixes(&mut set, old)?;
+    add_best_prefixes(&mut set, new)?;
     listed(alloc, set)
 }
 
 /// Paths, with the prefixes at which they say other than those before.
 #[tactic(auto, using(crate::proofs::ChangeLaws::both_covered))]
-fn beside(alloc: Global, old: &[BgpPath], paths: Items<BgpPath>) -> Result<Renewed, AllocError>
-    requires old { IsPathList old.now }
-    requires paths { IsPathList paths }
+fn beside(alloc: Global, old: &[Best], paths: Items<Best>) -> Result<Renewed, AllocError>
+    requires old { IsBestList old.now }
+    requires paths { IsBestList paths }
     ensures paths { IfOk result (λ r. r.paths ≡ paths) }
     ensures changed { IfOk result (λ r. CoversChange r.changed old.now r.paths) }
 {
@@ -110,7 +106,7 @@ pub fn first_paths(
 ) -> Result<Renewed, AllocError>
     requires { All IsRouterState previous.now }
     ensures paths { IfOk result (λ r. r.paths ≡ spec.best_paths net.now sessions.now previous.now router) }
-    ensures in_order { IfOk result (λ r. IsPathList r.paths) }
+    ensures in_order { IfOk result (λ r. IsBestList r.paths) }
     ensures changed { IfOk result (λ r. CoversChange r.changed (known_spec.paths_of previous.now router) r.paths) }
 {
     let paths = best_paths(alloc, net, sessions, previous, router)?;
@@ -203,7 +199,7 @@ pub fn renewed_paths(
     requires known { known_spec.paths_of previous.now router ≡ spec.best_paths net.now sessions.now earlier.now router }
     requires changes { AreChanges changes.now earlier.now previous.now }
     ensures paths { IfOk result (λ r. r.paths ≡ spec.best_paths net.now sessions.now previous.now router) }
-    ensures in_order { IfOk result (λ r. IsPathList r.paths) }
+    ensures in_order { IfOk result (λ r. IsBestList r.paths) }
     ensures changed { IfOk result (λ r. CoversChange r.changed (known_spec.paths_of previous.now router) r.paths) }
 {
     if reads_alike(alloc, net, sessions, earlier, previous, router)? {

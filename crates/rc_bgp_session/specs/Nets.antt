@@ -1,5 +1,5 @@
 -- Small networks for worked cases.
-use Rattle.std.specs.Prelude.{ℕ, ◌+◌, ◌*◌, true, false, List, [], ◌∷◌, Some, None, codes}
+use Rattle.std.specs.Prelude.{ℕ, ◌+◌, ◌*◌, true, false, List, [], ◌∷◌, map, Some, None, codes}
 use Rattle.rc_base.specs.Prefix.{Cidr, prefix_at}
 use Rattle.rc_base.specs.declared.origin.Origin.TheVariants.{Igp}
 use Rattle.rc_config.specs.Bgp.{no_lines, no_settings}
@@ -10,6 +10,7 @@ use Rattle.rc_config.specs.declared.bgp.Neighbor.{Neighbor}
 use Rattle.rc_config.specs.declared.interface.Interface.{Interface}
 use Rattle.rc_config.specs.declared.network.Network.{Network}
 use Rattle.rc_config.specs.declared.router_text.RouterText.{RouterText}
+use Rattle.rc_route.specs.Best.{alone}
 use Rattle.rc_route.specs.declared.path.BgpPath.{BgpPath}
 use Rattle.rc_route.specs.declared.path.PathSource.{PathSource}
 use Rattle.rc_route.specs.declared.route.Hop.TheVariants.{Dev, Via}
@@ -69,7 +70,7 @@ abbrev pub static : Cidr → ℕ → Route
 static p g = record { prefix = p; source = Static; distance = 1; metric = 0; hops = Via g None ∷ [] }
 
 abbrev pub knows : List Route → List BgpPath → RouterState
-knows table paths = record { table = table; paths = paths }
+knows table paths = record { table = table; paths = map alone paths }
 
 -- 10.0.9.0/24 as it is originated at router r
 abbrev pub ninth : ℕ → PathSource → BgpPath

@@ -3,5 +3,4 @@ pub mod WayLaws
 pub mod RowLaws
 pub mod OrderLaws
 pub mod RangeLaws
-pub mod BisectLaws
 pub mod PlaceLaws

@@ -11,13 +11,14 @@ use Rattle.rc_base.specs.Prefix.{Cidr, prefix_cmp}
 use Rattle.rc_base.proofs.OrderedLaws.{in_order-sorted, prefix_cmp_total}
 use Rattle.rc_ospf.specs.BoundaryPaths.{BoundaryPath}
 use Rattle.rc_route.specs.Tables.{IsTable}
+use Rattle.rc_route.specs.Ways.{Way}
 use Rattle.rc_route.specs.declared.route.Route.{Route}
 use Rattle.rc_external.specs.AsExternal.{AsExternal}
 use Rattle.rc_external.specs.Externals.{IsByPrefix, by_prefix, prefix_of, row_for, sent_for}
 use Rattle.rc_external.specs.Routes.{route_over, route_to, routes_over}
 use Rattle.rc_external.specs.Ways.{best_external_way}
 use Rattle.rc_external.specs.declared.as_external.ExternalRow.{ExternalRow}
-use Rattle.rc_external.specs.declared.way.ExternalWay.{ExternalWay}
+use Rattle.rc_external.specs.declared.cost.ExternalCost.{ExternalCost}
 
 -- what gives something for a thing gives one of its prefix
 module _ {A B : Type 0} (of_a : A → Cidr) (of_b : B → Cidr) (f : A → Option B) (keeps : (x : A) (y : B) → f x ≡ Some y → of_b y ≡ of_a x) where
@@ -62,7 +63,7 @@ rows_in_order (Err x) sent e = e
 
 -- ---- routes
 
-route_prefix : (p : Cidr) (best : Option ExternalWay) (route : Route) → option_map (route_over p) best ≡ Some route → route.prefix ≡ p
+route_prefix : (p : Cidr) (best : Option (Way ExternalCost)) (route : Route) → option_map (route_over p) best ≡ Some route → route.prefix ≡ p
 route_prefix p None route e = absurd (none-some route e)
 route_prefix p (Some w) route e = ap (λ (r : Route). r.prefix) (sym (same_Some (route_over p w) route e))
 

@@ -1,13 +1,14 @@
 -- What is sent put under its prefix, and ways taken one after another, as the code does it.
-use Rattle.std.specs.Prelude.{if◌then◌else◌, List, [], ◌∷◌, ◌++◌, Option, Some, None}
+use Rattle.std.specs.Prelude.{List, [], ◌∷◌, ◌++◌, Option, Some, None}
 use Rattle.std.specs.Option.{option_map_or}
-use Rattle.std.specs.Ordering.{match_ordering}
 use Rattle.rc_base.specs.Prefix.{Cidr}
+use Rattle.rc_route.specs.Ways.{Way, with_way}
 use Rattle.rc_ospf.specs.BoundaryPaths.{BoundaryPath}
 use Rattle.rc_external.specs.AsExternal.{AsExternal}
 use Rattle.rc_external.specs.Costs.{cost_cmp}
 use Rattle.rc_external.specs.Ways.{external_way_to}
 use Rattle.rc_external.specs.declared.as_external.ExternalRow.{ExternalRow}
+use Rattle.rc_external.specs.declared.cost.ExternalCost.{ExternalCost}
 use Rattle.rc_external.specs.declared.way.ExternalWay.{ExternalWay}
 
 abbrev pub with_external : Option (List AsExternal) → AsExternal → List AsExternal
@@ -17,10 +18,10 @@ with_external (Some sent) e = sent ++ e ∷ []
 abbrev pub row_of : Cidr × List AsExternal → ExternalRow
 row_of row = record { prefix = row.0; externals = row.1 }
 
--- the better of two ways, or both
-abbrev pub with_way : Option ExternalWay → ExternalWay → ExternalWay
-with_way None w = w
-with_way (Some v) w = match_ordering (cost_cmp w.cost v.cost) w (record { cost = v.cost; hops = v.hops ++ w.hops }) v
+-- a way as it is kept
+abbrev pub as_way : ExternalWay → Way ExternalCost
+as_way w = record { cost = w.cost; hops = w.hops }
 
-abbrev pub then_way : List BoundaryPath → Option ExternalWay → AsExternal → Option ExternalWay
-then_way paths best e = option_map_or (λ w. Some (with_way best w)) (external_way_to paths e) best
+-- the best way so far, and one to what else is sent, where a path leads to its router
+abbrev pub then_to : List BoundaryPath → Option (Way ExternalCost) → AsExternal → Option (Way ExternalCost)
+then_to paths best e = option_map_or (λ w. Some (with_way cost_cmp best w)) (external_way_to paths e) best

@@ -1,6 +1,6 @@
 -- What a way to a prefix outside of the AS costs (RFC 2328 s.2.3 and 16.4).
-use Rattle.std.specs.Prelude.{ℕ, ◌+◌, Bool, if◌then◌else◌, List, [], ◌∷◌}
-use Rattle.std.specs.Ordering.{nat_cmp, eq_by_cmp, is_lt}
+use Rattle.std.specs.Prelude.{ℕ, ◌+◌, List, [], ◌∷◌}
+use Rattle.std.specs.Ordering.{nat_cmp}
 use Rattle.std.specs.Cmp.Lexicographic.{slice_cmp}
 use Rattle.std.specs.declared.cmp.Ordering.{Ordering}
 use Rattle.rc_config.specs.Sets.{metric_type_number}
@@ -24,10 +24,3 @@ cost_key c = metric_type_number c.metric_type ∷ c.metric ∷ c.distance ∷ []
 -- external costs: any of type 1 before any of type 2, then by metric, then by distance
 abbrev pub cost_cmp : ExternalCost → ExternalCost → Ordering
 cost_cmp b c = slice_cmp nat_cmp (cost_key b) (cost_key c)
-
-abbrev pub same_cost : ExternalCost → ExternalCost → Bool
-same_cost = eq_by_cmp cost_cmp
-
--- the lower of two costs
-abbrev pub lower : ExternalCost → ExternalCost → ExternalCost
-lower b c = if is_lt (cost_cmp c b) then c else b

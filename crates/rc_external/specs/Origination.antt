@@ -2,7 +2,7 @@
 use Rattle.std.specs.Prelude.{ℕ, ◌==◌, Bool, true, false, not, ◌&&◌, ◌||◌, List, [], ◌++◌, Option, Some, None, if◌then◌else◌, option_and_then, option_map, unwrap_or, slice_get}
 use Rattle.std.specs.List.{filter_map, find, flat_map}
 use Rattle.std.specs.Option.{option_map_or, option_to_list}
-use Rattle.rc_base.specs.Prefix.{Cidr, same_prefix, default_prefix, is_default}
+use Rattle.rc_base.specs.Prefix.{Cidr, default_prefix, is_default}
 use Rattle.rc_base.specs.declared.origin.Origin.TheVariants.{Incomplete}
 use Rattle.rc_config.specs.Classes.{natural_length}
 use Rattle.rc_config.specs.Members.{router_at, router_ids}
@@ -18,6 +18,8 @@ use Rattle.rc_config.specs.declared.sets.MetricType.{MetricType}
 use Rattle.rc_config.specs.declared.sets.MetricType.TheVariants.{Type2}
 use Rattle.rc_policy.specs.Policy.{mapped}
 use Rattle.rc_policy.specs.declared.attrs.Attrs.{Attrs}
+use Rattle.rc_route.specs.Tables.{best_path_for}
+use Rattle.rc_route.specs.declared.best.Best.{Best}
 use Rattle.rc_route.specs.declared.path.BgpPath.{BgpPath}
 use Rattle.rc_route.specs.declared.route.Route.{Route}
 use Rattle.rc_route.specs.declared.route.Source.{Source}
@@ -62,8 +64,8 @@ abbrev pub type_of : Redistribution → MetricType
 type_of l = unwrap_or l.metric_type Type2
 
 -- the best path to the prefix of a route that it gave
-abbrev pub path_for : Source → Cidr → List BgpPath → Option BgpPath
-path_for Ebgp p paths = find (λ (b : BgpPath). same_prefix p b.prefix) paths
+abbrev pub path_for : Source → Cidr → List Best → Option BgpPath
+path_for Ebgp p paths = best_path_for paths p
 path_for _ p paths = None
 
 -- What the route map of a line sees of a route: the metric and the type that it would be sent with, and the other attributes of its best
@@ -80,18 +82,18 @@ attrs_with l p path = record {
   communities = option_map_or (λ (b : BgpPath). b.communities) path [];
 }
 
-abbrev pub attrs_of : List BgpPath → Redistribution → Route → Attrs
+abbrev pub attrs_of : List Best → Redistribution → Route → Attrs
 attrs_of paths l x = attrs_with l x.prefix (path_for x.source x.prefix paths)
 
 -- what router r sends of a route with these attributes
 abbrev pub external_of : ℕ → Cidr → Attrs → AsExternal
 external_of r p a = record { boundary = r; prefix = p; metric = sent_metric a.metric; metric_type = a.metric_type }
 
-abbrev pub redistributed_by : ℕ → RouterText → List BgpPath → Route → Redistribution → Option AsExternal
+abbrev pub redistributed_by : ℕ → RouterText → List Best → Route → Redistribution → Option AsExternal
 redistributed_by r file paths x l = if passes l x.prefix then option_map (external_of r x.prefix) (mapped file l.route_map (attrs_of paths l x)) else None
 
 -- what it sends of a route of its table, beside its best paths
-abbrev pub redistributed : ℕ → RouterText → OspfProcess → List BgpPath → Route → Option AsExternal
+abbrev pub redistributed : ℕ → RouterText → OspfProcess → List Best → Route → Option AsExternal
 redistributed r file p paths x = option_and_then (redistributed_by r file paths x) (line_for file p x.source)
 
 abbrev pub is_ospf : Source → Bool

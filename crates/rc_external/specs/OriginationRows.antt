@@ -1,5 +1,5 @@
 -- Worked cases of what AS boundary routers send, each by computation.
-use Rattle.std.specs.Prelude.{◌≡◌, ℕ, ◌+◌, ◌*◌, Bool, true, false, List, [], ◌∷◌, ◌++◌, Option, Some, None, codes, refl}
+use Rattle.std.specs.Prelude.{◌≡◌, ℕ, ◌+◌, ◌*◌, Bool, true, false, List, [], ◌∷◌, map, ◌++◌, Option, Some, None, codes, refl}
 use Rattle.std.specs.List.{fold}
 use Rattle.rc_base.specs.Prefix.{Cidr}
 use Rattle.rc_config.specs.Update.{after, empty}
@@ -21,6 +21,7 @@ use Rattle.rc_config.specs.declared.router_text.RouterText.{RouterText}
 use Rattle.rc_config.specs.declared.sets.MetricType.{MetricType}
 use Rattle.rc_config.specs.declared.sets.MetricType.TheVariants.{Type1, Type2}
 use Rattle.rc_base.specs.declared.origin.Origin.TheVariants.{Igp}
+use Rattle.rc_route.specs.Best.{alone}
 use Rattle.rc_route.specs.declared.path.BgpPath.{BgpPath}
 use Rattle.rc_route.specs.declared.path.PathSource.TheVariants.{External}
 use Rattle.rc_route.specs.declared.route.Hop.TheVariants.{Null}
@@ -219,7 +220,7 @@ abbrev through_map : Redistribution → Redistribution
 through_map l = record l { route_map = Some (record { name = codes "M"; line = 9 }) }
 
 abbrev sends_with : RouterText → List Route → List BgpPath → List AsExternal
-sends_with file table paths = sent_by_file 3 file (record { table = table; paths = paths })
+sends_with file table paths = sent_by_file 3 file (record { table = table; paths = map alone paths })
 
 pub communities_seen : sends_with (speaker 65001 (through_map of_bgp) (tagged Permit)) (route Ebgp office ∷ []) (path (prefix 10 0 9 24) [] ∷ path office (7 ∷ []) ∷ []) ≡ sent office 5 Type2 ∷ []
 communities_seen = refl

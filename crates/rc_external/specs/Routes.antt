@@ -9,18 +9,19 @@ use Rattle.rc_config.specs.declared.sets.MetricType.TheVariants.{Type1, Type2}
 use Rattle.rc_ospf.specs.BoundaryPaths.{BoundaryPath}
 use Rattle.rc_ospf.specs.declared.model.Internal.{Internal}
 use Rattle.rc_route.specs.Hops.{hop_cmp}
+use Rattle.rc_route.specs.Ways.{Way}
 use Rattle.rc_route.specs.declared.route.Route.{Route}
 use Rattle.rc_route.specs.declared.route.Source.{Source}
 use Rattle.rc_route.specs.declared.route.Source.TheVariants.{OspfE1, OspfE2}
 use Rattle.rc_external.specs.Ways.{best_external_way}
 use Rattle.rc_external.specs.declared.as_external.ExternalRow.{ExternalRow}
-use Rattle.rc_external.specs.declared.way.ExternalWay.{ExternalWay}
+use Rattle.rc_external.specs.declared.cost.ExternalCost.{ExternalCost}
 
 abbrev pub source_by_type : MetricType → Source
 source_by_type Type1 = OspfE1
 source_by_type Type2 = OspfE2
 
-abbrev pub route_over : Cidr → ExternalWay → Route
+abbrev pub route_over : Cidr → Way ExternalCost → Route
 route_over p w = record { prefix = p; source = source_by_type w.cost.metric_type; distance = 110; metric = w.cost.metric; hops = in_order hop_cmp w.hops }
 
 abbrev pub route_to : List BoundaryPath → ExternalRow → Option Route

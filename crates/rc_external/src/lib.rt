@@ -19,4 +19,3 @@ pub use as_external::{External, ExternalRow, Externals};
 pub use cost::{ExternalCost, compare_costs};
 pub use routes::external;
 pub use sending::externals;
-pub use way::ExternalWay;

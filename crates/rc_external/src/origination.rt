@@ -1,10 +1,10 @@
 //! What an AS boundary router sends of a route of its table (RFC 2328 s.12.4.4).
-ghost use Rattle.std.specs.Prelude.{◌≡◌, ◌≤◌, Some, None, IfOk, IfErr, option_map, slice_get};
+ghost use Rattle.std.specs.Prelude.{◌≡◌, ◌≤◌, Some, None, IfOk, option_map};
 ghost use Rattle.std.specs.List.{find};
 ghost use Rattle.std.specs.Option.{option_copied};
-ghost use Rattle.rc_base.specs.Prefix.{is_default, same_prefix};
+ghost use Rattle.rc_base.specs.Prefix.{is_default};
 ghost use Rattle.rc_policy.specs.Policy.{mapped};
-ghost use Rattle.rc_route.specs.Tables.{IsPathList};
+ghost use Rattle.rc_route.specs.Tables.{IsBestList};
 ghost use Rattle.rc_external.specs.AsExternal.{sent_metric};
 ghost use Rattle.rc_external.specs.Origination as spec;
 
@@ -16,7 +16,7 @@ use rc_config::{
     RouterText, natural_len,
 };
 use rc_policy::{Attrs, apply};
-use rc_route::{BgpPath, Route, Source, Table};
+use rc_route::{Best, BgpPath, Route, Source, Table, best_path_for};
 use std::alloc::{AllocError, Global};
 
 /// The greatest metric that is sent: LSInfinity (RFC 2328 appendix B) less one.
@@ -103,33 +103,13 @@ fn type_of(line: &Redistribution) -> MetricType
     line.metric_type.unwrap_or(MetricType::Type2)
 }
 
-/// The place of the best path to a prefix by bisection, or that where it would stand.
-fn place_of(prefix: &Prefix, paths: &[BgpPath]) -> Result<usize, usize>
-    requires { IsPathList paths.now }
-    ensures found { IfOk result (λ place. slice_get paths.now place ≡ find (λ b. same_prefix prefix.now b.prefix) paths.now) }
-    ensures absent { IfErr result (λ place. None ≡ find (λ b. same_prefix prefix.now b.prefix) paths.now) }
-{
-    paths.binary_search_by_key(prefix, |path| path.prefix)
-}
-
-/// The best path to a prefix.
-fn path_to<'a>(prefix: &Prefix, paths: &'a [BgpPath]) -> Option<&'a BgpPath>
-    requires { IsPathList paths.now }
-    ensures { option_copied result ≡ find (λ b. same_prefix prefix.now b.prefix) paths.now }
-{
-    match place_of(prefix, paths) {
-        Ok(place) => paths.get(place),
-        Err(_) => None,
-    }
-}
-
 /// The best path to the prefix of a route that it gave.
-fn path_for<'a>(source: Source, prefix: &Prefix, paths: &'a [BgpPath]) -> Option<&'a BgpPath>
-    requires { IsPathList paths.now }
+fn path_for<'a>(source: Source, prefix: &Prefix, paths: &'a [Best]) -> Option<&'a BgpPath>
+    requires { IsBestList paths.now }
     ensures { option_copied result ≡ spec.path_for source prefix.now paths.now }
 {
     match source {
-        Source::Ebgp => path_to(prefix, paths),
+        Source::Ebgp => best_path_for(paths, prefix),
         _ => None,
     }
 }
@@ -171,8 +151,8 @@ fn attrs_with(
 }
 
 /// What the route map of a line sees of a route.
-fn attrs_of(paths: &[BgpPath], line: &Redistribution, route: &Route) -> Result<Attrs, AllocError>
-    requires { IsPathList paths.now }
+fn attrs_of(paths: &[Best], line: &Redistribution, route: &Route) -> Result<Attrs, AllocError>
+    requires { IsBestList paths.now }
     ensures { IfOk result (λ attrs. attrs ≡ spec.attrs_of paths.now line.now route.now) }
 {
     let path = path_for(route.source, &route.prefix, paths);
@@ -224,11 +204,11 @@ fn redistributed_by(
     alloc: Global,
     router: RouterId,
     file: &RouterText,
-    paths: &[BgpPath],
+    paths: &[Best],
     route: &Route,
     line: &Redistribution,
 ) -> Result<Option<External>, AllocError>
-    requires { IsPathList paths.now }
+    requires { IsBestList paths.now }
     ensures { IfOk result (λ sent. sent ≡ spec.redistributed_by router file.now paths.now route.now line.now) }
 {
     if !passes(line, &route.prefix) {
@@ -254,10 +234,10 @@ pub(crate) fn redistributed(
     router: RouterId,
     file: &RouterText,
     process: &OspfProcess,
-    paths: &[BgpPath],
+    paths: &[Best],
     route: &Route,
 ) -> Result<Option<External>, AllocError>
-    requires { IsPathList paths.now }
+    requires { IsBestList paths.now }
     ensures { IfOk result (λ sent. sent ≡ spec.redistributed router file.now process.now paths.now route.now) }
 {
     let found = line_for(file, process, route.source);

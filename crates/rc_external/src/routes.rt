@@ -1,12 +1,13 @@
 //! The routes of a router to prefixes outside of the AS.
 ghost use Rattle.std.specs.Prelude.{◌≡◌, IfOk};
 ghost use Rattle.rc_route.specs.Tables.{IsTable};
+ghost use Rattle.rc_external.specs.ByPrefix.{as_way};
 ghost use Rattle.rc_external.specs.Externals.{IsByPrefix};
 ghost use Rattle.rc_external.specs.Routes as spec;
 
 use crate::boundary_index::BoundaryIndex;
-use crate::way::best_external_way;
-use crate::{ExternalRow, ExternalWay, Externals};
+use crate::way::{ExternalWay, best_external_way};
+use crate::{ExternalRow, Externals};
 use rc_base::{Items, Prefix, RouterId};
 use rc_config::MetricType;
 use rc_ospf::{Boundary, Internal, hops_in_order};
@@ -24,7 +25,7 @@ fn source_by_type(metric_type: MetricType) -> Source
 
 /// The route over a way.
 fn route_over(alloc: Global, prefix: Prefix, way: &ExternalWay) -> Result<Route, AllocError>
-    ensures { IfOk result (λ route. route ≡ spec.route_over prefix way.now) }
+    ensures { IfOk result (λ route. route ≡ spec.route_over prefix (as_way way.now)) }
 {
     let hops = hops_in_order(alloc, way.hops.as_slice())?;
     Ok(Route {

@@ -2,7 +2,7 @@
 ghost use Rattle.std.specs.Prelude.{◌≡◌, ◌++◌, [], All, IfOk, OnOk, slice_get};
 ghost use Rattle.std.specs.List.{filter_map, flat_map};
 ghost use Rattle.std.specs.Option.{option_and_then, option_copied, option_map_or, option_to_list};
-ghost use Rattle.rc_route.specs.Tables.{IsPathList, IsRouterState};
+ghost use Rattle.rc_route.specs.Tables.{IsBestList, IsRouterState};
 ghost use Rattle.rc_external.specs.Externals.{externals as externals_of, IsByPrefix};
 ghost use Rattle.rc_external.specs.Origination as spec;
 
@@ -11,7 +11,7 @@ use crate::origination::{default_sent, redistributed};
 use crate::{External, Externals};
 use rc_base::{Items, RouterId};
 use rc_config::{DefaultInformation, MetricType, Network, OspfProcess, RouterText};
-use rc_route::{RouterState, State, Table};
+use rc_route::{RouterState, State, Table, known_at};
 use std::alloc::{AllocError, Global};
 
 /// Puts the default route that a router sends at the end.
@@ -43,7 +43,7 @@ fn add_redistributed(
     process: &OspfProcess,
     known: &RouterState,
 ) -> Result<(), AllocError>
-    requires { IsPathList known.now.paths }
+    requires { IsBestList known.now.paths }
     ensures { OnOk result (all.new ≡ all.old ++ filter_map (spec.redistributed router file.now process.now known.now.paths) known.now.table) }
 {
     // For the proof: that of a push wants each enum within the element named in the function.
@@ -66,7 +66,7 @@ fn add_sent(
     process: &OspfProcess,
     known: &RouterState,
 ) -> Result<(), AllocError>
-    requires { IsPathList known.now.paths }
+    requires { IsBestList known.now.paths }
     ensures { OnOk result (all.new ≡ all.old ++ spec.sent_by router file.now known.now process.now) }
 {
     add_default(
@@ -86,20 +86,13 @@ fn add_of_file(
     file: &RouterText,
     known: &RouterState,
 ) -> Result<(), AllocError>
-    requires { IsPathList known.now.paths }
+    requires { IsBestList known.now.paths }
     ensures { OnOk result (all.new ≡ all.old ++ spec.sent_by_file router file.now known.now) }
 {
     match &file.ospf {
         Some(process) => add_sent(alloc, all, router, file, process, known),
         None => Ok(()),
     }
-}
-
-/// What a router knows in a state, or `None` exactly past its end.
-fn known_at(state: &State, router: RouterId) -> Option<&RouterState>
-    ensures { option_copied result ≡ slice_get state.now router }
-{
-    state.as_slice().get(router.index())
 }
 
 /// Puts all that a router with this file sends from a state at the end.

@@ -1,7 +1,10 @@
 //! Ways to a prefix outside of the AS.
 ghost use Rattle.std.specs.Prelude.{◌≡◌, None, IfOk};
 ghost use Rattle.std.specs.List.{fold};
-ghost use Rattle.rc_external.specs.ByPrefix.{then_way, with_way};
+ghost use Rattle.std.specs.Option.{option_map};
+ghost use Rattle.rc_external.specs.ByPrefix.{as_way, then_to};
+ghost use Rattle.rc_external.specs.Costs.{cost_cmp};
+ghost use Rattle.rc_route.specs.Ways.{with_way};
 
 use crate::boundary_index::BoundaryIndex;
 use crate::cost::cost_over;
@@ -12,7 +15,7 @@ use std::alloc::{AllocError, Global};
 use std::cmp::Ordering;
 
 /// A way to a prefix: its cost, and hops in the order in which they were found.
-pub struct ExternalWay {
+pub(crate) struct ExternalWay {
     pub cost: ExternalCost,
     pub hops: Hops,
 }
@@ -26,7 +29,7 @@ impl Drop for ExternalWay {
 
 /// The way over these hops, at a cost.
 fn way_at(alloc: Global, cost: ExternalCost, hops: &Hops) -> Result<ExternalWay, AllocError>
-    ensures { IfOk result (λ way. way ≡ record { cost = cost; hops = hops.now }) }
+    ensures { IfOk result (λ way. as_way way ≡ record { cost = cost; hops = hops.now }) }
 {
     let hops = hops.copy(alloc)?;
     Ok(ExternalWay { cost, hops })
@@ -39,7 +42,7 @@ fn add_way(
     cost: ExternalCost,
     hops: &Hops,
 ) -> Result<ExternalWay, AllocError>
-    ensures { IfOk result (λ way. way ≡ with_way known (record { cost = cost; hops = hops.now })) }
+    ensures { IfOk result (λ way. as_way way ≡ with_way cost_cmp (option_map as_way known) (record { cost = cost; hops = hops.now })) }
 {
     match known {
         None => way_at(alloc, cost, hops),
@@ -60,7 +63,7 @@ pub(crate) fn best_external_way(
     paths: &BoundaryIndex<'_>,
     externals: &[External],
 ) -> Result<Option<ExternalWay>, AllocError>
-    ensures { IfOk result (λ best. best ≡ fold (then_way paths.now) None externals.now) }
+    ensures { IfOk result (λ best. option_map as_way best ≡ fold (then_to paths.now) None externals.now) }
 {
     let mut best = None;
     for external in externals {

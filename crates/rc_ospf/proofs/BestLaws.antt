@@ -1,51 +1,43 @@
 -- The best of the ways to offers, taken one after another.
-use Rattle.std.proofs.Common.{refl, ◌≡◌, ap, sym, ◌∙◌, subst, ℕ, ◌+◌, ◌<◌, ◌≤◌, min, ◌==◌, Bool, true, false, cond, List, [], ◌∷◌, ◌++◌, length, get_or, filter, Option, Some, None, MatchOption, nat_lt, arith, append_assoc}
+use Rattle.std.proofs.Common.{refl, ◌≡◌, ap, sym, ◌∙◌, subst, ℕ, ◌+◌, ◌<◌, ◌≤◌, min, ◌==◌, Bool, true, false, cond, List, [], ◌∷◌, ◌++◌, length, get_or, Option, Some, None, MatchOption, nat_lt, arith, append_assoc}
 use Rattle.std.specs.Prelude.{IfSome}
-use Rattle.std.specs.List.{fold, cons_option, flat_map}
+use Rattle.std.specs.List.{cons_option}
 use Rattle.std.specs.List.Sorted.{IsStrictlySortedBy}
 use Rattle.std.specs.Option.{option_map, option_map_or}
+use Rattle.std.specs.Ordering.{nat_cmp}
 use Rattle.std.proofs.lemmas.Bool.Decides.{nat_tests}
 use Rattle.std.proofs.lemmas.Grind.{common_steps}
 use Rattle.std.proofs.lemmas.List.{append-nil, length-append, get_or_at}
 use Rattle.rc_base.specs.Lists.{in_order}
 use Rattle.rc_route.specs.Hops.{hop_cmp}
+use Rattle.rc_route.specs.Ways.{Way, lower, least_cost, hops_at, best_of}
 use Rattle.rc_route.specs.declared.route.Hop.{Hop}
+use Rattle.rc_route.proofs.WayLaws as way_laws
 use Rattle.rc_ospf.specs.BestOffers.{better_of, better, best_from, HasBest}
 use Rattle.rc_ospf.specs.ByPrefix.{path_for, way_for, ways_of, cost_to, hops_for}
 use Rattle.rc_ospf.specs.Offered.{Offered}
 use Rattle.rc_ospf.specs.Walks.{LeastWalks, Reach}
-use Rattle.rc_ospf.specs.Ways.{Way, way_over, least_cost, hops_at, best_of, cost_of}
+use Rattle.rc_ospf.specs.Ways.{way_over, cost_of}
 use Rattle.rc_ospf.specs.declared.best.Best.{Best}
 use Rattle.rc_ospf.proofs.HopLaws as hop_laws
 use Rattle.rc_ospf.proofs.WayLaws.{best_by_cost}
 
 -- ---- one way more
 
-fold_more : (k : ℕ) (ws : List Way) (w : Way) → fold (λ c (x : Way). min c x.cost) k (ws ++ w ∷ []) ≡ min (fold (λ c (x : Way). min c x.cost) k ws) w.cost
-fold_more k [] w = refl
-fold_more k (x ∷ ws) w = fold_more (min k x.cost) ws w
-
-cost_more : (k : ℕ) (ws : List Way) (w : Way) → cost_of (best_of ws) ≡ Some k → cost_of (best_of (ws ++ w ∷ [])) ≡ Some (min k w.cost)
+cost_more : (k : ℕ) (ws : List (Way ℕ)) (w : Way ℕ) → cost_of (best_of nat_cmp ws) ≡ Some k → cost_of (best_of nat_cmp (ws ++ w ∷ [])) ≡ Some (min k w.cost)
 cost_more k [] w is = absurd (cc)
-cost_more k (v ∷ ws) w is = let least : least_cost v ws ≡ k = cc in ap Some (fold_more v.cost ws w ∙ ap (λ n. min n w.cost) least)
+cost_more k (v ∷ ws) w is =
+    let least : least_cost nat_cmp v ws ≡ k = cc in
+    ap Some (way_laws.least_more nat_cmp v ws w ∙ ap (λ n. lower nat_cmp n w.cost) least ∙ way_laws.lower_number k w.cost)
 
-hops_more : (k : ℕ) (ws : List Way) (w : Way) → hops_at k (ws ++ w ∷ []) ≡ hops_at k ws ++ cond (w.cost == k) w.hops []
-hops_more k [] w = by (w.cost == k)
-  where
-    by : (b : Bool) → flat_map (λ (x : Way). x.hops) (cond b (w ∷ []) []) ≡ cond b w.hops []
-    by true = append-nil w.hops
-    by false = refl
-hops_more k (v ∷ ws) w = by (v.cost == k) (hops_more k ws w)
-  where
-    by : (b : Bool) → hops_at k (ws ++ w ∷ []) ≡ hops_at k ws ++ cond (w.cost == k) w.hops []
-        → flat_map (λ (x : Way). x.hops) (cond b (v ∷ filter (λ (x : Way). x.cost == k) (ws ++ w ∷ [])) (filter (λ (x : Way). x.cost == k) (ws ++ w ∷ [])))
-        ≡ flat_map (λ (x : Way). x.hops) (cond b (v ∷ filter (λ (x : Way). x.cost == k) ws) (filter (λ (x : Way). x.cost == k) ws)) ++ cond (w.cost == k) w.hops []
-    by true rest = ap (λ hs. v.hops ++ hs) rest ∙ sym (append_assoc v.hops (hops_at k ws) (cond (w.cost == k) w.hops []))
-    by false rest = rest
+hops_more : (k : ℕ) (ws : List (Way ℕ)) (w : Way ℕ) → hops_at nat_cmp k (ws ++ w ∷ []) ≡ hops_at nat_cmp k ws ++ cond (w.cost == k) w.hops []
+hops_more k ws w =
+    way_laws.hops_more nat_cmp k ws (w ∷ [])
+    ∙ ap (λ hs. hops_at nat_cmp k ws ++ hs) (way_laws.hops_of_one nat_cmp k w ∙ ap (λ b. cond b w.hops []) (way_laws.same_number k w.cost))
 
 -- at another cost it adds nothing
-hops_stay : (k : ℕ) (ws : List Way) (w : Way) → (w.cost == k) ≡ false → hops_at k (ws ++ w ∷ []) ≡ hops_at k ws
-hops_stay k ws w other = hops_more k ws w ∙ ap (λ b. hops_at k ws ++ cond b w.hops []) other ∙ append-nil (hops_at k ws)
+hops_stay : (k : ℕ) (ws : List (Way ℕ)) (w : Way ℕ) → (w.cost == k) ≡ false → hops_at nat_cmp k (ws ++ w ∷ []) ≡ hops_at nat_cmp k ws
+hops_stay k ws w other = hops_more k ws w ∙ ap (λ b. hops_at nat_cmp k ws ++ cond b w.hops []) other ∙ append-nil (hops_at nat_cmp k ws)
 
 above : (m n : ℕ) → n < m → (m == n) ≡ false
 above m n less = grind (arith, common_steps, nat_tests, less)
@@ -68,23 +60,23 @@ equal_if m n is = grind (arith, common_steps, nat_tests, is)
 -- ---- what is known of the ways to some first offers
 
 -- the least of their costs, that no way costs less, and the hops where one way is alone at it
-record IsSoFar (reach : Reach) (others : Bool) (r : ℕ) (all : List Offered) (ws : List Way) (b : Best) : Type 0 where
-  cost : cost_of (best_of ws) ≡ Some b.cost
-  none_less : (k : ℕ) → k < b.cost → hops_at k ws ≡ []
+record IsSoFar (reach : Reach) (others : Bool) (r : ℕ) (all : List Offered) (ws : List (Way ℕ)) (b : Best) : Type 0 where
+  cost : cost_of (best_of nat_cmp ws) ≡ Some b.cost
+  none_less : (k : ℕ) → k < b.cost → hops_at nat_cmp k ws ≡ []
   within : b.at < length all
-  alone : b.is_alone ≡ true → (d : Offered) → hops_at b.cost ws ≡ hops_for reach others r b.cost (get_or all b.at d)
+  alone : b.is_alone ≡ true → (d : Offered) → hops_at nat_cmp b.cost ws ≡ hops_for reach others r b.cost (get_or all b.at d)
 
-abbrev Known : Reach → Bool → ℕ → List Offered → List Way → Option Best → Type 0
+abbrev Known : Reach → Bool → ℕ → List Offered → List (Way ℕ) → Option Best → Type 0
 Known reach others r all ws best = MatchOption best (ws ≡ []) (IsSoFar reach others r all ws)
 
 module _ (reach : Reach) (others : Bool) (r : ℕ) (all : List Offered) where
   -- one more, to the offer at a place
-  module _ (ws : List Way) (o : Offered) (e : LeastWalks) (i : ℕ) (lt : i < length all) (here : (d : Offered) → get_or all i d ≡ o) (found : path_for reach others r o ≡ Some e) where
+  module _ (ws : List (Way ℕ)) (o : Offered) (e : LeastWalks) (i : ℕ) (lt : i < length all) (here : (d : Offered) → get_or all i d ≡ o) (found : path_for reach others r o ≡ Some e) where
     hops_here : (k : ℕ) (d : Offered) → hops_for reach others r k (get_or all i d) ≡ cond (e.cost + o.cost == k) e.hops []
     hops_here k d = ap (hops_for reach others r k) (here d) ∙ ap (λ p. option_map_or (λ (x : LeastWalks). cond (x.cost + o.cost == k) x.hops []) p []) found
 
     -- it costs less than all before
-    least : cost_of (best_of (ws ++ way_over (e.cost + o.cost) e ∷ [])) ≡ Some (e.cost + o.cost) → ((k : ℕ) → k ≤ e.cost + o.cost → hops_at k ws ≡ [])
+    least : cost_of (best_of nat_cmp (ws ++ way_over (e.cost + o.cost) e ∷ [])) ≡ Some (e.cost + o.cost) → ((k : ℕ) → k ≤ e.cost + o.cost → hops_at nat_cmp k ws ≡ [])
         → IsSoFar reach others r all (ws ++ way_over (e.cost + o.cost) e ∷ []) (record { cost = e.cost + o.cost; at = i; is_alone = true })
     least cost none = record {
       cost = cost;
@@ -95,10 +87,10 @@ module _ (reach : Reach) (others : Bool) (r : ℕ) (all : List Offered) where
     }
 
     after_none : ws ≡ [] → IsSoFar reach others r all (ws ++ way_over (e.cost + o.cost) e ∷ []) (record { cost = e.cost + o.cost; at = i; is_alone = true })
-    after_none is = least (ap (λ vs. cost_of (best_of (vs ++ way_over (e.cost + o.cost) e ∷ []))) is) (λ k le. ap (hops_at k) is)
+    after_none is = least (ap (λ vs. cost_of (best_of nat_cmp (vs ++ way_over (e.cost + o.cost) e ∷ []))) is) (λ k le. ap (hops_at nat_cmp k) is)
 
     module _ (b : Best) (known : IsSoFar reach others r all ws b) where
-      cost_is : (k : ℕ) → min b.cost (e.cost + o.cost) ≡ k → cost_of (best_of (ws ++ way_over (e.cost + o.cost) e ∷ [])) ≡ Some k
+      cost_is : (k : ℕ) → min b.cost (e.cost + o.cost) ≡ k → cost_of (best_of nat_cmp (ws ++ way_over (e.cost + o.cost) e ∷ [])) ≡ Some k
       cost_is k is = cost_more b.cost ws (way_over (e.cost + o.cost) e) known.cost ∙ ap Some is
 
       after_more : e.cost + o.cost < b.cost → IsSoFar reach others r all (ws ++ way_over (e.cost + o.cost) e ∷ []) (record { cost = e.cost + o.cost; at = i; is_alone = true })
@@ -142,7 +134,7 @@ module _ (reach : Reach) (others : Bool) (r : ℕ) (all : List Offered) where
   ways_more [] o = refl
   ways_more (x ∷ front) o = by (way_for reach others r x) (ways_more front o)
     where
-      by : (w : Option Way) → ways_of reach others r (front ++ o ∷ []) ≡ ways_of reach others r front ++ cons_option (way_for reach others r o) []
+      by : (w : Option (Way ℕ)) → ways_of reach others r (front ++ o ∷ []) ≡ ways_of reach others r front ++ cons_option (way_for reach others r o) []
           → cons_option w (ways_of reach others r (front ++ o ∷ [])) ≡ cons_option w (ways_of reach others r front) ++ cons_option (way_for reach others r o) []
       by None rest = rest
       by (Some w) rest = ap (λ ws. w ∷ ws) rest
@@ -171,12 +163,12 @@ module _ (reach : Reach) (others : Bool) (r : ℕ) (all : List Offered) where
 
   -- the best of all
   pub is_best : (best : Option Best) → best ≡ best_from reach others r None 0 all
-      → MatchOption best (best_of (ways_of reach others r all) ≡ None) (λ b. best_of (ways_of reach others r all) ≡ Some (record { cost = b.cost; hops = hops_at b.cost (ways_of reach others r all) }))
+      → MatchOption best (best_of nat_cmp (ways_of reach others r all) ≡ None) (λ b. best_of nat_cmp (ways_of reach others r all) ≡ Some (record { cost = b.cost; hops = hops_at nat_cmp b.cost (ways_of reach others r all) }))
   is_best best is = by best (subst (Known reach others r all (ways_of reach others r all)) (sym is) all_taken)
     where
       by : (o : Option Best) → Known reach others r all (ways_of reach others r all) o
-          → MatchOption o (best_of (ways_of reach others r all) ≡ None) (λ b. best_of (ways_of reach others r all) ≡ Some (record { cost = b.cost; hops = hops_at b.cost (ways_of reach others r all) }))
-      by None known = ap best_of known
+          → MatchOption o (best_of nat_cmp (ways_of reach others r all) ≡ None) (λ b. best_of nat_cmp (ways_of reach others r all) ≡ Some (record { cost = b.cost; hops = hops_at nat_cmp b.cost (ways_of reach others r all) }))
+      by None known = ap (best_of nat_cmp) known
       by (Some b) known = best_by_cost (ways_of reach others r all) (Some b.cost) (sym known.cost)
 
   pub has_best : (best : Option Best) → best ≡ best_from reach others r None 0 all → IfSome best (HasBest reach others r all)

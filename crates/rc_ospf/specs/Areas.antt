@@ -6,10 +6,11 @@ use Rattle.std.specs.Prelude.{◌≡◌, ℕ, suc, ◌+◌, ◌==◌, nat_lt, Bo
 use Rattle.std.specs.List.{filter_map, flat_map, list_any, cons_option}
 use Rattle.std.specs.Option.{option_map, option_map_or}
 use Rattle.rc_config.specs.declared.network.Network.{Network}
+use Rattle.rc_route.specs.Ways.{Way}
 use Rattle.rc_ospf.specs.Offered.{Offered}
 use Rattle.rc_ospf.specs.RouterAreas.{router_areas, is_in, is_outside, is_border, open_areas}
 use Rattle.rc_ospf.specs.Walks.{LeastWalks, Reach, IsReach}
-use Rattle.rc_ospf.specs.Ways.{Way, best_way, cost_of}
+use Rattle.rc_ospf.specs.Ways.{best_way, cost_of}
 use Rattle.rc_ospf.specs.declared.adjacency.Step.{Step}
 use Rattle.rc_ospf.specs.declared.router_area.RouterArea.{RouterArea}
 use Rattle.rc_ospf.specs.declared.summaries.Summaries.{Summaries}
@@ -69,7 +70,7 @@ backbone_summaries routers inside = filter_map (backbone_offer inside) routers
 abbrev pub of_others : ℕ → List Offered → List Offered
 of_others r offers = filter (λ o. not (is_own r o)) offers
 
-abbrev pub inter_in_backbone : OspfRouter → List Offered → Option Way
+abbrev pub inter_in_backbone : OspfRouter → List Offered → Option (Way ℕ)
 inter_in_backbone m backbone = best_way m.reach (of_others m.router backbone)
 
 -- what it has between areas counts where it has nothing inside areas
@@ -120,5 +121,5 @@ summaries_of routers is_default inside =
 
 -- The way between areas: in the backbone as above, so that a border router uses summaries of the backbone only. Outside of it to a border
 -- router of one of the router's areas, and on at its summary into that area.
-abbrev pub inter : OspfRouter → Summaries → Option Way
+abbrev pub inter : OspfRouter → Summaries → Option (Way ℕ)
 inter m s = if is_in 0 m.areas then inter_in_backbone m s.backbone else best_way m.reach s.outward

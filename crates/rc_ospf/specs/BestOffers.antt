@@ -1,9 +1,10 @@
 -- The best of the ways to offers, taken one after another, as the code does it.
 use Rattle.std.specs.Prelude.{◌≡◌, ℕ, ◌+◌, ◌<◌, ◌==◌, nat_lt, Bool, true, false, if◌then◌else◌, List, [], ◌∷◌, length, slice_index_or, Option, Some, None}
+use Rattle.std.specs.Ordering.{nat_cmp}
+use Rattle.rc_route.specs.Ways.{hops_at}
 use Rattle.rc_ospf.specs.ByPrefix.{ways_of, cost_to, hops_for}
 use Rattle.rc_ospf.specs.Offered.{Offered}
 use Rattle.rc_ospf.specs.Walks.{Reach}
-use Rattle.rc_ospf.specs.Ways.{hops_at}
 use Rattle.rc_ospf.specs.declared.best.Best.{Best}
 
 -- a way that is known and one at this cost to the offer at a later place
@@ -26,4 +27,4 @@ best_from reach others r best at (o ∷ os) = best_from reach others r (better (
 -- where no other way costs as much, the offer at the place has the hops of all that do
 pub record HasBest (reach : Reach) (others : Bool) (r : ℕ) (offers : List Offered) (b : Best) : Type 0 where
   pub within : b.at < length offers
-  pub alone : b.is_alone ≡ true → (d : Offered) → hops_at b.cost (ways_of reach others r offers) ≡ hops_for reach others r b.cost (slice_index_or offers b.at d)
+  pub alone : b.is_alone ≡ true → (d : Offered) → hops_at nat_cmp b.cost (ways_of reach others r offers) ≡ hops_for reach others r b.cost (slice_index_or offers b.at d)

@@ -9,11 +9,12 @@ use Rattle.rc_config.specs.declared.ospf.OspfProcess.{OspfProcess}
 use Rattle.rc_config.specs.declared.ospf.Redistribution.{Redistribution}
 use Rattle.rc_config.specs.declared.router_text.RouterText.{RouterText}
 use Rattle.rc_route.specs.Hops.{hop_cmp}
+use Rattle.rc_route.specs.Ways.{Way}
 use Rattle.rc_ospf.specs.BoundaryPaths.{BoundaryPath}
 use Rattle.rc_ospf.specs.Areas.{OspfRouter, without_stubs, offer, summaries_of, inter}
 use Rattle.rc_ospf.specs.Offered.{Offered}
 use Rattle.rc_ospf.specs.RouterAreas.{router_areas, open_areas}
-use Rattle.rc_ospf.specs.Ways.{Way, best_way}
+use Rattle.rc_ospf.specs.Ways.{best_way}
 use Rattle.rc_ospf.specs.declared.router_area.RouterArea.{RouterArea}
 use Rattle.rc_ospf.specs.declared.summaries.Summaries.{Summaries}
 
@@ -39,7 +40,7 @@ boundary_routers net = filter (is_boundary net) (router_ids net)
 abbrev pub boundary_offers : Network → ℕ → List Offered
 boundary_offers net s = map (λ (a : RouterArea). offer s a.area 0) (open_areas (router_areas net s))
 
-abbrev pub path_over : ℕ → Way → BoundaryPath
+abbrev pub path_over : ℕ → Way ℕ → BoundaryPath
 path_over s w = record { router = s; cost = w.cost; hops = in_order hop_cmp w.hops }
 
 -- the path of a router to another one: inside an area where there is one, and else between areas

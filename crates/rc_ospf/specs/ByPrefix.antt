@@ -5,11 +5,12 @@ use Rattle.std.specs.Option.{option_map, option_map_or}
 use Rattle.rc_base.specs.Prefix.{Cidr, is_default}
 use Rattle.rc_route.specs.declared.route.Hop.{Hop}
 use Rattle.rc_route.specs.declared.route.Route.{Route}
+use Rattle.rc_route.specs.Ways.{Way}
 use Rattle.rc_ospf.specs.Areas.{OspfRouter, is_own, summaries_of}
 use Rattle.rc_ospf.specs.Offered.{Offered}
 use Rattle.rc_ospf.specs.Routes.{route_to}
 use Rattle.rc_ospf.specs.Walks.{LeastWalks, Reach}
-use Rattle.rc_ospf.specs.Ways.{Way, way_over}
+use Rattle.rc_ospf.specs.Ways.{way_over}
 use Rattle.rc_ospf.specs.declared.destination.Destination.{Destination}
 use Rattle.rc_ospf.specs.declared.grouping.Row.{Row}
 use Rattle.rc_ospf.specs.declared.offer.Advert.{Advert}
@@ -26,11 +27,11 @@ row_of e = record { prefix = e.0; offers = e.1 }
 abbrev pub path_for : Reach → Bool → ℕ → Offered → Option LeastWalks
 path_for reach others r o = if others && is_own r o then None else reach o.area o.router
 
-abbrev pub way_for : Reach → Bool → ℕ → Offered → Option Way
+abbrev pub way_for : Reach → Bool → ℕ → Offered → Option (Way ℕ)
 way_for reach others r o = option_map (λ (e : LeastWalks). way_over (e.cost + o.cost) e) (path_for reach others r o)
 
 -- the ways to some offers
-abbrev pub ways_of : Reach → Bool → ℕ → List Offered → List Way
+abbrev pub ways_of : Reach → Bool → ℕ → List Offered → List (Way ℕ)
 ways_of reach others r offers = filter_map (way_for reach others r) offers
 
 abbrev pub cost_to : Reach → Bool → ℕ → Offered → Option ℕ

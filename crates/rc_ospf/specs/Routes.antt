@@ -9,11 +9,12 @@ use Rattle.rc_route.specs.Hops.{hop_cmp}
 use Rattle.rc_route.specs.declared.route.Route.{Route}
 use Rattle.rc_route.specs.declared.route.Source.{Source}
 use Rattle.rc_route.specs.declared.route.Source.TheVariants.{Ospf, OspfIa}
+use Rattle.rc_route.specs.Ways.{Way}
 use Rattle.rc_ospf.specs.Adverts.{adverts_of}
 use Rattle.rc_ospf.specs.Areas.{OspfRouter, is_own, summaries_of, inter}
 use Rattle.rc_ospf_interfaces.specs.Interfaces.{interfaces_at}
 use Rattle.rc_ospf.specs.Offered.{Offered}
-use Rattle.rc_ospf.specs.Ways.{Way, best_way}
+use Rattle.rc_ospf.specs.Ways.{best_way}
 use Rattle.rc_ospf.specs.declared.grouping.Row.{Row}
 use Rattle.rc_ospf.specs.declared.offer.Advert.{Advert}
 use Rattle.rc_ospf.specs.declared.summaries.Summaries.{Summaries}
@@ -44,7 +45,7 @@ starts_with_default (row ∷ rows) = is_default row.prefix
 abbrev pub with_default : List Row → List Row
 with_default rows = if starts_with_default rows then rows else default_row ∷ rows
 
-abbrev pub route_over : Source → Cidr → Way → Route
+abbrev pub route_over : Source → Cidr → Way ℕ → Route
 route_over source p w = record { prefix = p; source = source; distance = 110; metric = w.cost; hops = in_order hop_cmp w.hops }
 
 -- its metric, with one from outside of the AS added (below 2^24), stays below 2^32

@@ -1,13 +1,15 @@
 //! The best of the ways to some offers.
 ghost use Rattle.std.specs.Prelude.{◌≡◌, ◌<◌, ◌^◌, None, Some, IfOk, IfSome, MatchOption};
+ghost use Rattle.std.specs.Ordering.{nat_cmp};
 ghost use Rattle.rc_base.specs.Lists.{in_order};
 ghost use Rattle.rc_ospf.specs.BestOffers as spec;
 ghost use Rattle.rc_ospf.specs.BestOffers.{HasBest};
 ghost use Rattle.rc_ospf.specs.ByPrefix.{hops_for, ways_of};
 ghost use Rattle.rc_ospf.specs.Members.{reach_of};
-ghost use Rattle.rc_ospf.specs.Ways as ways;
-ghost use Rattle.rc_ospf.specs.Ways.{best_of, cost_of};
+ghost use Rattle.rc_ospf.specs.Ways.{cost_of};
 ghost use Rattle.rc_route.specs.Hops.{hop_cmp};
+ghost use Rattle.rc_route.specs.Ways as ways;
+ghost use Rattle.rc_route.specs.Ways.{best_of};
 
 use crate::Offer;
 use crate::member::Member;
@@ -71,7 +73,7 @@ fn better(cost: Option<u32>, best: Option<Best>, at: usize) -> Option<Best>
 
 /// Where the best of the ways of a router to some offers leads; where only offers of others count, of those to these.
 pub(crate) fn best_way(member: &Member, others: bool, offers: &[Offer]) -> Option<Best>
-    ensures best { MatchOption result (best_of (ways_of (reach_of member.now) others member.now.router offers.now) ≡ None) (λ b. best_of (ways_of (reach_of member.now) others member.now.router offers.now) ≡ Some (record { cost = b.cost; hops = ways.hops_at b.cost (ways_of (reach_of member.now) others member.now.router offers.now) })) }
+    ensures best { MatchOption result (best_of nat_cmp (ways_of (reach_of member.now) others member.now.router offers.now) ≡ None) (λ b. best_of nat_cmp (ways_of (reach_of member.now) others member.now.router offers.now) ≡ Some (record { cost = b.cost; hops = ways.hops_at nat_cmp b.cost (ways_of (reach_of member.now) others member.now.router offers.now) })) }
     ensures place { IfSome result (HasBest (reach_of member.now) others member.now.router offers.now) }
     ensures small { IfSome result (λ b. b.cost < 2 ^ 27) }
 {
@@ -84,7 +86,7 @@ pub(crate) fn best_way(member: &Member, others: bool, offers: &[Offer]) -> Optio
 
 /// The cost of the best way of a router to some offer; where only offers of others count, to one of these.
 pub(crate) fn best_cost(member: &Member, others: bool, offers: &[Offer]) -> Option<u32>
-    ensures value { result ≡ cost_of (best_of (ways_of (reach_of member.now) others member.now.router offers.now)) }
+    ensures value { result ≡ cost_of (best_of nat_cmp (ways_of (reach_of member.now) others member.now.router offers.now)) }
     ensures small { IfSome result (λ c. c < 2 ^ 27) }
 {
     let best = best_way(member, others, offers);
@@ -127,7 +129,7 @@ pub(crate) fn best_hops(
     offers: &[Offer],
 ) -> Result<Hops, AllocError>
     requires { HasBest (reach_of member.now) others member.now.router offers.now best }
-    ensures { IfOk result (λ hops. hops ≡ in_order hop_cmp (ways.hops_at best.cost (ways_of (reach_of member.now) others member.now.router offers.now))) }
+    ensures { IfOk result (λ hops. hops ≡ in_order hop_cmp (ways.hops_at nat_cmp best.cost (ways_of (reach_of member.now) others member.now.router offers.now))) }
 {
     if best.is_alone {
         return hops_to(alloc, member, others, best.cost, &offers[best.at]);

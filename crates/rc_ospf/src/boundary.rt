@@ -2,6 +2,7 @@
 ghost use Rattle.std.specs.Prelude.{◌≡◌, IfOk, IfSome, All, map};
 ghost use Rattle.std.specs.List.{filter_map};
 ghost use Rattle.std.specs.Option.{option_map};
+ghost use Rattle.std.specs.Ordering.{nat_cmp};
 ghost use Rattle.rc_ospf.specs.Areas as area;
 ghost use Rattle.rc_ospf.specs.Boundaries as spec;
 ghost use Rattle.rc_ospf.specs.BoundaryPaths.{IsNear};
@@ -9,8 +10,8 @@ ghost use Rattle.rc_ospf.specs.BoundaryForms.{target_of, path_of_target};
 ghost use Rattle.rc_ospf.specs.Members.{reach_of, known};
 ghost use Rattle.rc_ospf.specs.ByPrefix.{ways_of};
 ghost use Rattle.rc_ospf.specs.RouterAreas.{open_areas};
-ghost use Rattle.rc_ospf.specs.Ways.{best_of};
 ghost use Rattle.rc_ospf.specs.declared.member.StubAreas.TheVariants.{LeftOut};
+ghost use Rattle.rc_route.specs.Ways.{best_of};
 
 use crate::best::{best_hops, best_way};
 use crate::member::{Member, StubAreas};
@@ -197,7 +198,7 @@ fn best_path(
     others: bool,
     offers: &[Offer],
 ) -> Result<Option<Boundary>, AllocError>
-    ensures value { IfOk result (λ path. path ≡ option_map (spec.path_over router) (best_of (ways_of (reach_of member.now) others member.now.router offers.now))) }
+    ensures value { IfOk result (λ path. path ≡ option_map (spec.path_over router) (best_of nat_cmp (ways_of (reach_of member.now) others member.now.router offers.now))) }
     ensures near { IfOk result (λ path. IfSome path IsNear) }
 {
     let best = best_way(member, others, offers);

@@ -2,13 +2,14 @@
 ghost use Rattle.std.specs.Prelude.{◌≡◌, IfOk, IfSome, All};
 ghost use Rattle.std.specs.List.{filter_map, list_any};
 ghost use Rattle.std.specs.Option.{option_map};
+ghost use Rattle.std.specs.Ordering.{nat_cmp};
 ghost use Rattle.rc_ospf.specs.Areas.{is_own, inter};
 ghost use Rattle.rc_ospf.specs.ByPrefix.{heard, route_of, ways_of};
 ghost use Rattle.rc_ospf.specs.Members.{reach_of, known};
 ghost use Rattle.rc_ospf.specs.Routes.{route_over, IsShortRoute};
 ghost use Rattle.rc_route.specs.declared.route.Source.TheVariants.{Ospf, OspfIa};
-ghost use Rattle.rc_ospf.specs.Ways.{best_of};
 ghost use Rattle.rc_ospf.specs.declared.member.StubAreas.TheVariants.{Kept};
+ghost use Rattle.rc_route.specs.Ways.{best_of};
 
 use crate::Offer;
 use crate::best::{best_hops, best_way};
@@ -54,7 +55,7 @@ fn best_route(
     offers: &[Offer],
 ) -> Result<Option<Route>, AllocError>
     ensures short { IfOk result (λ route. IfSome route IsShortRoute) }
-    ensures value { IfOk result (λ route. route ≡ option_map (route_over source prefix) (best_of (ways_of (reach_of member.now) others member.now.router offers.now))) }
+    ensures value { IfOk result (λ route. route ≡ option_map (route_over source prefix) (best_of nat_cmp (ways_of (reach_of member.now) others member.now.router offers.now))) }
 {
     let best = best_way(member, others, offers);
     match best {

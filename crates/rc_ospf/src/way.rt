@@ -1,11 +1,12 @@
 //! Ways to what is offered.
 ghost use Rattle.std.specs.Prelude.{◌≡◌, ◌++◌, ◌<◌, ◌^◌, IfOk, OnOk, IfSome};
 ghost use Rattle.std.specs.Option.{option_copied};
+ghost use Rattle.std.specs.Ordering.{nat_cmp};
 ghost use Rattle.rc_base.specs.Lists.{in_order};
 ghost use Rattle.rc_ospf.specs.ByPrefix.{path_for, cost_to, hops_for, ways_of};
 ghost use Rattle.rc_ospf.specs.Members.{reach_of};
-ghost use Rattle.rc_ospf.specs.Ways as spec;
 ghost use Rattle.rc_route.specs.Hops.{hop_cmp};
+ghost use Rattle.rc_route.specs.Ways as spec;
 
 use crate::hops::{add_hops, put_in_order};
 use crate::member::Member;
@@ -67,7 +68,7 @@ pub(crate) fn hops_at(
     cost: u32,
     offers: &[Offer],
 ) -> Result<Hops, AllocError>
-    ensures { IfOk result (λ hops. hops ≡ in_order hop_cmp (spec.hops_at cost (ways_of (reach_of member.now) others member.now.router offers.now))) }
+    ensures { IfOk result (λ hops. hops ≡ in_order hop_cmp (spec.hops_at nat_cmp cost (ways_of (reach_of member.now) others member.now.router offers.now))) }
 {
     let mut hops = Hops::none();
     for offer in offers {

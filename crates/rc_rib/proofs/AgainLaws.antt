@@ -8,7 +8,7 @@ use Rattle.std.proofs.Math.Decide.{dec_lt}
 use Rattle.rc_base.specs.Prefix.{Cidr}
 use Rattle.rc_bgp.specs.Candidates.{all_best, best_paths}
 use Rattle.rc_bgp.specs.Changes.{CoversChange}
-use Rattle.rc_bgp.specs.Known.{path_at, paths_of, table_of}
+use Rattle.rc_bgp.specs.Known.{paths_of, table_of}
 use Rattle.rc_bgp.specs.Own.{own_paths, paths_of_process}
 use Rattle.rc_bgp.specs.Sessions.{configured_sessions, is_up, sessions_of}
 use Rattle.rc_bgp_session.specs.declared.session.Session.{Session}
@@ -17,14 +17,16 @@ use Rattle.rc_config.specs.declared.network.Network.{Network}
 use Rattle.rc_config.specs.declared.router_text.RouterText.{RouterText}
 use Rattle.rc_config.specs.declared.static_route.StaticRoute.{StaticRoute}
 use Rattle.rc_external.specs.AsExternal.{AsExternal}
+use Rattle.rc_external.specs.Costs.{cost_cmp}
 use Rattle.rc_external.specs.Externals.{externals}
 use Rattle.rc_external.specs.Routes.{external_routes, route_over, route_to, routes_over}
-use Rattle.rc_external.specs.Ways.{best_external_of, external_way_to}
+use Rattle.rc_external.specs.Ways.{external_way_to}
 use Rattle.rc_external.specs.declared.as_external.ExternalRow.{ExternalRow}
 use Rattle.rc_fib.specs.Forwarding.{resolved}
 use Rattle.rc_ospf.specs.declared.model.Internal.{Internal}
-use Rattle.rc_route.specs.Tables.{IsRouterState}
-use Rattle.rc_route.specs.declared.path.BgpPath.{BgpPath}
+use Rattle.rc_route.specs.Tables.{IsRouterState, best_for}
+use Rattle.rc_route.specs.Ways.{best_of}
+use Rattle.rc_route.specs.declared.best.Best.{Best}
 use Rattle.rc_route.specs.declared.route.Route.{Route}
 use Rattle.rc_route.specs.declared.state.RouterState.{RouterState}
 use Rattle.rc_rib.specs.Again.{AreUnchanged, IsUnchanged, ReadsNoOthers}
@@ -44,7 +46,7 @@ no_ways [] = refl
 no_ways (e ∷ es) = no_ways es
 
 no_route : (row : ExternalRow) → route_to [] row ≡ None
-no_route row = ap (λ ways. option_map (route_over row.prefix) (best_external_of ways)) (no_ways row.externals)
+no_route row = ap (λ ways. option_map (route_over row.prefix) (best_of cost_cmp ways)) (no_ways row.externals)
 
 nothing_outside : (rows : List ExternalRow) → routes_over [] rows ≡ []
 nothing_outside [] = refl
@@ -93,7 +95,7 @@ module _ (net : Network) (internal : Internal) (all : List (List Session)) (r : 
       by (Some file) e = ap (λ ss. best_paths net ss before r) (sym these)
 
   -- with this file, from its previous table, its best paths and what comes from outside of the AS
-  after : RouterText → List Route → List BgpPath → List Route → RouterState
+  after : RouterText → List Route → List Best → List Route → RouterState
   after file table paths outside = record {
     table = best_routes (connected r file.interfaces ++ (static_routes (active_lines r file.interfaces (resolved table) file.static_routes) ++ (learned_routes paths ++ (routes_of internal r ++ to_others (own_of internal r) outside))));
     paths = paths;
@@ -134,8 +136,8 @@ known_in_order state r s all is =
     subst IsRouterState (get_or_from_slice_get state r s s is) (all r s (slice_get_within state r s is))
 
 -- the same paths say the same
-pub nothing_changed : (state : List RouterState) (r : ℕ) (s : RouterState) (paths : List BgpPath) (changed : List Cidr) → slice_get state r ≡ Some s → paths ≡ s.paths → CoversChange changed (paths_of state r) paths
-nothing_changed state r s paths changed known same = record { elsewhere = λ p none. ap (λ l. path_at l p) (ap (λ o. option_map_or (λ (t : RouterState). t.paths) o []) known ∙ sym same) }
+pub nothing_changed : (state : List RouterState) (r : ℕ) (s : RouterState) (paths : List Best) (changed : List Cidr) → slice_get state r ≡ Some s → paths ≡ s.paths → CoversChange changed (paths_of state r) paths
+nothing_changed state r s paths changed known same = record { elsewhere = λ p none. ap (λ l. best_for l p) (ap (λ o. option_map_or (λ (t : RouterState). t.paths) o []) known ∙ sym same) }
 
 -- ---- where no router changes, the state stays
 

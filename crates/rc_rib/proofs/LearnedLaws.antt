@@ -6,7 +6,7 @@ use Rattle.std.specs.List.{cons_option}
 use Rattle.std.specs.declared.cmp.Ordering.{Ordering}
 use Rattle.std.specs.declared.cmp.Ordering.TheVariants.{Less, Equal, Greater}
 use Rattle.rc_bgp.specs.Learning.{learned_route}
-use Rattle.rc_route.specs.declared.path.BgpPath.{BgpPath}
+use Rattle.rc_route.specs.declared.best.Best.{Best}
 use Rattle.rc_route.specs.declared.route.Route.{Route}
 use Rattle.rc_rib.specs.Best.{better}
 use Rattle.rc_rib.specs.Merging.{merged, which, front_prefix, IsFront, HasMoved, IsPlaced, IsLearned}
@@ -49,18 +49,18 @@ one_placed left made made-now r greater pushed = record {
 pub placed_behind : (left made mid made-mid left-now made-now : List Route) (r : Route) → ((rest : List Route) → made ++ merged left (r ∷ rest) ≡ made-mid ++ merged mid (r ∷ rest)) → IsPlaced mid made-mid r left-now made-now → IsPlaced left made r left-now made-now
 placed_behind left made mid made-mid left-now made-now r before placed = record { same = λ rest. before rest ∙ placed.same rest }
 
-pub none_learned : (left made : List Route) (path : BgpPath) → learned_route path ≡ None → IsLearned left made path left made
+pub none_learned : (left made : List Route) (path : Best) → learned_route path ≡ None → IsLearned left made path left made
 none_learned left made path none = record { same = λ rest. ap (λ o. made ++ merged left (cons_option o (learned_routes rest))) none }
 
-pub one_learned : (left made left-now made-now : List Route) (path : BgpPath) (r : Route) → learned_route path ≡ Some r → IsPlaced left made r left-now made-now → IsLearned left made path left-now made-now
+pub one_learned : (left made left-now made-now : List Route) (path : Best) (r : Route) → learned_route path ≡ Some r → IsPlaced left made r left-now made-now → IsLearned left made path left-now made-now
 one_learned left made left-now made-now path r is placed = record { same = λ rest. ap (λ o. made ++ merged left (cons_option o (learned_routes rest))) is ∙ placed.same (learned_routes rest) }
 
-pub no_path : (paths : List BgpPath) → (length paths == 0) ≡ true → paths ≡ []
+pub no_path : (paths : List Best) → (length paths == 0) ≡ true → paths ≡ []
 no_path [] none = refl
 no_path (path ∷ paths) none = absurd (grind (arith, common_steps, nat_tests))
 
 -- one path more
-pub next_learned : (paths : List BgpPath) (i : ℕ) (path : BgpPath) (left made left-now made-now all : List Route) → i < length paths → path ≡ get_or paths i path → IsLearned left made path left-now made-now
+pub next_learned : (paths : List Best) (i : ℕ) (path : Best) (left made left-now made-now all : List Route) → i < length paths → path ≡ get_or paths i path → IsLearned left made path left-now made-now
     → made ++ merged left (learned_routes (drop i paths)) ≡ all → made-now ++ merged left-now (learned_routes (drop (i + 1) paths)) ≡ all
 next_learned paths i path left made left-now made-now all less is learned kept =
     let first : drop i paths ≡ path ∷ drop (i + 1) paths = drop-cons paths i path less ∙ ap (λ y. y ∷ drop (suc i) paths) (sym is) ∙ ap (λ k. path ∷ drop k paths) (sym (add-one i)) in

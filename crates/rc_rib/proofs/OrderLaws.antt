@@ -3,23 +3,26 @@ use Rattle.std.proofs.Common.{refl, ◌≡◌, ap, sym, ◌∙◌, subst, ℕ, B
 use Rattle.std.specs.List.{AllByRecursion, cons_option, filter_map, find, list_any, slice_get}
 use Rattle.std.specs.List.Sorted.{IsStrictlySortedBy, IsPartitionedBy}
 use Rattle.std.specs.Option.{is_some, option_and_then, option_map, option_map_or, unwrap_or}
-use Rattle.std.specs.declared.cmp.Ordering.TheVariants.{Less}
+use Rattle.std.specs.Ordering.{is_eq, is_lt, ordering_reverse}
+use Rattle.std.specs.declared.cmp.Ordering.{Ordering}
+use Rattle.std.specs.declared.cmp.Ordering.TheVariants.{Less, Equal, Greater}
 use Rattle.std.proofs.lemmas.Option.{none-some, slice_get_within, get_or_from_slice_get}
 use Rattle.rc_base.specs.Lists.{in_order}
 use Rattle.rc_base.specs.Prefix.{Cidr, prefix_cmp, same_prefix}
-use Rattle.rc_base.proofs.OrderedLaws.{in_order-sorted, prefix_cmp_total}
-use Rattle.rc_bgp.proofs.PrefixLaws.{found_first, if_same, made_in_order, parted}
+use Rattle.rc_base.proofs.OrderedLaws.{all-weaker, in_order-sorted, prefix_cmp_total}
+use Rattle.rc_bgp.proofs.PrefixLaws.{made_in_order, none_later, parted}
 use Rattle.rc_bgp.specs.Known.{is_before, table_of}
 use Rattle.rc_bgp.specs.Learning.{learned_by, learned_route}
 use Rattle.rc_external.specs.Externals.{IsByPrefix}
 use Rattle.rc_external.specs.Routes.{boundaries_of, external_routes, route_over, route_to}
 use Rattle.rc_external.specs.Ways.{best_external_way}
 use Rattle.rc_external.specs.declared.as_external.ExternalRow.{ExternalRow}
-use Rattle.rc_external.specs.declared.way.ExternalWay.{ExternalWay}
+use Rattle.rc_external.specs.declared.cost.ExternalCost.{ExternalCost}
 use Rattle.rc_ospf.specs.BoundaryPaths.{BoundaryPath}
 use Rattle.rc_ospf.specs.declared.model.Internal.{Internal as InternalRoutes}
-use Rattle.rc_route.specs.Tables.{IsPathList, IsTable}
-use Rattle.rc_route.specs.declared.path.BgpPath.{BgpPath}
+use Rattle.rc_route.specs.Tables.{IsBestList, IsTable}
+use Rattle.rc_route.specs.Ways.{Way}
+use Rattle.rc_route.specs.declared.best.Best.{Best}
 use Rattle.rc_route.specs.declared.path.PathSource.{PathSource}
 use Rattle.rc_route.specs.declared.path.PathSource.TheVariants.{Network, Connected, Static, Ospf, External, Internal}
 use Rattle.rc_route.specs.declared.route.Route.{Route}
@@ -87,14 +90,14 @@ left_in_order p (x ∷ xs) up = by (p x) (left_in_order p xs up.1)
 
 -- ---- learned routes
 
-learned_prefix : (x : BgpPath) (y : Route) → learned_route x ≡ Some y → y.prefix ≡ x.prefix
-learned_prefix x y e = by x.source e
+learned_prefix : (b : Best) (y : Route) → learned_route b ≡ Some y → y.prefix ≡ b.path.prefix
+learned_prefix b y e = by b.path.source e
   where
     prefix_in : Option Route → Cidr
-    prefix_in None = x.prefix
+    prefix_in None = b.path.prefix
     prefix_in (Some y) = y.prefix
 
-    by : (s : PathSource) → learned_by x s ≡ Some y → y.prefix ≡ x.prefix
+    by : (s : PathSource) → learned_by b s ≡ Some y → y.prefix ≡ b.path.prefix
     by Network e = absurd (none-some y e)
     by Connected e = absurd (none-some y e)
     by Static e = absurd (none-some y e)
@@ -102,8 +105,8 @@ learned_prefix x y e = by x.source e
     by External e = sym (ap prefix_in e)
     by Internal e = sym (ap prefix_in e)
 
-pub learned_in_order : (paths : List BgpPath) → IsPathList paths → IsTable (learned_routes paths)
-learned_in_order paths up = kept_in_order (λ (x : BgpPath). x.prefix) prefix_of learned_route learned_prefix paths up
+pub learned_in_order : (paths : List Best) → IsBestList paths → IsTable (learned_routes paths)
+learned_in_order paths up = kept_in_order (λ (b : Best). b.path.prefix) prefix_of learned_route learned_prefix paths up
 
 -- ---- of lists in order each is, also past the end
 
@@ -121,6 +124,45 @@ none_is_table = tt
 pub none_rises : IsStrictlySortedBy prefix_cmp []
 unfolding IsStrictlySortedBy
 none_rises = tt
+
+-- ---- the one of a prefix is the first that doesn't stand before it, or there is none
+
+reversed_eq : (o : Ordering) → is_eq (ordering_reverse o) ≡ is_eq o
+reversed_eq Less = refl
+reversed_eq Equal = refl
+reversed_eq Greater = refl
+
+turned : (p q : Cidr) → same_prefix p q ≡ is_eq (prefix_cmp q p)
+turned p q = ap is_eq (prefix_cmp_total.antisymm p q) ∙ reversed_eq (prefix_cmp q p)
+
+module _ {A : Type 0} (key : A → Cidr) where
+  abbrev if_same : Cidr → A → Option A
+  if_same p x = cond (same_prefix p (key x)) (Some x) None
+
+  found_first : (p : Cidr) (xs : List A) → IsStrictlySortedBy prefix_cmp (map key xs) → find (λ x. same_prefix p (key x)) xs ≡ option_and_then (if_same p) (find (λ x. not (is_before key p x)) xs)
+  unfolding IsStrictlySortedBy
+  found_first p [] up = refl
+  found_first p (x ∷ xs) up = by (prefix_cmp (key x) p) refl (found_first p xs up.1)
+    where
+      same_is : (o : Ordering) → prefix_cmp (key x) p ≡ o → same_prefix p (key x) ≡ is_eq o
+      same_is o e = turned p (key x) ∙ ap is_eq e
+
+      rest_none : prefix_cmp (key x) p ≡ Greater → find (λ y. same_prefix p (key y)) xs ≡ None
+      rest_none e =
+          let less : prefix_cmp p (key x) ≡ Less = prefix_cmp_total.antisymm p (key x) ∙ ap ordering_reverse e in
+          none_later key p xs (all-weaker (λ q. prefix_cmp (key x) q ≡ Less) (λ q. prefix_cmp p q ≡ Less) (λ q behind. prefix_cmp_total.trans p (key x) q less behind) (map key xs) up.0)
+
+      by : (o : Ordering) → prefix_cmp (key x) p ≡ o → find (λ y. same_prefix p (key y)) xs ≡ option_and_then (if_same p) (find (λ y. not (is_before key p y)) xs)
+          → cond (same_prefix p (key x)) (Some x) (find (λ y. same_prefix p (key y)) xs) ≡ option_and_then (if_same p) (cond (not (is_before key p x)) (Some x) (find (λ y. not (is_before key p y)) xs))
+      by Less e rest =
+          ap (λ b. cond b (Some x) (find (λ y. same_prefix p (key y)) xs)) (same_is Less e) ∙ rest
+          ∙ sym (ap (λ o. option_and_then (if_same p) (cond (not (is_lt o)) (Some x) (find (λ y. not (is_before key p y)) xs))) e)
+      by Equal e rest =
+          ap (λ b. cond b (Some x) (find (λ y. same_prefix p (key y)) xs)) (same_is Equal e)
+          ∙ sym (ap (λ o. option_and_then (if_same p) (cond (not (is_lt o)) (Some x) (find (λ y. not (is_before key p y)) xs))) e ∙ ap (λ b. cond b (Some x) None) (same_is Equal e))
+      by Greater e rest =
+          ap (λ b. cond b (Some x) (find (λ y. same_prefix p (key y)) xs)) (same_is Greater e) ∙ rest_none e
+          ∙ sym (ap (λ o. option_and_then (if_same p) (cond (not (is_lt o)) (Some x) (find (λ y. not (is_before key p y)) xs))) e ∙ ap (λ b. cond b (Some x) None) (same_is Greater e))
 
 -- ---- a prefix is one of some in order where the first that doesn't stand before it is the same
 
@@ -174,7 +216,7 @@ external_prefix paths row y e = by (best_external_way paths row.externals) e
     prefix_in None = row.prefix
     prefix_in (Some y) = y.prefix
 
-    by : (w : Option ExternalWay) → option_map (route_over row.prefix) w ≡ Some y → y.prefix ≡ row.prefix
+    by : (w : Option (Way ExternalCost)) → option_map (route_over row.prefix) w ≡ Some y → y.prefix ≡ row.prefix
     by None e = absurd (none-some y e)
     by (Some w) e = sym (ap prefix_in e)
 

@@ -1,13 +1,11 @@
 -- The static route of a prefix is what its active lines make, one after another.
-use Rattle.std.proofs.Common.{refl, ◌≡◌, ap, sym, ◌∙◌, ℕ, ◌<◌, ◌≤◌, min, ◌==◌, Bool, true, false, cond, List, [], ◌∷◌, ◌++◌, map, nat_lt, Some, None, append_assoc, arith}
+use Rattle.std.proofs.Common.{refl, ◌≡◌, ap, ◌∙◌, ℕ, ◌==◌, Bool, true, false, cond, List, [], ◌∷◌, ◌++◌, map, nat_lt, Option, Some, None}
+use Rattle.std.specs.Cmp.{nat_cmp_total}
 use Rattle.std.specs.List.{fold, filter_map, cons_option, list_any}
 use Rattle.std.specs.Option.{option_map}
+use Rattle.std.specs.Ordering.{match_ordering, nat_cmp}
+use Rattle.std.specs.declared.cmp.Ordering.TheVariants.{Less, Equal, Greater}
 use Rattle.std.proofs.lemmas.Bool.{or_parts}
-use Rattle.std.proofs.lemmas.Bool.Decides.{nat_tests}
-use Rattle.std.proofs.lemmas.Grind.{common_steps}
-use Rattle.std.proofs.lemmas.List.{map-append}
-use Rattle.std.proofs.lemmas.List.Elements.{filter-append}
-use Rattle.std.proofs.lemmas.List.Sums.{fold-append}
 use Rattle.rc_base.specs.Lists.{in_order}
 use Rattle.rc_base.specs.Prefix.{Cidr, prefix_cmp}
 use Rattle.rc_config.specs.Down.{Entries}
@@ -15,106 +13,40 @@ use Rattle.rc_config.specs.declared.static_route.StaticRoute.{StaticRoute}
 use Rattle.rc_config.specs.declared.static_route.Target.{Target}
 use Rattle.rc_config.specs.declared.static_route.Target.TheVariants as target
 use Rattle.rc_fib.specs.declared.entry.Entry.{Entry}
-use Rattle.rc_route.specs.declared.route.Hop.{Hop}
+use Rattle.rc_route.specs.Ways.{Way, then_way, with_way}
+use Rattle.rc_route.proofs.WayLaws.{best_is}
 use Rattle.rc_base.specs.Groups.{grouped, value_of, value_at}
 use Rattle.rc_rib.specs.Offers.{line_prefix, with_line, route_of_hops}
-use Rattle.rc_rib.specs.Static.{active_hop, asks_table, least_distance, lines_of, lines_at, active_lines, static_route, static_routes}
+use Rattle.rc_rib.specs.Static.{active_hop, active_lines, asks_table, line_way, lines_at, static_over, static_route, static_routes}
 use Rattle.rc_rib.specs.declared.active.ActiveLine.{ActiveLine}
 use Rattle.rc_rib.specs.declared.grouping.StaticHops.{StaticHops}
 use Rattle.rc_base.proofs.GroupLaws.{grouped_rows}
 
-abbrev hop_of : ActiveLine → Hop
-hop_of l = l.hop
+abbrev as_way : StaticHops → Way ℕ
+as_way v = record { cost = v.distance; hops = v.hops }
 
--- what some lines make: the least distance, and the hops of it as they come
-abbrev made : ActiveLine → List ActiveLine → StaticHops
-made l ls = record { distance = least_distance l ls; hops = map hop_of (lines_of (least_distance l ls) (l ∷ ls)) }
-
--- a distance below the least is that of no line
-record IsBelow (k a : ℕ) (ls : List ActiveLine) : Type 0 where
-  pub first : k < a
-  pub others : lines_of k ls ≡ []
-
-below_least : (k a : ℕ) (ls : List ActiveLine) → k < fold (λ d (x : ActiveLine). min d x.distance) a ls → IsBelow k a ls
-below_least k a [] less = record { first = less; others = refl }
-below_least k a (x ∷ xs) less =
-    let rest = below_least k (min a x.distance) xs less in
-    let first : k < min a x.distance = rest.first in
-    let other : (x.distance == k) ≡ false = grind (arith, common_steps, nat_tests) in
-    record { first = omega (arith, first); others = ap (λ b. cond b (x ∷ lines_of k xs) (lines_of k xs)) other ∙ rest.others }
-
-none_below : (k : ℕ) (l : ActiveLine) (ls : List ActiveLine) → k < least_distance l ls → lines_of k (l ∷ ls) ≡ []
-none_below k l ls less =
-    let all = below_least k l.distance ls less in
-    let first : k < l.distance = all.first in
-    let other : (l.distance == k) ≡ false = grind (arith, common_steps, nat_tests) in
-    ap (λ b. cond b (l ∷ lines_of k ls) (lines_of k ls)) other ∙ all.others
-
-least_more : (l : ActiveLine) (ls : List ActiveLine) (x : ActiveLine) → least_distance l (ls ++ x ∷ []) ≡ min (least_distance l ls) x.distance
-least_more l ls x = fold-append (λ d (y : ActiveLine). min d y.distance) l.distance ls (x ∷ [])
-
-lines_more : (d : ℕ) (ls : List ActiveLine) (x : ActiveLine) → lines_of d (ls ++ x ∷ []) ≡ lines_of d ls ++ lines_of d (x ∷ [])
-lines_more d ls x = filter-append (λ (l : ActiveLine). l.distance == d) ls (x ∷ [])
-
-same_hops : (v w : StaticHops) → v.distance ≡ w.distance → v.hops ≡ w.hops → v ≡ w
-same_hops v w d h = λ i. record { distance = d i; hops = h i }
-
--- one line more
-made_more : (l : ActiveLine) (ls : List ActiveLine) (x : ActiveLine) → with_line (Some (made l ls)) x ≡ made l (ls ++ x ∷ [])
-made_more l ls x = by (nat_lt x.distance (least_distance l ls)) refl (x.distance == least_distance l ls) refl
+-- one line more is one way more
+with_line_is : (v : Option StaticHops) (l : ActiveLine) → as_way (with_line v l) ≡ with_way nat_cmp (option_map as_way v) (line_way l)
+with_line_is None l = refl
+with_line_is (Some v) l = by (nat_lt l.distance v.distance) (l.distance == v.distance)
   where
-    least : ℕ
-    least = least_distance l ls
+    by : (less same : Bool)
+        → as_way (cond less (record { distance = l.distance; hops = l.hop ∷ [] }) (cond same (record { distance = v.distance; hops = v.hops ++ l.hop ∷ [] }) v))
+        ≡ match_ordering (cond less Less (cond same Equal Greater)) (line_way l) (record { cost = v.distance; hops = v.hops ++ l.hop ∷ [] }) (as_way v)
+    by true same = refl
+    by false true = refl
+    by false false = refl
 
-    hops_at : (d : ℕ) → map hop_of (lines_of d (l ∷ (ls ++ x ∷ []))) ≡ map hop_of (lines_of d (l ∷ ls)) ++ map hop_of (lines_of d (x ∷ []))
-    hops_at d = ap (map hop_of) (lines_more d (l ∷ ls) x) ∙ map-append hop_of (lines_of d (l ∷ ls)) (lines_of d (x ∷ []))
-
-    append_nothing : (hops : List Hop) → hops ++ [] ≡ hops
-    append_nothing [] = refl
-    append_nothing (h ∷ hs) = ap (λ t. h ∷ t) (append_nothing hs)
-
-    here : (b : Bool) → (x.distance == x.distance) ≡ b → map hop_of (cond b (x ∷ []) []) ≡ x.hop ∷ []
-    here true e = refl
-    here false e = absurd (let same : (x.distance == x.distance) ≡ true = grind (arith, common_steps, nat_tests) in cc)
-
-    by : (less : Bool) → nat_lt x.distance (least_distance l ls) ≡ less → (same : Bool) → (x.distance == least_distance l ls) ≡ same
-        → cond less (record { distance = x.distance; hops = x.hop ∷ [] }) (cond same (record { distance = least_distance l ls; hops = map hop_of (lines_of (least_distance l ls) (l ∷ ls)) ++ x.hop ∷ [] }) (made l ls)) ≡ made l (ls ++ x ∷ [])
-    by true is same at =
-        let less : x.distance < least_distance l ls = grind (arith, common_steps, nat_tests) in
-        let new : least_distance l (ls ++ x ∷ []) ≡ x.distance = least_more l ls x ∙ omega arith in
-        same_hops (record { distance = x.distance; hops = x.hop ∷ [] }) (made l (ls ++ x ∷ [])) (sym new)
-        (sym (ap (λ d. map hop_of (lines_of d (l ∷ (ls ++ x ∷ [])))) new ∙ hops_at x.distance ∙ ap (λ ks. map hop_of ks ++ map hop_of (lines_of x.distance (x ∷ []))) (none_below x.distance l ls less) ∙ here (x.distance == x.distance) refl))
-    by false is true at =
-        let equal : x.distance ≡ least_distance l ls = grind (arith, common_steps, nat_tests) in
-        let new : least_distance l (ls ++ x ∷ []) ≡ least_distance l ls = least_more l ls x ∙ omega arith in
-        let last : map hop_of (lines_of (least_distance l ls) (x ∷ [])) ≡ x.hop ∷ [] = ap (λ b. map hop_of (cond b (x ∷ []) [])) at in
-        same_hops (record { distance = least_distance l ls; hops = map hop_of (lines_of (least_distance l ls) (l ∷ ls)) ++ x.hop ∷ [] }) (made l (ls ++ x ∷ [])) (sym new)
-        (sym (ap (λ d. map hop_of (lines_of d (l ∷ (ls ++ x ∷ [])))) new ∙ hops_at (least_distance l ls) ∙ ap (λ t. map hop_of (lines_of (least_distance l ls) (l ∷ ls)) ++ t) last))
-    by false is false at =
-        let more : least_distance l ls ≤ x.distance = grind (arith, common_steps, nat_tests) in
-        let new : least_distance l (ls ++ x ∷ []) ≡ least_distance l ls = least_more l ls x ∙ omega arith in
-        let last : map hop_of (lines_of (least_distance l ls) (x ∷ [])) ≡ [] = ap (λ b. map hop_of (cond b (x ∷ []) [])) at in
-        same_hops (made l ls) (made l (ls ++ x ∷ [])) (sym new)
-        (sym (ap (λ d. map hop_of (lines_of d (l ∷ (ls ++ x ∷ [])))) new ∙ hops_at (least_distance l ls) ∙ ap (λ t. map hop_of (lines_of (least_distance l ls) (l ∷ ls)) ++ t) last ∙ append_nothing (map hop_of (lines_of (least_distance l ls) (l ∷ ls)))))
-
-made_first : (l : ActiveLine) → with_line None l ≡ made l []
-made_first l = same_hops (with_line None l) (made l []) refl (sym (ap (λ b. map hop_of (cond b (l ∷ []) [])) (let same : (l.distance == l.distance) ≡ true = grind (arith, common_steps, nat_tests) in same)))
-
-made_all : (l : ActiveLine) (done left : List ActiveLine) → fold (λ v x. Some (with_line v x)) (Some (made l done)) left ≡ Some (made l (done ++ left))
-made_all l done [] = ap (λ ls. Some (made l ls)) (append_nothing done)
-  where
-    append_nothing : (ls : List ActiveLine) → ls ≡ ls ++ []
-    append_nothing [] = refl
-    append_nothing (x ∷ xs) = ap (λ t. x ∷ t) (append_nothing xs)
-made_all l done (x ∷ xs) =
-    ap (λ v. fold (λ w y. Some (with_line w y)) (Some v) xs) (made_more l done x) ∙ made_all l (done ++ x ∷ []) xs ∙ ap (λ ls. Some (made l ls)) (append_assoc done (x ∷ []) xs)
-
-made_of : (l : ActiveLine) (ls : List ActiveLine) → value_of line_prefix with_line (l ∷ ls) ≡ Some (made l ls)
-made_of l ls = ap (λ v. fold (λ w y. Some (with_line w y)) (Some v) ls) (made_first l) ∙ made_all l [] ls
+lines_taken : (v : Option StaticHops) (ls : List ActiveLine) → option_map as_way (fold (λ w x. Some (with_line w x)) v ls) ≡ fold (then_way nat_cmp) (option_map as_way v) (map line_way ls)
+lines_taken v [] = refl
+lines_taken v (l ∷ ls) = lines_taken (Some (with_line v l)) ls ∙ ap (λ w. fold (then_way nat_cmp) (Some w) (map line_way ls)) (with_line_is v l)
 
 route_of : (p : Cidr) (lines : List ActiveLine) → option_map (route_of_hops p) (value_of line_prefix with_line lines) ≡ static_route p lines
-route_of p [] = refl
-route_of p (l ∷ ls) = ap (option_map (route_of_hops p)) (made_of l ls)
+route_of p lines = over (value_of line_prefix with_line lines) ∙ ap (option_map (static_over p)) (lines_taken None lines ∙ best_is nat_cmp nat_cmp_total (map line_way lines))
+  where
+    over : (v : Option StaticHops) → option_map (route_of_hops p) v ≡ option_map (static_over p) (option_map as_way v)
+    over None = refl
+    over (Some v) = refl
 
 each_prefix : (lines : List ActiveLine) (ps : List Cidr) → filter_map (λ p. option_map (route_of_hops p) (value_at line_prefix with_line p lines)) ps ≡ filter_map (λ p. static_route p (lines_at p lines)) ps
 each_prefix lines [] = refl

@@ -5,7 +5,7 @@ use Rattle.std.specs.Ordering.{match_ordering}
 use Rattle.std.specs.declared.cmp.Ordering.{Ordering}
 use Rattle.std.specs.declared.cmp.Ordering.TheVariants.{Less, Greater}
 use Rattle.rc_base.specs.Prefix.{Cidr, prefix_cmp}
-use Rattle.rc_route.specs.declared.path.BgpPath.{BgpPath}
+use Rattle.rc_route.specs.declared.best.Best.{Best}
 use Rattle.rc_route.specs.declared.route.Route.{Route}
 use Rattle.rc_rib.specs.Best.{better}
 use Rattle.rc_rib.specs.Next.{learned_routes}
@@ -55,6 +55,6 @@ pub record HasMoved (left made : List Route) (r : Route) (left-now made-now : Li
 pub record IsPlaced (left made : List Route) (r : Route) (left-now made-now : List Route) : Type 0 where
   pub same : (rest : List Route) → made ++ merged left (r ∷ rest) ≡ made-now ++ merged left-now rest
 
--- what a path gives is placed
-pub record IsLearned (left made : List Route) (path : BgpPath) (left-now made-now : List Route) : Type 0 where
-  pub same : (rest : List BgpPath) → made ++ merged left (learned_routes (path ∷ rest)) ≡ made-now ++ merged left-now (learned_routes rest)
+-- what a best path gives is placed
+pub record IsLearned (left made : List Route) (best : Best) (left-now made-now : List Route) : Type 0 where
+  pub same : (rest : List Best) → made ++ merged left (learned_routes (best ∷ rest)) ≡ made-now ++ merged left-now (learned_routes rest)

@@ -18,7 +18,7 @@ use Rattle.rc_ospf.specs.declared.model.Internal.{Internal}
 use Rattle.rc_rib.specs.Best.{best_routes}
 use Rattle.rc_rib.specs.Connected.{connected}
 use Rattle.rc_rib.specs.Static.{active_lines, static_routes}
-use Rattle.rc_route.specs.declared.path.BgpPath.{BgpPath}
+use Rattle.rc_route.specs.declared.best.Best.{Best}
 use Rattle.rc_route.specs.declared.route.Route.{Route}
 use Rattle.rc_route.specs.declared.state.RouterState.{RouterState}
 
@@ -52,7 +52,7 @@ abbrev pub table_after : ℕ → RouterText → List Route → List Route → Li
 table_after r file learned ospf old = best_routes (candidates r file learned ospf old)
 
 -- the routes that best paths give
-abbrev pub learned_routes : List BgpPath → List Route
+abbrev pub learned_routes : List Best → List Route
 learned_routes paths = filter_map learned_route paths
 
 -- what a router of this file knows after a round

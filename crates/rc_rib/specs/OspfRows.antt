@@ -16,6 +16,7 @@ use Rattle.rc_route.specs.declared.route.Hop.TheVariants.{Null, Via}
 use Rattle.rc_route.specs.declared.route.Route.{Route}
 use Rattle.rc_route.specs.declared.route.Source.{Source}
 use Rattle.rc_route.specs.declared.route.Source.TheVariants.{Connected, Static, Ebgp, Ospf, OspfIa, OspfE1, OspfE2, Ibgp}
+use Rattle.rc_route.specs.Best.{alone}
 use Rattle.rc_route.specs.declared.path.BgpPath.{BgpPath}
 use Rattle.rc_route.specs.declared.path.PathSource.{PathSource}
 use Rattle.rc_route.specs.declared.path.PathSource.TheVariants as by_path
@@ -137,7 +138,7 @@ path source p = record {
   as_path = 65001 ∷ [];
 }
 
-pub routes_of_paths : learned_routes (path by_path.External (subnet 7) ∷ path by_path.Network (subnet 8) ∷ path by_path.Internal (subnet 9) ∷ []) ≡
+pub routes_of_paths : learned_routes (map alone (path by_path.External (subnet 7) ∷ path by_path.Network (subnet 8) ∷ path by_path.Internal (subnet 9) ∷ [])) ≡
     record (learned Ebgp 20 (subnet 7)) { metric = 7 } ∷ record (learned Ibgp 200 (subnet 9)) { metric = 7 } ∷ []
 routes_of_paths = refl
 

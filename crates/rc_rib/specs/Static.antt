@@ -1,7 +1,8 @@
 -- The static routes of a router, from the lines of its file and its previous table.
-use Rattle.std.specs.Prelude.{ℕ, min, ◌==◌, Bool, true, false, not, ◌&&◌, if◌then◌else◌, List, [], ◌∷◌, map, filter, Option, Some, None}
-use Rattle.std.specs.List.{filter_map, fold}
+use Rattle.std.specs.Prelude.{ℕ, ◌==◌, Bool, true, false, not, ◌&&◌, if◌then◌else◌, List, [], ◌∷◌, map, filter, Option, Some, None}
+use Rattle.std.specs.List.{filter_map}
 use Rattle.std.specs.Option.{option_map, option_map_or}
+use Rattle.std.specs.Ordering.{nat_cmp}
 use Rattle.rc_base.specs.Lists.{in_order}
 use Rattle.rc_base.specs.Prefix.{Cidr, prefix_cmp, same_prefix}
 use Rattle.rc_base.specs.declared.position.IfId.{IfId}
@@ -13,6 +14,7 @@ use Rattle.rc_config.specs.declared.static_route.Target.TheVariants as target
 use Rattle.rc_fib.specs.Forwarding.{resolves, resolved_prefix}
 use Rattle.rc_fib.specs.declared.entry.Entry.{Entry}
 use Rattle.rc_route.specs.Hops.{hop_cmp}
+use Rattle.rc_route.specs.Ways.{Way, best_of}
 use Rattle.rc_route.specs.declared.route.Hop.{Hop}
 use Rattle.rc_route.specs.declared.route.Hop.TheVariants.{Null, Dev, Via}
 use Rattle.rc_route.specs.declared.route.Route.{Route}
@@ -49,17 +51,12 @@ active_line r entries old s = if s.distance == 255 then None else option_map (λ
 abbrev pub active_lines : ℕ → Entries → List Entry → List StaticRoute → List ActiveLine
 active_lines r entries old lines = filter_map (active_line r entries old) lines
 
--- the least administrative distance of some lines, the first of which is given
-abbrev pub least_distance : ActiveLine → List ActiveLine → ℕ
-least_distance l ls = fold (λ d (x : ActiveLine). min d x.distance) l.distance ls
+-- the way of a line costs its administrative distance
+abbrev pub line_way : ActiveLine → Way ℕ
+line_way l = record { cost = l.distance; hops = l.hop ∷ [] }
 
--- the lines of a distance
-abbrev pub lines_of : ℕ → List ActiveLine → List ActiveLine
-lines_of d lines = filter (λ (l : ActiveLine). l.distance == d) lines
-
--- the hops of the lines of a distance, in order and without repeats
-abbrev pub hops_of : ℕ → List ActiveLine → List Hop
-hops_of d lines = in_order hop_cmp (map (λ (l : ActiveLine). l.hop) (lines_of d lines))
+abbrev pub static_over : Cidr → Way ℕ → Route
+static_over p w = record { prefix = p; source = Static; distance = w.cost; metric = 0; hops = in_order hop_cmp w.hops }
 
 -- the lines of a prefix
 abbrev pub lines_at : Cidr → List ActiveLine → List ActiveLine
@@ -67,8 +64,7 @@ lines_at p lines = filter (λ (l : ActiveLine). same_prefix p l.prefix) lines
 
 -- the static route of a prefix, from its active lines: over the hops of those of the least distance
 abbrev pub static_route : Cidr → List ActiveLine → Option Route
-static_route p [] = None
-static_route p (l ∷ ls) = let least = least_distance l ls in Some (record { prefix = p; source = Static; distance = least; metric = 0; hops = hops_of least (l ∷ ls) })
+static_route p lines = option_map (static_over p) (best_of nat_cmp (map line_way lines))
 
 -- a route for each prefix of an active line, by address, then length
 unfoldable pub static_routes : List ActiveLine → List Route

@@ -7,7 +7,7 @@ ghost use Rattle.rc_rib.specs.Next as spec;
 use crate::merging::{better, front_prefix, take_front, which};
 use rc_base::Items;
 use rc_bgp::learned_route;
-use rc_route::{BgpPath, Route, Table};
+use rc_route::{Best, Route, Table};
 use std::alloc::{AllocError, Global};
 use std::cmp::Ordering;
 use std::collections::VecDeque;
@@ -56,15 +56,16 @@ fn place(left: &mut VecDeque<Route>, made: &mut Table, route: Route) -> Result<(
     }
 }
 
-/// Puts the route that a path gives, if any, in its place.
+/// Puts the route that a best path gives, if any, in its place.
 fn place_learned(
+    alloc: Global,
     left: &mut VecDeque<Route>,
     made: &mut Table,
-    path: &BgpPath,
+    best: &Best,
 ) -> Result<(), AllocError>
-    ensures { OnOk result (IsLearned left.old.items made.old path.now left.new.items made.new) }
+    ensures { OnOk result (IsLearned left.old.items made.old best.now left.new.items made.new) }
 {
-    let learned = learned_route(path);
+    let learned = learned_route(alloc, best)?;
     match learned {
         None => Ok(()),
         Some(route) => place(left, made, route),
@@ -82,11 +83,7 @@ fn append(made: &mut Table, mut left: VecDeque<Route>) -> Result<(), AllocError>
 }
 
 /// The best routes of a table and of what best paths give, by address, then length.
-pub(crate) fn with_learned(
-    alloc: Global,
-    table: Table,
-    paths: &[BgpPath],
-) -> Result<Table, AllocError>
+pub(crate) fn with_learned(alloc: Global, table: Table, paths: &[Best]) -> Result<Table, AllocError>
     ensures { IfOk result (λ made. made ≡ merged table (spec.learned_routes paths.now)) }
 {
     if paths.is_empty() {
@@ -95,8 +92,8 @@ pub(crate) fn with_learned(
     let room = table.len().saturating_add(paths.len());
     let mut made = Items::with_room(alloc, room)?;
     let mut left = VecDeque::from(table.into_vec());
-    for path in paths {
-        place_learned(&mut left, &mut made, path)?;
+    for best in paths {
+        place_learned(alloc, &mut left, &mut made, best)?;
     }
     append(&mut made, left)?;
     Ok(made)

@@ -1,7 +1,7 @@
 //! One router's next table and best paths.
-ghost use Rattle.std.specs.Prelude.{◌≡◌, ◌++◌, ◌∷◌, [], All, IfOk, IfSome, IsTrue, OnOk, None, false, slice_get};
+ghost use Rattle.std.specs.Prelude.{◌≡◌, ◌++◌, ◌∷◌, [], All, IfOk, IfSome, IsTrue, OnOk, None, false};
 ghost use Rattle.std.specs.List.{list_any};
-ghost use Rattle.std.specs.Option.{option_map, option_map_or};
+ghost use Rattle.std.specs.Option.{option_map_or};
 ghost use Rattle.rc_bgp.specs.Candidates as bgp_spec;
 ghost use Rattle.rc_bgp.specs.Changes.{CoversChange};
 ghost use Rattle.rc_bgp.specs.Known.{paths_of, table_of};
@@ -11,7 +11,7 @@ ghost use Rattle.rc_config.specs.Members.{router_at};
 ghost use Rattle.rc_config.specs.declared.static_route.StaticRoute.{StaticRoute as Line};
 ghost use Rattle.rc_external.specs.Routes.{boundaries_of, external_routes};
 ghost use Rattle.rc_fib.specs.Forwarding.{resolved};
-ghost use Rattle.rc_route.specs.Tables.{IsRouterState, IsPathList, IsTable};
+ghost use Rattle.rc_route.specs.Tables.{IsBestList, IsRouterState, IsTable};
 ghost use Rattle.rc_rib.specs.Connected as connected_spec;
 ghost use Rattle.rc_rib.specs.Again.{HasNoLines, IsUnchanged, ReadsNoOthers};
 ghost use Rattle.rc_rib.specs.Inputs.{AreInputs};
@@ -31,7 +31,7 @@ use rc_bgp::{ConfiguredSessions, Renewed, first_paths, renewed_paths};
 use rc_config::{Network, RouterText};
 use rc_fib::Fib;
 use rc_ospf::Internal;
-use rc_route::{BgpPath, Route, RouterState, State, Table, copy, same_table};
+use rc_route::{Best, Route, RouterState, State, Table, copy, known_at, same_table};
 use std::alloc::{AllocError, Global};
 
 /// The static routes of a file that its router's previous table makes active, from that table prepared for look-ups.
@@ -163,10 +163,10 @@ fn table_beside(
     inputs: &Inputs<'_>,
     router: RouterId,
     file: &RouterText,
-    paths: &[BgpPath],
+    paths: &[Best],
 ) -> Result<Table, AllocError>
     requires inputs { AreInputs inputs.now }
-    requires paths { IsPathList paths.now }
+    requires paths { IsBestList paths.now }
     ensures value { IfOk result (λ table. table ≡ spec.table_after router file.now (spec.learned_routes paths.now) (spec.ospf_routes inputs.now.internal.now inputs.now.externals.now router) (table_of inputs.now.previous.now router)) }
     ensures in_order { IfOk result IsTable }
 {
@@ -181,7 +181,7 @@ fn paths_after(alloc: Global, inputs: &Inputs<'_>, router: RouterId) -> Result<R
     requires inputs { AreInputs inputs.now }
     requires router { IsRouter inputs.now.network.now router }
     ensures paths { IfOk result (λ r. r.paths ≡ bgp_spec.best_paths inputs.now.network.now inputs.now.sessions.now inputs.now.previous.now router) }
-    ensures in_order { IfOk result (λ r. IsPathList r.paths) }
+    ensures in_order { IfOk result (λ r. IsBestList r.paths) }
     ensures changed { IfOk result (λ r. CoversChange r.changed (paths_of inputs.now.previous.now router) r.paths) }
 {
     match &inputs.earlier {
@@ -257,13 +257,6 @@ fn again(alloc: Global, known: &RouterState) -> Result<Made, AllocError>
         state,
         changed: Items::new(alloc),
     })
-}
-
-/// What a router knows in a state, or `None` exactly past its end.
-fn known_at(state: &State, router: RouterId) -> Option<&RouterState>
-    ensures { option_map (λ s. s.now) result ≡ slice_get state.now router }
-{
-    state.as_slice().get(router.index())
 }
 
 /// Whether a router has no line `ip route`.

@@ -10,13 +10,13 @@ use Rattle.std.proofs.lemmas.List.FromFn.{map-range_with_len_more, length-map-ra
 use Rattle.std.proofs.lemmas.Option.{slice_get_past}
 use Rattle.rc_base.specs.Prefix.{Cidr}
 use Rattle.rc_bgp.specs.Changes.{AreChanges, CoversChange, changes_of}
-use Rattle.rc_bgp.specs.Known.{path_at, paths_of}
+use Rattle.rc_bgp.specs.Known.{paths_of}
 use Rattle.rc_config.specs.declared.network.Network.{Network}
 use Rattle.rc_ospf.specs.declared.model.Internal.{Internal}
 use Rattle.rc_route.specs.declared.state.RouterState.{RouterState}
 use Rattle.rc_rib.specs.Next.{next_router, next_state}
 use Rattle.rc_rib.specs.declared.made.Made.{Made}
-use Rattle.rc_route.specs.Tables.{IsRouterState, IsStateOf}
+use Rattle.rc_route.specs.Tables.{IsRouterState, IsStateOf, best_for}
 use Rattle.rc_rounds.specs.Rounds.{empty_state}
 use Rattle.rc_outside.specs.Shares.{share_start}
 use Rattle.rc_rounds.specs.Shares.{IsMade, IsShare, IsStretch}
@@ -139,7 +139,7 @@ module _ (net : Network) (internal : Internal) (old : List RouterState) where
   -- the router at a place of a stretch
   told_from : (a b : ℕ) (all : List Made) → IsStretch Makes a b all → length old ≡ b → (k : ℕ) → CoversChange (changes_of (told all) k) (paths_of old (a + k)) (paths_of (states all) k)
   unfolding IsStretch
-  told_from a b [] is as_long k = record { elsewhere = λ p none. ap (λ paths. path_at paths p) (past (a + k) (omega (arith, is, as_long))) }
+  told_from a b [] is as_long k = record { elsewhere = λ p none. ap (λ paths. best_for paths p) (past (a + k) (omega (arith, is, as_long))) }
   told_from a b (m ∷ ms) is as_long zero = (let e : a + 0 ≡ a = omega arith in subst (λ r. CoversChange m.changed (paths_of old r) m.state.paths) (sym e) is.0.changed)
   told_from a b (m ∷ ms) is as_long (suc k) =
       let e : a + 1 + k ≡ a + suc k = omega arith in

@@ -1,6 +1,9 @@
+pub mod Best
+pub mod Further
 pub mod Hops
 pub mod Kept
 pub mod Paths
 pub mod Tables
+pub mod Ways
 pub mod Rows
 pub mod Outcomes

@@ -1,18 +1,24 @@
 //! Routes, BGP paths, what all routers know after a round, and how rounds may end.
 //!
 //! It stands on the addresses, prefixes, lists and communities of rc_base, and on the AS paths of rc_as_path. The layer above
-//! knows a table as its list of routes, a route's hops as a list, a state as the list of what each router knows, whether two
-//! states are equal, and a router's state again as a copy.
+//! knows a table as its list of routes, a route's hops as a list, a state as the list of what each router knows, what stands there
+//! for a router and for a prefix, whether two states are equal, and a router's state again as a copy.
 #![tactic(auto)]
 
+mod best;
+mod further;
 mod hops;
+mod listed;
 mod outcome;
 mod path;
 mod route;
 mod state;
 
+pub use best::Best;
+pub use further::FurtherHops;
 pub use hops::Hops;
+pub use listed::{HasPrefix, best_path_for, listed_at};
 pub use outcome::Outcome;
 pub use path::{BgpPath, PathSource, compare_path_sources};
 pub use route::{Hop, Route, Source, Table, compare_hops, compare_sources, same_hop, same_table};
-pub use state::{RouterState, State, copy, equal};
+pub use state::{RouterState, State, copy, equal, known_at};

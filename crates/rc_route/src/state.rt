@@ -1,16 +1,16 @@
 //! What the routers know after a round.
 ghost use Rattle.std.specs.Prelude.{◌≡◌, ◌≢◌, ◌↔◌, IsTrue, IfOk, slice_get};
-ghost use Rattle.std.specs.Option.{option_map};
+ghost use Rattle.std.specs.Option.{option_copied};
 
-use crate::{BgpPath, Table};
-use rc_base::Items;
+use crate::{Best, Table};
+use rc_base::{Items, RouterId};
 use std::alloc::{AllocError, Global};
 
-/// What one router knows: its table, and its best BGP paths, one for each prefix, by address, then length.
+/// What one router knows: its table, and its best BGP paths with what goes with them, one for each prefix, by address, then length.
 #[derive(PartialEq, Eq)]
 pub struct RouterState {
     pub table: Table,
-    pub paths: Items<BgpPath>,
+    pub paths: Items<Best>,
 }
 
 /// By a function of its own, so that what holds states drops each by one call.
@@ -42,18 +42,18 @@ fn differ_in_size(a: &RouterState, b: &RouterState) -> bool
 }
 
 /// What a router knows in a state, or `None` exactly past its end.
-fn known_at(state: &State, index: usize) -> Option<&RouterState>
-    ensures { option_map (λ s. s.now) result ≡ slice_get state.now index }
+pub fn known_at(state: &State, router: RouterId) -> Option<&RouterState>
+    ensures { option_copied result ≡ slice_get state.now router }
 {
-    state.as_slice().get(index)
+    state.as_slice().get(router.index())
 }
 
 /// Whether so it is with a router in two states.
-fn differ_at(a: &State, b: &State, index: usize) -> bool
+fn differ_at(a: &State, b: &State, router: RouterId) -> bool
     ensures { IsTrue result → a.now ≢ b.now }
 {
-    let one = known_at(a, index);
-    let other = known_at(b, index);
+    let one = known_at(a, router);
+    let other = known_at(b, router);
     match one {
         None => false,
         Some(one) => match other {
@@ -68,7 +68,7 @@ fn some_differ_in_size(a: &State, b: &State) -> bool
     ensures { IsTrue result → a.now ≢ b.now }
 {
     for index in 0..a.len() {
-        if differ_at(a, b, index) {
+        if differ_at(a, b, RouterId::at(index)) {
             return true;
         }
     }
@@ -90,7 +90,8 @@ pub fn equal(a: &State, b: &State) -> bool
     !some_differ_in_size(a, b) && is_same(a, b)
 }
 
-/// What a router knows, again: routes and paths in memory of their own, but for AS paths and communities, which both share.
+/// What a router knows, again: routes and paths in memory of their own, but for AS paths, communities and further next hops, which
+/// both share.
 pub fn copy(alloc: Global, state: &RouterState) -> Result<RouterState, AllocError>
     ensures { IfOk result (λ copied. copied ≡ state.now) }
 {
@@ -110,8 +111,8 @@ fn copy_table(alloc: Global, table: &Table) -> Result<Table, AllocError>
     Ok(routes)
 }
 
-/// A list of paths again.
-fn copy_paths(alloc: Global, list: &Items<BgpPath>) -> Result<Items<BgpPath>, AllocError>
+/// A list of best paths again.
+fn copy_paths(alloc: Global, list: &Items<Best>) -> Result<Items<Best>, AllocError>
     ensures { IfOk result (λ copied. copied ≡ list.now) }
 {
     let mut paths = Items::with_room(alloc, list.len())?;

@@ -1,5 +1,5 @@
 use Rattle.std.proofs.Common.{◌∙◌, ap, sym, subst}
-use Rattle.rc_route.specs.Tables.{IsPathList}
+use Rattle.rc_route.specs.Tables.{IsBestList}
 use Rattle.rc_bgp.specs.Changes.{AreToldAmong, suspects}
 use Rattle.rc_bgp.specs.Known.{paths_of}
 use Rattle.rc_bgp.specs.Own.{own_paths}
@@ -14,7 +14,7 @@ differing-requires-clause-new c =
     let these = c.as_slice-4.ensures ∙ c.in_ok-prefixes.ensures ∙ ap (suspects changes) (c.as_slice.ensures ∙ c.in_ok-up.ensures) in
     let value = of_parts net c.args.sessions.now c.args.router changes c.args.previous.now c.new-resolver.result c.as_slice-2.result.now c.as_slice-3.result.now c.paths_of-known.result.now c.in_ok-paths.paths c.as_slice-4.result.now
     (c.new-resolver.ensures ∙ table) (c.as_slice-2.ensures ∙ c.in_ok-own.ensures.value ∙ ap (λ t. own_paths net t c.args.router) table) (c.as_slice-3.ensures ∙ c.in_ok-up.ensures) c.paths_of-known.ensures.value these c.in_ok-paths.ensures in
-    subst IsPathList (sym c.as_slice-5.ensures) (mended_in_order net c.args.sessions.now c.args.router changes c.args.previous.now (subst IsPathList c.paths_of-known.ensures.value c.paths_of-known.ensures.in_order) c.in_ok-paths.paths value)
+    subst IsBestList (sym c.as_slice-5.ensures) (mended_in_order net c.args.sessions.now c.args.router changes c.args.previous.now (subst IsBestList c.paths_of-known.ensures.value c.paths_of-known.ensures.in_order) c.in_ok-paths.paths value)
 
 pub returns : goal.returns
 returns c =

@@ -1,5 +1,5 @@
 use Rattle.std.proofs.Common.{sym, subst}
-use Rattle.rc_route.specs.Tables.{IsPathList}
+use Rattle.rc_route.specs.Tables.{IsBestList}
 use Rattle.rc_bgp.proofs.AlikeLaws.{best_up, mended_covered, mended_is_best}
 use Rattle.rc_bgp.proofs.renewing.renewed_paths.Goals as goal
 
@@ -9,7 +9,7 @@ returns-then-branch-clause-paths c =
     mended_is_best c.args.net.now c.args.sessions.now c.args.router c.args.earlier.now c.args.previous.now alike c.args.changes.now c.requires.changes c.in_ok-made.made.paths c.in_ok-made.made.changed c.requires.known c.in_ok-made.ensures
 
 pub returns-then-branch-clause-in_order : goal.returns-then-branch-clause-in_order
-returns-then-branch-clause-in_order c = subst IsPathList (sym (returns-then-branch-clause-paths c)) (best_up c.args.net.now c.args.sessions.now c.args.router c.args.previous.now)
+returns-then-branch-clause-in_order c = subst IsBestList (sym (returns-then-branch-clause-paths c)) (best_up c.args.net.now c.args.sessions.now c.args.router c.args.previous.now)
 
 pub returns-then-branch-clause-changed : goal.returns-then-branch-clause-changed
 returns-then-branch-clause-changed c = mended_covered c.args.net.now c.args.sessions.now c.args.router c.args.changes.now c.args.previous.now c.in_ok-made.made.paths c.in_ok-made.made.changed c.in_ok-made.ensures

@@ -14,7 +14,7 @@ returns-then-is_empty c =
 pub returns : goal.returns
 returns c =
     let paths = c.args.paths.now in
-    let index = c.loop-path.path-index in
-    let none : drop index paths ≡ [] = drop_all index paths (omega (arith, c.loop-path-test.false)) in
-    let pushed : c.append.new.made ≡ c.loop-path.made ++ c.loop-path.left.items = cc c.in_ok-append.ensures in
-    all_learned c.loop-path.left.items c.loop-path.made (learned_routes (drop index paths)) c.append.new.made (merged c.args.table (learned_routes paths)) (ap learned_routes none) c.loop-path.invariant pushed
+    let index = c.loop-best.best-index in
+    let none : drop index paths ≡ [] = drop_all index paths (omega (arith, c.loop-best-test.false)) in
+    let pushed : c.append.new.made ≡ c.loop-best.made ++ c.loop-best.left.items = cc c.in_ok-append.ensures in
+    all_learned c.loop-best.left.items c.loop-best.made (learned_routes (drop index paths)) c.append.new.made (merged c.args.table (learned_routes paths)) (ap learned_routes none) c.loop-best.invariant pushed
