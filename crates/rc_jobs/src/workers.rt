@@ -1,6 +1,5 @@
 //! Shares by workers, at once or one after another.
-ghost use Rattle.std.specs.Prelude.{◌≡◌, ◌≢◌, ℕ, ◌+◌, ◌<◌, ◌≤◌, ◌⊎◌, IfOk, IfErr, OnErr};
-ghost use Rattle.std.specs.Thread.{IsSync, IsSend};
+ghost use Rattle.std.specs.Prelude.{◌≡◌, ◌≢◌, ◌≤◌, ◌⊎◌, Ok, IfOk, IfErr, OnErr};
 ghost use Rattle.rc_bdd.specs.Work.{IsCause};
 ghost use Rattle.rc_outside.specs.Gate.{passage};
 ghost use Rattle.rc_outside.specs.Shares.{share_start};
@@ -10,8 +9,9 @@ use crate::job::Job;
 use rc_bdd::{SetError, Work};
 use rc_nodes::{May, Nodes, Seat};
 use rc_outside::{Gate, Passed};
+use rc_shares::{Shared, at_once, share_start};
 use std::alloc::Global;
-use std::thread::{Threads, join};
+use std::thread::Threads;
 
 /// The share of workers who have passed the gate.
 fn share_of<M: May, J: Job>(
@@ -33,55 +33,20 @@ fn share_of<M: May, J: Job>(
     ensures cause { IfErr result (IsCause nodes.now work.new) }
 {
     let count = job.items();
-    let from = count * passed.first() as usize / workers as usize;
-    let to = count * passed.last() as usize / workers as usize;
+    let from = share_start(count, workers, passed.first());
+    let to = share_start(count, workers, passed.last());
     job.share(alloc, work, nodes, from, to)
 }
 
-/// A worker passes the gate and makes its share, with a memo of its own.
-fn work_alone<M: May, J: Job, G: Gate>(
-    alloc: Global,
-    nodes: &Nodes<M>,
-    seat: Seat<M>,
-    job: &J,
-    phase: u32,
-    workers: u32,
-    worker: u32,
-    gate: &G,
-) -> (Seat<M>, Passed, Result<J::Made, SetError>)
-    requires seat { IsSeatOf nodes.now seat }
-    requires ready { J.ready job.now nodes.now seat }
-    requires few { J.count job.now ≤ 4294967295 }
-    requires worker { worker < workers }
-    requires most { workers ≤ 64 }
-    ensures seat { IsSeatOf nodes.now result.0 }
-    ensures keeps { Keeps seat result.0 }
-    ensures passed { result.1 ≡ passage phase worker (worker + 1) }
-    ensures made { IfOk result.2 (J.knows job.now result.0 (share_start (J.count job.now) workers worker) (share_start (J.count job.now) workers (worker + 1))) }
-    ensures cause { IfErr result.2 (IsCause nodes.now result.0) }
-{
-    let passed = Passed::at(gate, phase, worker);
-    let mut work = Work::new(alloc, seat);
-    let made = share_of(alloc, &mut work, nodes, job, workers, &passed);
-    (work.into_seat(), passed, made)
-}
-
-/// What two halves of the workers made, as one. Want of memory comes before a full table.
-fn both<J: Job>(
-    job: &J,
-    left: Result<J::Made, SetError>,
-    right: Result<J::Made, SetError>,
-) -> Result<J::Made, SetError>
-    ensures made { (seat : SeatView) (a b c : ℕ) → IfOk left (J.knows job.now seat a b) → IfOk right (J.knows job.now seat b c) → IfOk result (J.knows job.now seat a c) }
+/// What two halves of the workers made, where both made something. Want of memory comes before a full table.
+fn both<T: Drop>(left: Result<T, SetError>, right: Result<T, SetError>) -> Result<(T, T), SetError>
+    ensures made { IfOk result (λ p. (left ≡ Ok p.0) × (right ≡ Ok p.1)) }
     ensures cause { (nodes : TableView) (seat : SeatView) → IfErr left (IsCause nodes seat) → IfErr right (IsCause nodes seat) → IfErr result (IsCause nodes seat) }
     ensures memory { (left ≡ Err SetError.Memory) ⊎ (right ≡ Err SetError.Memory) → result ≡ Err SetError.Memory }
     ensures full { (left ≡ Err SetError.Full) ⊎ (right ≡ Err SetError.Full) → left ≢ Err SetError.Memory → right ≢ Err SetError.Memory → result ≡ Err SetError.Full }
 {
     match (left, right) {
-        (Ok(left), Ok(right)) => match job.together(left, right) {
-            Ok(whole) => Ok(whole),
-            Err(_) => Err(SetError::Memory),
-        },
+        (Ok(left), Ok(right)) => Ok((left, right)),
         (Err(SetError::Full), Ok(_)) => Err(SetError::Full),
         (Ok(_), Err(SetError::Full)) => Err(SetError::Full),
         (Err(SetError::Full), Err(SetError::Full)) => Err(SetError::Full),
@@ -89,57 +54,72 @@ fn both<J: Job>(
     }
 }
 
-/// The shares of the workers from `first` up to `last`, at once, each of whom has passed the gate before. The seat comes back in every outcome.
-fn work<R: Threads + Sync, M: May + Send + Sync, J: Job, G: Gate>(
-    rt: &R,
-    alloc: Global,
-    nodes: &Nodes<M>,
-    mut seat: Seat<M>,
-    job: &J,
-    phase: u32,
-    workers: u32,
-    first: u32,
-    last: u32,
-    gate: &G,
-) -> (Seat<M>, Passed, Result<J::Made, SetError>)
-    requires seat { IsSeatOf nodes.now seat }
-    requires ready { J.ready job.now nodes.now seat }
-    requires few { J.count job.now ≤ 4294967295 }
-    requires order { first < last }
-    requires end { last ≤ workers }
-    requires most { workers ≤ 64 }
-    ensures seat { IsSeatOf nodes.now result.0 }
-    ensures keeps { Keeps seat result.0 }
-    ensures passed { result.1 ≡ passage phase first last }
-    ensures made { IfOk result.2 (J.knows job.now result.0 (share_start (J.count job.now) workers first) (share_start (J.count job.now) workers last)) }
-    ensures cause { IfErr result.2 (IsCause nodes.now result.0) }
-{
-    if last - first == 1 {
-        return work_alone(alloc, nodes, seat, job, phase, workers, first, gate);
+/// A job over a table, whose workers each have a seat to themselves.
+#[derive(Drop)]
+struct OverTable<'a, M: May, J> {
+    nodes: &'a Nodes<M>,
+    job: &'a J,
+}
+
+impl<'a, M: May + Send + Sync, J: Job> Shared for OverTable<'a, M, J> {
+    ghost use Rattle.rc_jobs.specs.Shares.{IsMadeOf};
+    ghost use Rattle.rc_nodes.specs.Seats.{IsSeatOf};
+
+    type Own = Seat<M>;
+
+    type Made = (Seat<M>, Result<J::Made, SetError>);
+
+    ghost count = { λ s. J.count s.job.now };
+
+    ghost ready = { λ s seat. IsSeatOf s.nodes.now seat × J.ready s.job.now s.nodes.now seat };
+
+    ghost parts = { λ s seat mine theirs. Keeps seat mine × Keeps seat theirs };
+
+    ghost makes = { λ s seat a b made. IsMadeOf s.nodes.now (J.knows s.job.now) seat a b made.0 made.1 };
+
+    fn items(&self) -> usize {
+        self.job.items()
     }
-    let middle = first + (last - first) / 2;
-    let other = nodes.split(&mut seat);
-    let ((mut mine, passed, left), (theirs, behind, right)) = join(
-        rt,
-        || -> (Seat<M>, Passed, Result<J::Made, SetError>)
-            requires { IsSync R.row × IsSync M.row × IsSend M.row × IsSync J.row × IsSeatOf nodes.now seat × J.ready job.now nodes.now seat × (J.count job.now ≤ 4294967295) × (first < middle) × (middle ≤ workers) × (workers ≤ 64) }
-            ensures { IsSeatOf nodes.entry.now result.0 × Keeps seat result.0 × (result.1 ≡ passage phase first middle) × IfOk result.2 (J.knows job.entry.now result.0 (share_start (J.count job.entry.now) workers first) (share_start (J.count job.entry.now) workers middle)) × IfErr result.2 (IsCause nodes.entry.now result.0) }
-        {
-            work(
-                rt, alloc, nodes, seat, job, phase, workers, first, middle, gate,
-            )
-        },
-        || -> (Seat<M>, Passed, Result<J::Made, SetError>)
-            requires { IsSync R.row × IsSync M.row × IsSend M.row × IsSync J.row × IsSeatOf nodes.now other × J.ready job.now nodes.now other × (J.count job.now ≤ 4294967295) × (middle < last) × (last ≤ workers) × (workers ≤ 64) }
-            ensures { IsSeatOf nodes.entry.now result.0 × Keeps other result.0 × (result.1 ≡ passage phase middle last) × IfOk result.2 (J.knows job.entry.now result.0 (share_start (J.count job.entry.now) workers middle) (share_start (J.count job.entry.now) workers last)) × IfErr result.2 (IsCause nodes.entry.now result.0) }
-        {
-            work(
-                rt, alloc, nodes, other, job, phase, workers, middle, last, gate,
-            )
-        },
-    );
-    nodes.join(&mut mine, theirs);
-    (mine, passed.and(behind), both(job, left, right))
+
+    fn few(&self) -> usize {
+        1
+    }
+
+    /// With a memo of its own.
+    fn share(
+        &self,
+        alloc: Global,
+        seat: Seat<M>,
+        from: usize,
+        to: usize,
+    ) -> (Seat<M>, Result<J::Made, SetError>) {
+        let mut work = Work::new(alloc, seat);
+        let made = self.job.share(alloc, &mut work, self.nodes, from, to);
+        (work.into_seat(), made)
+    }
+
+    fn part(&self, mut seat: Seat<M>) -> (Seat<M>, Seat<M>) {
+        let other = self.nodes.split(&mut seat);
+        (seat, other)
+    }
+
+    fn together(
+        &self,
+        left: (Seat<M>, Result<J::Made, SetError>),
+        right: (Seat<M>, Result<J::Made, SetError>),
+    ) -> (Seat<M>, Result<J::Made, SetError>) {
+        let (mut mine, left) = left;
+        let (theirs, right) = right;
+        self.nodes.join(&mut mine, theirs);
+        let (left, right) = match both(left, right) {
+            Ok(parts) => parts,
+            Err(error) => return (mine, Err(error)),
+        };
+        match self.job.together(left, right) {
+            Ok(whole) => (mine, Ok(whole)),
+            Err(_) => (mine, Err(SetError::Memory)),
+        }
+    }
 }
 
 /// The whole job by all workers at once, each with a seat split off and a memo of its own. Each passes the gate before its work.
@@ -166,9 +146,9 @@ pub fn by_workers<R: Threads + Sync, M: May + Send + Sync, J: Job, G: Gate>(
     ensures made { IfOk result.2 (J.knows job.now result.0 0 (J.count job.now)) }
     ensures cause { IfErr result.2 (IsCause nodes.now result.0) }
 {
-    work(
-        rt, alloc, nodes, seat, job, phase, workers, 0, workers, gate,
-    )
+    let shared = OverTable { nodes, job };
+    let (passed, (seat, made)) = at_once(rt, alloc, &shared, seat, workers, phase, gate);
+    (seat, passed, made)
 }
 
 /// What the workers before made, with the share of one who has passed the gate. Where they failed, none is made.

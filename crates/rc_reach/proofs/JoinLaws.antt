@@ -1,9 +1,8 @@
--- The rounds over numbers make the trees of the query's recipes, by operations that are among the recipes' own.
-use Rattle.std.proofs.Common.{refl, ◌≡◌, ap, sym, ◌∙◌, subst, ℕ, zero, suc, ◌<◌, true, cond, List, [], ◌∷◌, ◌++◌, map, length, slice_index_or, All, inl, inr, arith}
+-- What is gathered in rounds over numbers makes the trees of the query's recipes, by operations that are among the recipes' own.
+use Rattle.std.proofs.Common.{refl, ◌≡◌, ap, sym, ◌∙◌, subst, ℕ, zero, suc, ◌<◌, true, cond, List, [], ◌∷◌, ◌++◌, map, length, slice_index_or, inl, inr, arith}
 use Rattle.std.specs.Prelude.{◌==◌, flat_map}
 use Rattle.std.specs.List.{fold}
 use Rattle.std.proofs.lemmas.Bool.Decides.{nat_tests, same_from_decides}
-use Rattle.std.proofs.lemmas.List.Elements.{All-head, All-tail}
 use Rattle.std.proofs.lemmas.List.FromFn.{fill_by_all}
 use Rattle.rc_base.proofs.KeepLaws.{In}
 use Rattle.rc_base.specs.Positions.{same_position}
@@ -26,8 +25,7 @@ use Rattle.rc_edges.specs.Endings.{end}
 use Rattle.rc_edges.specs.Query.{kinds_of, query_nodes, reached, reaching}
 use Rattle.rc_edges.proofs.QueryLaws.{coming, may_be_made, result-reached}
 use Rattle.rc_edges.specs.Prepare.{edge_at, ends_at}
-use Rattle.rc_reach.specs.Rounds.{arrived, ending_after, gathered, MayEnd, MayGather, MayRounds}
-use Rattle.rc_reach.proofs.PositionLaws.{all_positions}
+use Rattle.rc_reach.specs.Rounds.{gathered, reached_at, MayGather, MayRounds}
 
 -- ---- sets and flows, one beside the other
 
@@ -78,7 +76,7 @@ in-at [] i d less = absurd (omega arith)
 in-at (x ∷ xs) zero d less = inl refl
 in-at (x ∷ xs) (suc i) d less = inr (in-at xs i d (omega arith))
 
-module _ (plane : DataPlane) (place : ℕ) where
+module _ (plane : DataPlane) where
   abbrev pub count : ℕ
   count = length (members.positions plane.network)
 
@@ -105,73 +103,91 @@ module _ (plane : DataPlane) (place : ℕ) where
       by_place : at p ≡ at q → (p == q) ≡ true
       by_place e = equal_test (sym (number_at plane.network p low) ∙ ap (number_of plane.network) e ∙ number_at plane.network q high)
 
-  abbrev now : ℕ → ℕ → Tree
-  now k q = arrived (edge_at plane) count place k q
+  module _ (place : Pos) where
+    abbrev now : ℕ → ℕ → Tree
+    now k q = reached_at plane place k q
 
-  -- ---- a round
+    -- ---- a round
 
-  beside-edges : (k q : ℕ) → ((p : ℕ) → p < count → tree (reached plane (at place) k (at p)) ≡ now k p) → (ns : List ℕ) → All (λ n. n < count) ns → AreBeside (now k) (map (coming plane (at place) k (at q)) (map at ns)) (edges_to (edge_at plane) ns q)
-  beside-edges k q known [] all = tt
-  beside-edges k q known (n ∷ ns) all =
-      ((λ i. trees.and (known n (All-head (λ n. n < count) n ns all) i) (edge_at plane n q)), beside-edges k q known ns (All-tail (λ n. n < count) n ns all))
+    -- at first all headers are at the place
+    pub reached-first : (n : ℕ) → n < count → at n ≡ place → (q : ℕ) → q < count → now 0 q ≡ cond (n == q) always never
+    unfolding reached
+    reached-first n low is q less = ap (λ b. cond b always never) (ap (λ p. same_position p (at q)) (sym is) ∙ same_place n q low less)
 
-  -- what comes in a round, as a list of sets
-  round-listed : (k : ℕ) (q : Pos) → reached plane (at place) (suc k) q ≡ joined (reached plane (at place) k q) (map (coming plane (at place) k q) (map at (positions count)))
-  unfolding reached
-  round-listed k q = fold-map (coming plane (at place) k q) (members.positions plane.network) (reached plane (at place) k q) ∙ ap (λ qs. joined (reached plane (at place) k q) (map (coming plane (at place) k q) qs)) listed
+    beside-edges : (k q : ℕ) (ns : List ℕ) → AreBeside (now k) (map (coming plane place k (at q)) (map at ns)) (edges_to (edge_at plane) ns q)
+    beside-edges k q [] = tt
+    beside-edges k q (n ∷ ns) = (refl, beside-edges k q ns)
 
-  module _ (low : place < count) where
-    -- after k rounds the trees are those of the query
-    pub reached-arrived : (k q : ℕ) → q < count → tree (reached plane (at place) k (at q)) ≡ now k q
-    unfolding reached arrived
-    reached-arrived zero q less = ap (λ b. cond b always never) (same_place place q low less)
-    reached-arrived (suc k) q less =
-        let before : (p : ℕ) → p < count → tree (reached plane (at place) k (at p)) ≡ now k p = λ p fits. reached-arrived k p fits in
+    -- what comes in a round, as a list of sets
+    round-listed : (k : ℕ) (q : Pos) → reached plane place (suc k) q ≡ joined (reached plane place k q) (map (coming plane place k q) (map at (positions count)))
+    unfolding reached
+    round-listed k q = fold-map (coming plane place k q) (members.positions plane.network) (reached plane place k q) ∙ ap (λ qs. joined (reached plane place k q) (map (coming plane place k q) qs)) listed
+
+    -- a round more is what all positions send
+    pub reached-next : (k q : ℕ) → now (suc k) q ≡ gathered (now k) (now k q) (edges_to (edge_at plane) (positions count) q)
+    reached-next k q =
         ap tree (round-listed k (at q))
-        ∙ tree-joined (now k) (map (coming plane (at place) k (at q)) (map at (positions count))) (edges_to (edge_at plane) (positions count) q) (beside-edges k q before (positions count) (all_positions count)) (reached plane (at place) k (at q)) (now k q) (before q less)
+        ∙ tree-joined (now k) (map (coming plane place k (at q)) (map at (positions count))) (edges_to (edge_at plane) (positions count) q) (beside-edges k q (positions count)) (reached plane place k (at q)) (now k q) refl
 
     -- ---- the result
 
     module _ (ends : Ends) where
       abbrev ended : ℕ → Kind → Recipe
-      ended q k = and (reached plane (at place) count (at q)) (end plane (at q) k)
+      ended q k = and (reached plane place count (at q)) (end plane (at q) k)
 
-      beside-kinds : (q : ℕ) → q < count → (ks : List Kind) → AreBeside (now count) (map (ended q) ks) (map (λ e. (q, e)) (map (λ k. tree (end plane (at q) k)) ks))
-      beside-kinds q less [] = tt
-      beside-kinds q less (k ∷ ks) = ((λ i. trees.and (reached-arrived count q less i) (tree (end plane (at q) k))), beside-kinds q less ks)
+      beside-kinds : (q : ℕ) (ks : List Kind) → AreBeside (now count) (map (ended q) ks) (map (λ e. (q, e)) (map (λ k. tree (end plane (at q) k)) ks))
+      beside-kinds q [] = tt
+      beside-kinds q (k ∷ ks) = (refl, beside-kinds q ks)
 
       abbrev ended_at : Pos → List Recipe
-      ended_at q = map (λ k. and (reached plane (at place) count q) (end plane q k)) (kinds_of ends)
+      ended_at q = map (λ k. and (reached plane place count q) (end plane q k)) (kinds_of ends)
 
-      beside-ends : (ns : List ℕ) → All (λ n. n < count) ns → AreBeside (now count) (flat_map ended_at (map at ns)) (endings_of (ends_at plane ends) ns)
-      beside-ends [] all = tt
-      beside-ends (n ∷ ns) all =
+      beside-ends : (ns : List ℕ) → AreBeside (now count) (flat_map ended_at (map at ns)) (endings_of (ends_at plane ends) ns)
+      beside-ends [] = tt
+      beside-ends (n ∷ ns) =
           beside-append (now count) (ended_at (at n)) (map (λ e. (n, e)) (ends_at plane ends n)) (flat_map ended_at (map at ns)) (endings_of (ends_at plane ends) ns)
-          (beside-kinds n (All-head (λ n. n < count) n ns all) (kinds_of ends)) (beside-ends ns (All-tail (λ n. n < count) n ns all))
+          (beside-kinds n (kinds_of ends)) (beside-ends ns)
 
-      result-listed : reaching plane (at place) ends ≡ joined (given never) (flat_map ended_at (map at (positions count)))
+      result-listed : reaching plane place ends ≡ joined (given never) (flat_map ended_at (map at (positions count)))
       unfolding reaching
       result-listed = ap (λ qs. joined (given never) (flat_map ended_at qs)) listed
 
-      -- and the result's tree is that of the query
-      pub reaching-ending : tree (reaching plane (at place) ends) ≡ ending_after (edge_at plane) count place (ends_at plane ends) count
+      -- the result's tree is what has come to the endings
+      reaching-ending : tree (reaching plane place ends) ≡ gathered (now count) never (endings_of (ends_at plane ends) (positions count))
       reaching-ending =
           ap tree result-listed
-          ∙ tree-joined (now count) (flat_map ended_at (map at (positions count))) (endings_of (ends_at plane ends) (positions count)) (beside-ends (positions count) (all_positions count)) (given never) never refl
+          ∙ tree-joined (now count) (flat_map ended_at (map at (positions count))) (endings_of (ends_at plane ends) (positions count)) (beside-ends (positions count)) (given never) never refl
 
       -- ---- by the query's operations alone
 
-      module _ (may : List Tree) (has : HasNodes may (query_nodes plane (at place) ends)) where
-        pub may_end : MayEnd may (edge_at plane) (ends_at plane ends) count place
+      module _ (may : List Tree) (has : HasNodes may (query_nodes plane place ends)) where
+        may_end : MayGather may (now count) never (endings_of (ends_at plane ends) (positions count))
         may_end =
-            let all : HasNodes may (parts (reaching plane (at place) ends)) = λ t there is. has t (may_be_made plane (at place) ends (reaching plane (at place) ends) (λ x h. h) t there is) is in
-            may-joined (now count) may (flat_map ended_at (map at (positions count))) (endings_of (ends_at plane ends) (positions count)) (beside-ends (positions count) (all_positions count)) (given never) never refl
+            let all : HasNodes may (parts (reaching plane place ends)) = λ t there is. has t (may_be_made plane place ends (reaching plane place ends) (λ x h. h) t there is) is in
+            may-joined (now count) may (flat_map ended_at (map at (positions count))) (endings_of (ends_at plane ends) (positions count)) (beside-ends (positions count)) (given never) never refl
             (subst (λ r. HasNodes may (parts r)) result-listed all)
 
-        pub may_rounds : (some : Kind) → In some (kinds_of ends) → MayRounds may (edge_at plane) count place
+        may_rounds : (some : Kind) → In some (kinds_of ends) → MayRounds may plane place count
         may_rounds some asked k q further less =
             let there : In (at q) (members.positions plane.network) = in-at (members.positions plane.network) q (Own 0) less in
-            let uses = result-reached plane (at place) ends some asked (suc k) (at q) (omega arith) there in
-            let all : HasNodes may (parts (reached plane (at place) (suc k) (at q))) = λ t h is. has t (may_be_made plane (at place) ends (reached plane (at place) (suc k) (at q)) uses t h is) is in
-            may-joined (now k) may (map (coming plane (at place) k (at q)) (map at (positions count))) (edges_to (edge_at plane) (positions count) q) (beside-edges k q (λ p fits. reached-arrived k p fits) (positions count) (all_positions count)) (reached plane (at place) k (at q)) (now k q) (reached-arrived k q less)
+            let uses = result-reached plane place ends some asked (suc k) (at q) (omega arith) there in
+            let all : HasNodes may (parts (reached plane place (suc k) (at q))) = λ t h is. has t (may_be_made plane place ends (reached plane place (suc k) (at q)) uses t h is) is in
+            may-joined (now k) may (map (coming plane place k (at q)) (map at (positions count))) (edges_to (edge_at plane) (positions count) q) (beside-edges k q (positions count)) (reached plane place k (at q)) (now k q) refl
             (subst (λ r. HasNodes may (parts r)) (round-listed k (at q)) all)
+
+    -- ---- the same at so many positions
+
+    module _ (m : ℕ) (many : m ≡ count) where
+      pub place_next : (k q : ℕ) → now (suc k) q ≡ gathered (now k) (now k q) (edges_to (edge_at plane) (positions m) q)
+      place_next k q = subst (λ c. now (suc k) q ≡ gathered (now k) (now k q) (edges_to (edge_at plane) (positions c) q)) (sym many) (reached-next k q)
+
+      module _ (ends : Ends) where
+        pub place_result : gathered (now m) never (endings_of (ends_at plane ends) (positions m)) ≡ tree (reaching plane place ends)
+        place_result = subst (λ c. gathered (now c) never (endings_of (ends_at plane ends) (positions c)) ≡ tree (reaching plane place ends)) (sym many) (sym (reaching-ending ends))
+
+        module _ (may : List Tree) (has : HasNodes may (query_nodes plane place ends)) where
+          pub place_end : MayGather may (now m) never (endings_of (ends_at plane ends) (positions m))
+          place_end = subst (λ c. MayGather may (now c) never (endings_of (ends_at plane ends) (positions c))) (sym many) (may_end ends may has)
+
+          pub place_rounds : (some : Kind) → In some (kinds_of ends) → MayRounds may plane place m
+          place_rounds some asked = subst (λ c. MayRounds may plane place c) (sym many) (may_rounds ends may has some asked)

@@ -1,9 +1,8 @@
--- The joining laws at the number of a place, and what the result says.
-use Rattle.std.proofs.Common.{◌≡◌, ◌↔◌, ap, sym, ◌∙◌, subst, ℕ, ◌<◌, true, List, length, Result, Ok, Err, IfErr, arith}
+-- What stands at first, what is known for good, and what the result says.
+use Rattle.std.proofs.Common.{◌≡◌, ◌↔◌, ap, ◌∙◌, subst, ℕ, ◌<◌, true, cond, List, length, Result, Ok, Err, IfErr, arith}
+use Rattle.std.specs.Prelude.{◌==◌}
 use Rattle.std.specs.Set.{distinct_count}
-use Rattle.rc_base.proofs.KeepLaws.{In}
 use Rattle.rc_base.specs.declared.ending.Ends.{Ends}
-use Rattle.rc_base.specs.declared.ending.Kind.{Kind}
 use Rattle.rc_base.specs.declared.position.Pos.{Pos}
 use Rattle.rc_bdd.specs.Work.{IsCause}
 use Rattle.rc_bdd.specs.declared.work.SetError.{SetError}
@@ -12,43 +11,31 @@ use Rattle.rc_config.specs.Lawful.{IsPosition}
 use Rattle.rc_config.specs.Members.{positions}
 use Rattle.rc_edges.proofs.ResultLaws.{result_is_reaching}
 use Rattle.rc_edges.specs.Planes.{IsPlane}
-use Rattle.rc_edges.specs.Query.{IsReaching, kinds_of, query_nodes, reaching}
+use Rattle.rc_edges.specs.Query.{IsReaching, reaching}
+use Rattle.rc_jobs.specs.Flows.{IsPrepared}
+use Rattle.rc_jobs.specs.declared.flow.Prepared.{Prepared}
 use Rattle.rc_nodes.proofs.CountLaws.{more_than_slots}
 use Rattle.rc_nodes.proofs.KnownLaws.{known_reduced, one_known}
-use Rattle.rc_nodes.specs.Seats.{TableView, SeatView, IsSeatOf, SeatKnows}
+use Rattle.rc_nodes.specs.Seats.{TableView, SeatView, IsSeatOf, SeatKnows, Keeps}
 use Rattle.rc_places.proofs.PlaceLaws.{number_there}
 use Rattle.rc_places.specs.Places.{number_of, position_at}
-use Rattle.rc_reach.proofs.JoinLaws.{may_end, may_rounds, reaching-ending}
-use Rattle.rc_edges.specs.Prepare.{edge_at, ends_at}
+use Rattle.rc_reach.proofs.JoinLaws.{reached-first}
+use Rattle.rc_reach.specs.Kept.{edges_kept, flows_kept}
 use Rattle.rc_reach.specs.Reaching.{IsReachingSet}
-use Rattle.rc_reach.specs.Rounds.{ending_after, MayEnd, MayRounds}
+use Rattle.rc_reach.specs.Rounds.{reached_at}
 use Rattle.rc_trees.specs.Recipes.{tree}
-use Rattle.rc_trees.specs.Trees.{Tree, HasNodes, holds, same_tree}
+use Rattle.rc_trees.specs.Trees.{Tree, always, never, holds, same_tree}
 use Rattle.rc_walk.specs.Moves.{DataPlane}
 
-module _ (plane : DataPlane) (place : Pos) (there : IsPosition plane.network place) (n m : ℕ) (is : n ≡ number_of plane.network place) (many : m ≡ length (positions plane.network)) (ends : Ends) where
-  same : position_at plane.network n ≡ place
-  same = ap (position_at plane.network) is ∙ (number_there plane.network place there).1
+-- before the first round all headers are at the place of the number
+pub place_first : (plane : DataPlane) (place : Pos) → IsPosition plane.network place → (n m : ℕ) → n ≡ number_of plane.network place → m ≡ length (positions plane.network) → (q : ℕ) → q < m → reached_at plane place 0 q ≡ cond (n == q) always never
+place_first plane place there n m is many q less =
+    let below = (number_there plane.network place there).0 in
+    reached-first plane place n (omega arith) (ap (position_at plane.network) is ∙ (number_there plane.network place there).1) q (omega arith)
 
-  low : n < length (positions plane.network)
-  low = let below = (number_there plane.network place there).0 in omega arith
-
-  -- the result's tree
-  pub place_result : ending_after (edge_at plane) m n (ends_at plane ends) m ≡ tree (reaching plane place ends)
-  place_result =
-      ap (λ k. ending_after (edge_at plane) k n (ends_at plane ends) k) many
-      ∙ sym (reaching-ending plane n low ends)
-      ∙ ap (λ p. tree (reaching plane p ends)) same
-
-  module _ (may : List Tree) (has : HasNodes may (query_nodes plane place ends)) where
-    has_there : HasNodes may (query_nodes plane (position_at plane.network n) ends)
-    has_there = subst (λ p. HasNodes may (query_nodes plane p ends)) (sym same) has
-
-    pub place_end : MayEnd may (edge_at plane) (ends_at plane ends) m n
-    place_end = subst (λ k. MayEnd may (edge_at plane) (ends_at plane ends) k n) (sym many) (may_end plane n low ends may has_there)
-
-    pub place_rounds : (some : Kind) → In some (kinds_of ends) → MayRounds may (edge_at plane) m n
-    place_rounds some asked = subst (λ k. MayRounds may (edge_at plane) k n) (sym many) (may_rounds plane n low ends may has_there some asked)
+-- what was known of the sets of a query is so for good
+pub prepared_kept : (v w : SeatView) → Keeps v w → {edge : ℕ → ℕ → Tree} {ends : ℕ → List Tree} {count : ℕ} {prepared : Prepared} → IsPrepared v edge ends count prepared → IsPrepared w edge ends count prepared
+prepared_kept v w keeps p = record { as_many = p.as_many; edges = edges_kept v w keeps p.edges; endings = flows_kept v w keeps p.endings }
 
 -- a known result says what reaches
 pub known_reaches : (plane : DataPlane) → IsPlane plane → (place : Pos) → IsPosition plane.network place → (ends : Ends) (nodes : TableView) (seat : SeatView) → IsSeatOf nodes seat → (r : ℕ) → SeatKnows seat r (tree (reaching plane place ends)) → (t : Tree) → SeatKnows seat r t → IsReachingSet plane place ends t

@@ -1,5 +1,5 @@
 -- One set reaches.
-use Rattle.std.proofs.Common.{refl, ◌≡◌, sym, ◌∙◌, Bool, true, false}
+use Rattle.std.proofs.Common.{refl, ◌≡◌, sym, Bool, true, false}
 use Rattle.std.specs.Prelude.{◌↔◌}
 use Rattle.rc_base.specs.declared.ending.Ends.{Ends}
 use Rattle.rc_base.specs.declared.position.Pos.{Pos}

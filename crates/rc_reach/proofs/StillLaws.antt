@@ -5,7 +5,8 @@ use Rattle.std.proofs.lemmas.List.FromFn.{length-map-range_with_len, get_or-map-
 use Rattle.rc_trees.specs.Trees.{Tree}
 use Rattle.rc_trees.specs.Combine.{and, or}
 use Rattle.rc_jobs.specs.Flows.{edges_to, positions}
-use Rattle.rc_reach.specs.Rounds.{gathered, arrived, arrived_before, IsInside}
+use Rattle.rc_reach.specs.Known.{StaysStill}
+use Rattle.rc_reach.specs.Rounds.{before, gathered, IsInside}
 use Rattle.rc_reach.proofs.GatherLaws.{nothing_sent, sent_inside}
 use Rattle.rc_reach.proofs.PositionLaws.{edges_all}
 
@@ -15,33 +16,42 @@ gathered_agree f g [] s all = refl
 gathered_agree f g (e ∷ es) s all =
     ap (λ t. gathered f (or s (and t e.1)) es) (All-head (λ (e : ℕ × Tree). f e.0 ≡ g e.0) e es all) ∙ gathered_agree f g es (or s (and (g e.0) e.1)) (All-tail (λ (e : ℕ × Tree). f e.0 ≡ g e.0) e es all)
 
-module _ (edge : ℕ → ℕ → Tree) (count place : ℕ) where
-  abbrev now : ℕ → ℕ → Tree
-  now k q = arrived edge count place k q
-
+-- sets of which each position gets in a round what all positions send there
+module _ (edge : ℕ → ℕ → Tree) (count : ℕ) (sets : ℕ → ℕ → Tree) (round : (k q : ℕ) → sets (suc k) q ≡ gathered (sets k) (sets k q) (edges_to edge (positions count) q)) where
   -- what a position sends has come a round later
-  comes : (k p q : ℕ) → p < count → IsInside (and (now k p) (edge p q)) (now (suc k) q)
-  unfolding arrived
+  comes : (k p q : ℕ) → p < count → IsInside (and (sets k p) (edge p q)) (sets (suc k) q)
   comes k p q less =
       let flows : List (ℕ × Tree) = edges_to edge (positions count) q in
       let many : length flows ≡ count = length-map-range_with_len (λ p. (p, edge p q)) 0 count in
       let at : slice_index_or flows p (p, edge p q) ≡ (p, edge p q) = get_or-map-range_with_len (λ p. (p, edge p q)) 0 count p p (p, edge p q) less (omega arith) in
-      subst (λ (f : ℕ × Tree). IsInside (and (now k f.0) f.1) (now (suc k) q)) at (sent_inside (arrived edge count place k) flows (arrived edge count place k q) p (p, edge p q) (omega arith))
+      let inside : IsInside (and (sets k p) (edge p q)) (gathered (sets k) (sets k q) flows) = subst (λ (f : ℕ × Tree). IsInside (and (sets k f.0) f.1) (gathered (sets k) (sets k q) flows)) at (sent_inside (sets k) flows (sets k q) p (p, edge p q) (omega arith)) in
+      subst (λ (t : Tree). IsInside (and (sets k p) (edge p q)) t) (sym (round k q)) inside
 
   -- a position that got nothing in the last round sends nothing new
-  pub settled_inside : (k p q : ℕ) → p < count → now k p ≡ arrived_before edge count place k p → IsInside (and (now k p) (edge p q)) (now k q)
-  settled_inside zero p q less still = subst (λ t. IsInside (and t (edge p q)) (now 0 q)) (sym still) (nothing_sent (edge p q) (now 0 q))
-  settled_inside (suc k) p q less still = subst (λ t. IsInside (and t (edge p q)) (now (suc k) q)) (sym still) (comes k p q less)
+  pub settled_inside : (k p q : ℕ) → p < count → sets k p ≡ before sets k p → IsInside (and (sets k p) (edge p q)) (sets k q)
+  settled_inside zero p q less still = subst (λ t. IsInside (and t (edge p q)) (sets 0 q)) (sym still) (nothing_sent (edge p q) (sets 0 q))
+  settled_inside (suc k) p q less still = subst (λ t. IsInside (and t (edge p q)) (sets (suc k) q)) (sym still) (comes k p q less)
 
   -- a round that changes nothing is followed by none that does
-  module _ (k : ℕ) (still : (q : ℕ) → q < count → now (suc k) q ≡ now k q) where
-    pub still_later : (n q : ℕ) → q < count → now (n + k) q ≡ now k q
-    unfolding arrived
-    still_later zero q less = let e : 0 + k ≡ k = omega arith in ap (λ m. now m q) e
-    still_later (suc n) q less =
-        let e : suc n + k ≡ suc (n + k) = omega arith in
-        let before : (p : ℕ) → p < count → now (n + k) p ≡ now k p = λ p low. still_later n p low in
-        ap (λ m. now m q) e
-        ∙ ap (λ s. gathered (arrived edge count place (n + k)) s (edges_to edge (positions count) q)) (before q less)
-        ∙ gathered_agree (arrived edge count place (n + k)) (arrived edge count place k) (edges_to edge (positions count) q) (arrived edge count place k q) (edges_all (λ p. now (n + k) p ≡ now k p) edge count q before)
-        ∙ still q less
+  pub gathered_still : StaysStill sets count
+  gathered_still = record {
+    next = λ k still q less.
+        round (suc k) q
+        ∙ ap (λ s. gathered (sets (suc k)) s (edges_to edge (positions count) q)) (still q less)
+        ∙ gathered_agree (sets (suc k)) (sets k) (edges_to edge (positions count) q) (sets k q) (edges_all (λ p. sets (suc k) p ≡ sets k p) edge count q still)
+        ∙ sym (round k q);
+  }
+
+-- nothing new in a round for all n later ones
+module _ (sets : ℕ → ℕ → Tree) (count : ℕ) (stays : StaysStill sets count) (k : ℕ) (still : (q : ℕ) → q < count → sets (suc k) q ≡ sets k q) where
+  stays_so : (n q : ℕ) → q < count → sets (suc (n + k)) q ≡ sets (n + k) q
+  stays_so zero q less = let e : zero + k ≡ k = omega arith in subst (λ m. sets (suc m) q ≡ sets m q) (sym e) (still q less)
+  stays_so (suc n) q less =
+      let e : suc n + k ≡ suc (n + k) = omega arith in
+      subst (λ m. sets (suc m) q ≡ sets m q) (sym e) (stays.next (n + k) (stays_so n) q less)
+
+  pub still_later : (n q : ℕ) → q < count → sets (n + k) q ≡ sets k q
+  still_later zero q less = let e : zero + k ≡ k = omega arith in ap (λ m. sets m q) e
+  still_later (suc n) q less =
+      let e : suc n + k ≡ suc (n + k) = omega arith in
+      ap (λ m. sets m q) e ∙ stays_so n q less ∙ still_later n q less

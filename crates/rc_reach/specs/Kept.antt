@@ -1,11 +1,13 @@
 -- What a seat knew of a propagation it knows for good.
 use Rattle.std.specs.Prelude.{ℕ, Bool, List}
+use Rattle.rc_base.specs.declared.position.Pos.{Pos}
 use Rattle.rc_nodes.specs.Seats.{TableView, SeatView, Keeps}
 use Rattle.rc_nodes.specs.declared.words.Ref.{Ref}
 use Rattle.rc_trees.specs.Trees.{Tree}
 use Rattle.rc_jobs.specs.Flows.{KnowsFlows, KnowsEdges}
 use Rattle.rc_jobs.specs.declared.flow.Flow.{Flow}
-use Rattle.rc_reach.specs.Known.{KnowsSets, KnowsShare, IsAfter, IsReady}
+use Rattle.rc_reach.specs.Known.{KnowsSets, KnowsShare, IsAfter, IsAtHand, MayCome}
+use Rattle.rc_walk.specs.Moves.{DataPlane}
 
 module _ (v w : SeatView) (keeps : Keeps v w) where
   pub sets_kept : {refs : List Ref} {sets : ℕ → Tree} {a : ℕ} → KnowsSets v refs sets a → KnowsSets w refs sets a
@@ -20,8 +22,11 @@ module _ (v w : SeatView) (keeps : Keeps v w) where
   pub edges_kept : {into : List (List Flow)} {edge : ℕ → ℕ → Tree} → KnowsEdges v into edge → KnowsEdges w into edge
   edges_kept k = record { each = λ q d less. flows_kept (k.each q d less) }
 
-  pub after_kept : {refs : List Ref} {fresh : List Bool} {edge : ℕ → ℕ → Tree} {count place k : ℕ} → IsAfter v refs fresh edge count place k → IsAfter w refs fresh edge count place k
-  after_kept a = record { as_many = a.as_many; sets = sets_kept a.sets; marks = a.marks; stale = a.stale }
+  pub after_kept : {refs : List Ref} {fresh : List Bool} {sets : ℕ → ℕ → Tree} {count k : ℕ} → IsAfter v refs fresh sets count k → IsAfter w refs fresh sets count k
+  after_kept a = record { as_many = a.as_many; known = sets_kept a.known; marks = a.marks; stale = a.stale }
 
-  pub ready_kept : {nodes : TableView} {edge : ℕ → ℕ → Tree} {into : List (List Flow)} {refs : List Ref} {fresh : List Bool} {place k : ℕ} → IsReady nodes v edge into refs fresh place k → IsReady nodes w edge into refs fresh place k
-  ready_kept r = record { edges = edges_kept r.edges; after = after_kept r.after; may = r.may; further = r.further }
+  pub at_hand_kept : {earlier later : Type 0} {refs : List Ref} {fresh : List Bool} {sets : ℕ → ℕ → Tree} {count k : ℕ} → (earlier → later) → IsAtHand earlier v refs fresh sets count k → IsAtHand later w refs fresh sets count k
+  at_hand_kept stays a = record { ready = stays a.ready; after = after_kept a.after; further = a.further }
+
+  pub coming_kept : {nodes : TableView} {plane : DataPlane} {place : Pos} {into : List (List Flow)} → MayCome nodes v plane place into → MayCome nodes w plane place into
+  coming_kept m = record { as_many = m.as_many; edges = edges_kept m.edges; may = m.may }

@@ -1,12 +1,16 @@
 -- What a seat knows of the sets of a propagation.
-use Rattle.std.specs.Prelude.{◌≡◌, ℕ, ◌+◌, ◌<◌, Bool, false, List, length, slice_index_or, All}
+use Rattle.std.specs.Prelude.{◌≡◌, ℕ, suc, ◌+◌, ◌<◌, Bool, false, List, length, slice_index_or, All}
+use Rattle.rc_base.specs.declared.position.Pos.{Pos}
+use Rattle.rc_config.specs.Members.{positions}
+use Rattle.rc_edges.specs.Prepare.{edge_at}
 use Rattle.rc_nodes.specs.Seats.{TableView, SeatView, SeatKnows}
 use Rattle.rc_nodes.specs.declared.words.Ref.{Ref}
 use Rattle.rc_trees.specs.Trees.{Tree}
 use Rattle.rc_trees.specs.Combine.{and}
 use Rattle.rc_jobs.specs.Flows.{KnowsFlows, KnowsEdges}
 use Rattle.rc_jobs.specs.declared.flow.Flow.{Flow}
-use Rattle.rc_reach.specs.Rounds.{arrived, arrived_before, IsInside, MayGather, MayRounds}
+use Rattle.rc_reach.specs.Rounds.{before, IsInside, MayGather, MayRounds}
+use Rattle.rc_walk.specs.Moves.{DataPlane}
 
 abbrev pub no_header : Ref
 no_header = record { index = 0 }
@@ -44,16 +48,25 @@ pub record MayGatherRefs (nodes : TableView) (seat : SeatView) (refs : List Ref)
 
 -- ---- rounds
 
--- after k rounds the seat knows what has come to each position, and where something fresh came in the last one
-pub record IsAfter (seat : SeatView) (refs : List Ref) (fresh : List Bool) (edge : ℕ → ℕ → Tree) (count place k : ℕ) : Type 0 where
+-- the seat knows the sets of the positions after k rounds, and where the last one changed them
+pub record IsAfter (seat : SeatView) (refs : List Ref) (fresh : List Bool) (sets : ℕ → ℕ → Tree) (count k : ℕ) : Type 0 where
   pub as_many : length refs ≡ count
-  pub sets : KnowsSets seat refs (arrived edge count place k) 0
+  pub known : KnowsSets seat refs (sets k) 0
   pub marks : length fresh ≡ count
-  pub stale : (p : ℕ) → p < count → slice_index_or fresh p false ≡ false → arrived edge count place k p ≡ arrived_before edge count place k p
+  pub stale : (p : ℕ) → p < count → slice_index_or fresh p false ≡ false → sets k p ≡ before sets k p
 
--- a round is at hand: the seat knows the edges and what has come to each position, and the operations of rounds may be done
-pub record IsReady (nodes : TableView) (seat : SeatView) (edge : ℕ → ℕ → Tree) (into : List (List Flow)) (refs : List Ref) (fresh : List Bool) (place k : ℕ) : Type 0 where
-  pub edges : KnowsEdges seat into edge
-  pub after : IsAfter seat refs fresh edge (length into) place k
-  pub may : MayRounds nodes.may edge (length into) place
-  pub further : k < length into
+-- a round that changes nothing is followed by none that does
+pub record StaysStill (sets : ℕ → ℕ → Tree) (count : ℕ) : Type 0 where
+  pub next : (k : ℕ) → ((q : ℕ) → q < count → sets (suc k) q ≡ sets k q) → (q : ℕ) → q < count → sets (suc (suc k)) q ≡ sets (suc k) q
+
+-- a round is at hand
+pub record IsAtHand (Ready : Type 0) (seat : SeatView) (refs : List Ref) (fresh : List Bool) (sets : ℕ → ℕ → Tree) (count k : ℕ) : Type 0 where
+  pub ready : Ready
+  pub after : IsAfter seat refs fresh sets count k
+  pub further : k < count
+
+-- the headers of a place may be propagated: the seat knows the edges into each position, and the operations of all rounds may be done
+pub record MayCome (nodes : TableView) (seat : SeatView) (plane : DataPlane) (place : Pos) (into : List (List Flow)) : Type 0 where
+  pub as_many : length into ≡ length (positions plane.network)
+  pub edges : KnowsEdges seat into (edge_at plane)
+  pub may : MayRounds nodes.may plane place (length into)

@@ -5,14 +5,19 @@
 //! of workers; and it knows that a table is full only where the query's operations have more different trees than the table has slots.
 #![tactic(auto)]
 
+mod coming;
 mod first;
+mod first_try;
 mod gather;
 mod laws;
+mod reached_set;
 mod reaching;
 mod result;
 mod round;
 mod rounds;
-mod sends;
+mod spread;
 
+pub use first_try::first_room;
 pub use laws::one_set_reaches;
+pub use reached_set::{ReachedSet, reached};
 pub use reaching::reach;

@@ -1,5 +1,5 @@
 //! The headers that reach an ending.
-ghost use Rattle.std.specs.Prelude.{◌≡◌, ◌<◌, ◌≤◌, length, IfOk, IfErr};
+ghost use Rattle.std.specs.Prelude.{◌≡◌, ◌<◌, ◌≤◌, true, length, IfOk, IfErr};
 ghost use Rattle.std.specs.List.{list_any};
 ghost use Rattle.std.specs.Set.{distinct_count};
 ghost use Rattle.rc_base.specs.Positions.{is_among};
@@ -8,7 +8,9 @@ ghost use Rattle.rc_bdd.specs.declared.work.SetError.TheVariants.{Full};
 ghost use Rattle.rc_config.specs.Lawful.{IsLawful, IsPosition};
 ghost use Rattle.rc_config.specs.Members.{positions};
 ghost use Rattle.rc_base.specs.Endings.{all_kinds};
+ghost use Rattle.rc_edges.specs.Prepare.{edge_at, ends_at};
 ghost use Rattle.rc_edges.specs.Query.{query_nodes, reaching};
+ghost use Rattle.rc_jobs.specs.Flows.{IsPrepared};
 ghost use Rattle.rc_nodes.specs.Seats.{IsSeatOf, Keeps, SeatKnows};
 ghost use Rattle.rc_places.specs.Places.{number_of};
 ghost use Rattle.rc_reach.specs.Reaching.{IsReachingSet};
@@ -16,12 +18,11 @@ ghost use Rattle.rc_topology.specs.Ports.{links_of};
 ghost use Rattle.rc_trees.specs.Recipes.{tree};
 ghost use Rattle.rc_trees.specs.Trees.{Tree, HasNodes, same_tree};
 
+use crate::coming::propagate;
 use crate::result::ended;
-use crate::rounds::propagate;
-use crate::sends::Sends;
 use rc_base::{Ends, Pos};
 use rc_bdd::{SetError, Work};
-use rc_edges::{Query, prepare};
+use rc_edges::prepare;
 use rc_jobs::Prepared;
 use rc_nodes::{May, NEVER, Nodes, Ref, Seat};
 use rc_outside::Gate;
@@ -29,14 +30,6 @@ use rc_places::Places;
 use rc_walk::Plane;
 use std::alloc::{AllocError, AllocGlobal, Global};
 use std::thread::Threads;
-
-impl<'a> Sends for Query<'a> {
-    ghost use Rattle.rc_edges.specs.Prepare.{edge_at, ends_at};
-
-    ghost edge = { λ q. edge_at q.plane.now };
-
-    ghost ends = { λ q. ends_at q.plane.now q.ends };
-}
 
 /// Whether some ending is asked for.
 fn is_asking(ends: &Ends) -> bool
@@ -59,6 +52,50 @@ fn number_of_place(alloc: Global, plane: &Plane<'_>, place: &Pos) -> Result<usiz
 {
     let places = Places::of(alloc, plane.network())?;
     Ok(places.number(place))
+}
+
+/// The headers that reach, by the edges and endings that were prepared, from the place of a number. Where these failed it makes nothing.
+fn reach_prepared<R: Threads + Sync, M: May + Send + Sync, G: Gate>(
+    rt: &R,
+    alloc: Global,
+    plane: &Plane<'_>,
+    place: Pos,
+    number: usize,
+    ends: Ends,
+    nodes: &Nodes<M>,
+    seat: Seat<M>,
+    prepared: Result<Prepared, SetError>,
+    workers: u32,
+    gate: &G,
+) -> (Seat<M>, Result<Ref, SetError>)
+    requires lawful { IsLawful plane.now.network }
+    requires place { IsPosition plane.now.network place }
+    requires number { number ≡ number_of plane.now.network place }
+    requires asking { list_any (is_among ends) all_kinds ≡ true }
+    requires seat { IsSeatOf nodes.now seat }
+    requires prepared { IfOk prepared (IsPrepared seat (edge_at plane.now) (ends_at plane.now ends) (length (positions plane.now.network))) }
+    requires cause { IfErr prepared (IsCause nodes.now seat) }
+    requires may { HasNodes nodes.now.may (query_nodes plane.now place ends) }
+    requires some { 1 ≤ workers }
+    requires most { workers ≤ 64 }
+    ensures seat { IsSeatOf nodes.now result.0 }
+    ensures keeps { Keeps seat result.0 }
+    ensures set { IfOk result.1 (λ r. SeatKnows result.0 r.index (tree (reaching plane.now place ends))) }
+    ensures cause { IfErr result.1 (IsCause nodes.now result.0) }
+    ensures failed { IfErr prepared (λ e. result.1 ≡ Err e) }
+{
+    let prepared = match prepared {
+        Ok(prepared) => prepared,
+        Err(error) => return (seat, Err(error)),
+    };
+    let work = Work::new(alloc, seat);
+    let (mut work, sets) = propagate(
+        rt, alloc, plane, &place, number, nodes, work, &prepared, workers, gate,
+    );
+    let made = ended(
+        alloc, &mut work, nodes, plane, &place, ends, &prepared, sets,
+    );
+    (work.into_seat(), made)
 }
 
 /// The set of the headers that reach, without a word on walks.
@@ -88,34 +125,13 @@ fn reach_within<R: Threads + Sync, M: May + Send + Sync, G: Gate>(
     if !is_asking(&ends) {
         return (seat, Ok(NEVER));
     }
-    let number = match number_of_place(alloc, plane, &place) {
-        Ok(number) => number,
-        Err(_) => return (seat, Err(SetError::Memory)),
+    let Ok(number) = number_of_place(alloc, plane, &place) else {
+        return (seat, Err(SetError::Memory));
     };
     let (seat, prepared) = prepare(rt, alloc, nodes, seat, plane, ends, workers);
-    let prepared = match prepared {
-        Ok(prepared) => prepared,
-        Err(error) => return (seat, Err(error)),
-    };
-    let query = Query { plane, place, ends };
-    let work = Work::new(alloc, seat);
-    let (mut work, sets) = propagate(
-        rt, alloc, nodes, work, &query, &prepared, number, workers, gate,
-    );
-    let sets = match sets {
-        Ok(sets) => sets,
-        Err(error) => return (work.into_seat(), Err(error)),
-    };
-    let made = ended(
-        alloc,
-        &mut work,
-        nodes,
-        &query,
-        &prepared,
-        number,
-        sets.as_slice(),
-    );
-    (work.into_seat(), made)
+    reach_prepared(
+        rt, alloc, plane, place, number, ends, nodes, seat, prepared, workers, gate,
+    )
 }
 
 /// The headers that some loop-free walk brings from a place to one of the endings asked for: the walks are those of rc_walk.

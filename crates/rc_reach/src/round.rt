@@ -1,53 +1,48 @@
 //! A round as a job for workers.
-ghost use Rattle.std.specs.Prelude.{◌≡◌, ◌+◌, ◌++◌, ◌≤◌, length, IfOk, IfErr};
+ghost use Rattle.std.specs.Prelude.{◌≡◌, ◌+◌, ◌++◌, ◌≤◌, IfOk, IfErr};
 ghost use Rattle.rc_bdd.specs.Work.{IsCause};
 ghost use Rattle.rc_nodes.specs.Seats.{IsSeatOf, Keeps};
-ghost use Rattle.rc_reach.specs.Known.{IsReady, KnowsShare};
-ghost use Rattle.rc_reach.specs.Rounds.{arrived};
+ghost use Rattle.rc_reach.specs.Known.{IsAtHand, KnowsShare};
 
-use crate::gather::gathered_set;
-use crate::sends::Sends;
+use crate::spread::Spread;
 use rc_bdd::{SetError, Work};
-use rc_jobs::{Job, Prepared};
+use rc_jobs::Job;
 use rc_nodes::{May, Nodes, Ref};
 use std::alloc::{AllocError, Global};
 
-/// A round of propagation: what stands at each position before it, and where something fresh came in the last one.
+/// A round: what stands at each position before it, and where the last one changed something.
 #[derive(Drop)]
-pub struct Round<'a, E: Sends> {
-    pub sends: &'a E,
-    pub prepared: &'a Prepared,
+pub struct Round<'a, S: Spread> {
+    pub spread: &'a S,
     pub sets: &'a [Ref],
     pub fresh: &'a [bool],
-    /// The number of the place where all headers start.
-    pub place: usize,
     /// How many rounds were made before.
     pub number: u32,
 }
 
-/// What has come to the positions from `from` up to `to` after the round.
-fn share_of<M: May, E: Sends>(
+/// The sets of the positions from `from` up to `to` after the round.
+fn share_of<M: May, S: Spread>(
     alloc: Global,
     work: &mut Work<M>,
     nodes: &Nodes<M>,
-    round: &Round<E>,
+    round: &Round<S>,
     from: usize,
     to: usize,
 ) -> Result<Vec<Ref>, SetError>
     requires seat { IsSeatOf nodes.now work.old }
-    requires ready { IsReady nodes.now work.old (E.edge round.now.sends.now) round.now.prepared.now.into round.now.sets.now round.now.fresh.now round.now.place round.now.number }
+    requires ready { IsAtHand (S.ready round.now.spread.now nodes.now work.old) work.old round.now.sets.now round.now.fresh.now (S.set_after round.now.spread.now) (S.count round.now.spread.now) round.now.number }
     requires order { from ≤ to }
-    requires end { to ≤ length round.now.prepared.now.into }
+    requires end { to ≤ S.count round.now.spread.now }
     ensures seat { IsSeatOf nodes.now work.new }
     ensures keeps { Keeps work.old work.new }
-    ensures made { IfOk result (λ v. KnowsShare work.new v.items (arrived (E.edge round.now.sends.now) (length round.now.prepared.now.into) round.now.place (round.now.number + 1)) from to) }
+    ensures made { IfOk result (λ v. KnowsShare work.new v.items (S.set_after round.now.spread.now (round.now.number + 1)) from to) }
     ensures cause { IfErr result (IsCause nodes.now work.new) }
 {
-    let into = round.prepared.into.as_slice();
     let mut made = Vec::new(alloc);
     for q in from..to {
-        let flows = into[q].as_slice();
-        let set = gathered_set(work, nodes, round.sets, round.fresh, flows, round.sets[q])?;
+        let set = round
+            .spread
+            .next_set(work, nodes, round.sets, round.fresh, round.number, q)?;
         if made.push(set).is_err() {
             return Err(SetError::Memory);
         }
@@ -63,22 +58,21 @@ fn joined(mut left: Vec<Ref>, mut right: Vec<Ref>) -> Result<Vec<Ref>, AllocErro
     Ok(left)
 }
 
-impl<'a, E: Sends + Sync> Job for Round<'a, E> {
-    ghost use Rattle.std.specs.Prelude.{◌+◌, length};
-    ghost use Rattle.rc_reach.specs.Kept.{ready_kept, share_kept};
-    ghost use Rattle.rc_reach.specs.Known.{IsReady, KnowsShare};
-    ghost use Rattle.rc_reach.specs.Rounds.{arrived};
+impl<'a, S: Spread + Sync> Job for Round<'a, S> {
+    ghost use Rattle.std.specs.Prelude.{◌+◌};
+    ghost use Rattle.rc_reach.specs.Kept.{at_hand_kept, share_kept};
+    ghost use Rattle.rc_reach.specs.Known.{IsAtHand, KnowsShare};
 
     type Made = Vec<Ref>;
 
-    ghost count = { λ r. length r.prepared.now.into };
+    ghost count = { λ r. S.count r.spread.now };
 
-    ghost ready = { λ r nodes seat. IsReady nodes seat (E.edge r.sends.now) r.prepared.now.into r.sets.now r.fresh.now r.place r.number };
+    ghost ready = { λ r nodes seat. IsAtHand (S.ready r.spread.now nodes seat) seat r.sets.now r.fresh.now (S.set_after r.spread.now) (S.count r.spread.now) r.number };
 
-    ghost knows = { λ r seat a b made. KnowsShare seat made.items (arrived (E.edge r.sends.now) (length r.prepared.now.into) r.place (r.number + 1)) a b };
+    ghost knows = { λ r seat a b made. KnowsShare seat made.items (S.set_after r.spread.now (r.number + 1)) a b };
 
     fn items(&self) -> usize {
-        self.prepared.into.len()
+        self.spread.positions()
     }
 
     fn share<M: May>(
@@ -96,7 +90,7 @@ impl<'a, E: Sends + Sync> Job for Round<'a, E> {
         joined(left, right)
     }
 
-    ghost stays_ready = { λ r nodes v w keeps ready. ready_kept v w keeps ready };
+    ghost stays_ready = { λ r nodes v w keeps ready. at_hand_kept v w keeps (S.stays_ready r.spread.now nodes v w keeps) ready };
 
     ghost stays_known = { λ r v w a b made keeps known. share_kept v w keeps known };
 }

@@ -3,16 +3,16 @@ use Rattle.std.proofs.Common.{refl, ◌≡◌, ap, sym, ◌∙◌, subst, ℕ, z
 use Rattle.std.specs.List.{IsDistinct, list_any, slice_get}
 use Rattle.std.proofs.lemmas.List.{reverse-append, length-append, length-reverse}
 use Rattle.std.proofs.lemmas.Map.Keys.{IsDistinct-push}
-use Rattle.rc_base.specs.declared.ending.Ends.{Ends}
 use Rattle.rc_base.specs.declared.ending.Kind.{Kind}
 use Rattle.rc_base.specs.declared.header.Header.{Header}
 use Rattle.rc_base.specs.declared.position.Pos.{Pos}
 use Rattle.rc_base.specs.Positions.{same_position}
+use Rattle.rc_walk.specs.declared.goal.Goal.{Goal}
 use Rattle.rc_walk.specs.declared.walk.Move.{Move}
 use Rattle.rc_walk.specs.declared.walk.Move.TheVariants.{Next, End}
 use Rattle.rc_walk.specs.Moves.{DataPlane, moves}
 use Rattle.rc_walk.specs.Search.{PrecedeBack, AreAtMost, Lead}
-use Rattle.rc_walk.specs.Searching.{position_of, leads_to, ends_by}
+use Rattle.rc_walk.specs.Searching.{position_of, leads_to, meets_by}
 use Rattle.rc_walk.specs.ShortestWalks.{IsLess, ComeBefore, AreChoices}
 use Rattle.rc_walk.specs.Walks.{stands_in, last_position, AreMoves}
 use Rattle.rc_walk.proofs.PositionLaws.{same_position-Decides, same_position-laws}
@@ -165,9 +165,9 @@ module _ (plane : DataPlane) (h : Header) (start : Pos) where
   pub turned_choices : (ts : List Pos) (kind : Kind) (choices : List ℕ) → AreChoices plane h start ts kind choices → HasTurned ts kind choices
   turned_choices ts kind choices a = turn [] [] refl ts kind choices a
 
-  module _ (ends : Ends) where
+  module _ (goal : Goal) where
     abbrev LeadTo : List ℕ → Pos → Type 0
-    LeadTo cs p = Lead (leads_to plane h) (ends_by plane h ends) start cs p
+    LeadTo cs p = Lead (leads_to plane h) (meets_by plane h goal) start cs p
 
     pub along_lead : (cs : List ℕ) (ts : List Pos) → Along cs ts → LeadTo cs (last_position start ts)
     along_lead [] ts e = ap (last_position start) (sym e)

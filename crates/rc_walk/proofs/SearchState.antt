@@ -1,5 +1,5 @@
 -- The steps of a search, as the program takes them.
-use Rattle.std.proofs.Common.{refl, ◌≡◌, ap, sym, ◌∙◌, subst, ℕ, zero, suc, ◌+◌, ◌≤◌, ◌<◌, inl, inr, ⊎_elim, Bool, true, false, ◌||◌, List, [], ◌∷◌, ◌++◌, map, length, reverse, slice_index, slice_index_or, Option, Some, None, Contains, MatchOption, is_some, append_assoc, append-nil, arith}
+use Rattle.std.proofs.Common.{refl, ◌≡◌, ap, sym, ◌∙◌, subst, ℕ, zero, suc, ◌+◌, ◌≤◌, ◌<◌, inl, inr, ⊎_elim, Bool, true, false, ◌||◌, List, [], ◌∷◌, ◌++◌, map, length, reverse, slice_index, slice_index_or, Some, None, Contains, append_assoc, arith}
 use Rattle.std.specs.List.{IsDistinct, list_any, slice_get}
 use Rattle.std.specs.Prelude.{if◌then◌else◌}
 use Rattle.std.proofs.lemmas.Bool.{cases_lt}
@@ -8,18 +8,19 @@ use Rattle.std.proofs.lemmas.List.Elements.{All-head}
 use Rattle.std.proofs.lemmas.Map.Keys.{IsDistinct-push}
 use Rattle.std.proofs.lemmas.Map.Made.{length-le_from_is_member, is_member-Decides}
 use Rattle.std.proofs.Math.Seq.{get_or-append_seam}
-use Rattle.rc_base.specs.declared.ending.Ends.{Ends}
 use Rattle.rc_base.specs.declared.ending.Kind.{Kind}
 use Rattle.rc_base.specs.declared.header.Header.{Header}
 use Rattle.rc_base.specs.declared.position.Pos.{Pos}
 use Rattle.rc_base.specs.declared.position.Pos.TheVariants.{Entering}
-use Rattle.rc_base.specs.Positions.{is_among, same_position}
+use Rattle.rc_base.specs.Positions.{same_position}
 use Rattle.rc_topology.specs.Links.{all_ids}
+use Rattle.rc_walk.specs.declared.goal.Goal.{Goal}
 use Rattle.rc_walk.specs.declared.walk.Move.{Move}
 use Rattle.rc_walk.specs.declared.walk.Move.TheVariants.{Next, End}
 use Rattle.rc_walk.specs.Moves.{DataPlane, moves}
 use Rattle.rc_walk.specs.Search.{IsOneOf, IsSearch, IsFirstEnd, NothingEnds, Lead}
-use Rattle.rc_walk.specs.Searching.{position_of, is_asked, asked_kind, found_with, from_with, Entry, WaysBack, at_first, further, AreLinked, leads_to, ends_by, IsLed, IsUnderWay, IsAtEnd, HasLooked}
+use Rattle.rc_walk.specs.Goals.{is_met, is_met_by}
+use Rattle.rc_walk.specs.Searching.{position_of, by_with, found_with, from_with, AreLinked, Entry, IsLed, IsUnderWay, WaysBack, at_first, further, leads_to, meets_by}
 use Rattle.rc_walk.specs.Walks.{stands_in, last_position}
 use Rattle.rc_walk.proofs.BoundLaws.{entries, steps_enter}
 use Rattle.rc_walk.proofs.ChoiceLaws.{Along, reverse_more, next_at, in_moves}
@@ -34,7 +35,7 @@ index_is [] i x less e = absurd (let wrong : ⊥ = omega arith in wrong)
 index_is (y ∷ xs) zero x less e = sym e
 index_is (y ∷ xs) (suc i) x less e = index_is xs i x (omega arith) e
 
-abbrev spot : Entry → Pos
+abbrev pub spot : Entry → Pos
 spot e = e.0
 
 mapped : {A B : Type 0} (f : A → B) (xs : List A) (i : ℕ) (d : A) → slice_index_or (map f xs) i (f d) ≡ f (slice_index_or xs i d)
@@ -43,15 +44,19 @@ mapped f (x ∷ xs) zero d = refl
 mapped f (x ∷ xs) (suc i) d = mapped f xs i d
 
 -- an element that is there is found with every default
-got : {A : Type 0} (xs : List A) (i : ℕ) (x d : A) → slice_get xs i ≡ Some x → slice_index_or xs i d ≡ x
+pub got : {A : Type 0} (xs : List A) (i : ℕ) (x d : A) → slice_get xs i ≡ Some x → slice_index_or xs i d ≡ x
 got [] i x d e = absurd (cc)
 got (y ∷ xs) zero x d e = cc
 got (y ∷ xs) (suc i) x d e = got xs i x d e
 
-get_there : {A : Type 0} (xs : List A) (i : ℕ) (d : A) → i < length xs → slice_get xs i ≡ Some (slice_index_or xs i d)
+pub get_there : {A : Type 0} (xs : List A) (i : ℕ) (d : A) → i < length xs → slice_get xs i ≡ Some (slice_index_or xs i d)
 get_there [] i d less = absurd (let wrong : ⊥ = omega arith in wrong)
 get_there (y ∷ xs) zero d less = refl
 get_there (y ∷ xs) (suc i) d less = get_there xs i d (omega arith)
+
+-- what was read at an index is there
+pub get_read : {A : Type 0} (xs : List A) (i : ℕ) (x : A) → i < length xs → x ≡ slice_index_or xs i x → slice_get xs i ≡ Some x
+get_read xs i x less e = get_there xs i x less ∙ ap Some (sym e)
 
 pub get_seam : {A : Type 0} (xs : List A) (x : A) (ys : List A) → slice_get (xs ++ x ∷ ys) (length xs) ≡ Some x
 get_seam [] x ys = refl
@@ -81,58 +86,57 @@ apart (x ∷ all) t none e is at = by (same_position t x.0) refl none (apart all
         (λ first. let own : same_position t x.0 ≡ true = (same_position-Decides t x.0).1 (sym at ∙ ap spot (sym first)) in absurd (let wrong : ⊥ = cc (own, same) in wrong))
         (λ later. rest none e later at) is
 
-abbrev no_entry : Pos → Entry
+abbrev pub no_entry : Pos → Entry
 no_entry start = (start, [])
 
 module _ {plane : DataPlane} {h : Header} {start : Pos} where
-  kept_led : (all : List Entry) (n : Entry) (j from : ℕ) → j < length all → IsLed plane h start all j from → IsLed plane h start (all ++ n ∷ []) j from
-  kept_led all n j from less l =
+  kept_led : (all : List Entry) (n : Entry) (j from choice : ℕ) → j < length all → IsLed plane h start all j from choice → IsLed plane h start (all ++ n ∷ []) j from choice
+  kept_led all n j from choice less l =
       let a : slice_index_or (all ++ n ∷ []) j (no_entry start) ≡ slice_index_or all j (no_entry start) = get_or_append_left all (n ∷ []) (no_entry start) j less in
       let b : slice_index_or (all ++ n ∷ []) from (no_entry start) ≡ slice_index_or all from (no_entry start) = get_or_append_left all (n ∷ []) (no_entry start) from (let e = l.earlier in omega arith) in
       record {
         earlier = l.earlier;
-        choice = l.choice;
-        choices = ap (λ (x : Entry). x.1) a ∙ l.choices ∙ ap (λ (x : Entry). l.choice ∷ x.1) (sym b);
-        on = ap (λ (x : Entry). slice_get (moves plane h x.0) l.choice) b ∙ l.on ∙ ap (λ (x : Entry). Some (Next x.0)) (sym a);
+        choices = ap (λ (x : Entry). x.1) a ∙ l.choices ∙ ap (λ (x : Entry). choice ∷ x.1) (sym b);
+        on = ap (λ (x : Entry). slice_get (moves plane h x.0) choice) b ∙ l.on ∙ ap (λ (x : Entry). Some (Next x.0)) (sym a);
       }
 
-  new_led : (all : List Entry) (t : Pos) (here : Entry) (place c : ℕ) → place < length all → slice_index_or all place (no_entry start) ≡ here → slice_get (moves plane h here.0) c ≡ Some (Next t) → IsLed plane h start (all ++ (t, c ∷ here.1) ∷ []) (length all) place
+  new_led : (all : List Entry) (t : Pos) (here : Entry) (place c : ℕ) → place < length all → slice_index_or all place (no_entry start) ≡ here → slice_get (moves plane h here.0) c ≡ Some (Next t) → IsLed plane h start (all ++ (t, c ∷ here.1) ∷ []) (length all) place c
   new_led all t here place c less at on =
       let n : Entry = (t, c ∷ here.1) in
       let a : slice_index_or (all ++ n ∷ []) (length all) (no_entry start) ≡ n = get_or-append_seam all n [] (no_entry start) in
       let b : slice_index_or (all ++ n ∷ []) place (no_entry start) ≡ here = get_or_append_left all (n ∷ []) (no_entry start) place less ∙ at in
       record {
         earlier = less;
-        choice = c;
         choices = ap (λ (x : Entry). x.1) a ∙ ap (λ (x : Entry). c ∷ x.1) (sym b);
         on = ap (λ (x : Entry). slice_get (moves plane h x.0) c) b ∙ on ∙ ap (λ (x : Entry). Some (Next x.0)) (sym a);
       }
 
-module _ {plane : DataPlane} {h : Header} {ends : Ends} {start : Pos} where
+module _ {plane : DataPlane} {h : Header} {goal : Goal} {start : Pos} where
   -- the start alone
-  pub begins : (found : List Pos) (from : List ℕ) → found ≡ start ∷ [] → from ≡ 0 ∷ [] → IsUnderWay plane h ends start found from 0 0
+  pub begins : (found : List Pos) (from by : List ℕ) → found ≡ start ∷ [] → from ≡ 0 ∷ [] → by ≡ 0 ∷ [] → IsUnderWay plane h goal start found from by 0 0
   unfolding IsDistinct
-  begins found from one zeros = record {
+  begins found from by one zeros more = record {
     done = [];
     here = (start, []);
     rest = [];
-    search = sets_out (leads_to plane h) (ends_by plane h ends) start;
+    search = sets_out (leads_to plane h) (meets_by plane h goal) start;
     at_place = refl;
     spots = sym one;
     once = subst (IsDistinct same_position) (sym one) (tt, tt);
     first = refl;
     as_many = ap length zeros ∙ sym (ap length one);
+    as_many_by = ap length more ∙ sym (ap length one);
     led = λ j some low. absurd (let many : length found ≡ 1 = ap length one in let wrong : ⊥ = omega arith in wrong);
   }
 
-  module _ {found : List Pos} {from : List ℕ} {place c : ℕ} (u : IsUnderWay plane h ends start found from place c) where
+  module _ {found : List Pos} {from by : List ℕ} {place c : ℕ} (u : IsUnderWay plane h goal start found from by place c) where
     abbrev all : List Entry
     all = u.done ++ u.here ∷ u.rest
 
-    same_length : length all ≡ length found
+    pub same_length : length all ≡ length found
     same_length = sym (length-map all spot) ∙ ap length u.spots
 
-    long : length found ≡ length u.done + suc (length u.rest)
+    pub long : length found ≡ length u.done + suc (length u.rest)
     long = sym same_length ∙ length-append u.done (u.here ∷ u.rest)
 
     pub place_fits : place < length found
@@ -141,7 +145,7 @@ module _ {plane : DataPlane} {h : Header} {ends : Ends} {start : Pos} where
     at_entry : slice_index_or all place (no_entry start) ≡ u.here
     at_entry = ap (λ i. slice_index_or all i (no_entry start)) (sym u.at_place) ∙ get_or-append_seam u.done u.here u.rest (no_entry start)
 
-    spot_of : (j : ℕ) → slice_index_or found j start ≡ (slice_index_or all j (no_entry start)).0
+    pub spot_of : (j : ℕ) → slice_index_or found j start ≡ (slice_index_or all j (no_entry start)).0
     spot_of j = ap (λ xs. slice_index_or xs j start) (sym u.spots) ∙ mapped spot all j (no_entry start)
 
     -- the position at the place
@@ -150,58 +154,63 @@ module _ {plane : DataPlane} {h : Header} {ends : Ends} {start : Pos} where
 
     -- ---- one choice more
 
+    abbrev Later : List Pos → List ℕ → List ℕ → Type 0
+    Later found' from' by' = (w : IsUnderWay plane h goal start found' from' by' place (suc c)) × (w.here ≡ u.here)
+
     -- one that leads nowhere new
-    stays : ends_by plane h ends u.here.0 c ≡ false → ((t : Pos) → leads_to plane h u.here.0 c ≡ Some t → (e : Entry) × IsOneOf all e × (e.0 ≡ t)) → (w : IsUnderWay plane h ends start found from place (suc c)) × (w.here ≡ u.here)
+    stays : meets_by plane h goal u.here.0 c ≡ false → ((t : Pos) → leads_to plane h u.here.0 c ≡ Some t → (e : Entry) × IsOneOf all e × (e.0 ≡ t)) → Later found from by
     stays quiet known = (
       record {
         done = u.done;
         here = u.here;
         rest = u.rest;
-        search = goes_on (leads_to plane h) (ends_by plane h ends) start u.done u.here u.rest c u.search quiet known;
+        search = goes_on (leads_to plane h) (meets_by plane h goal) start u.done u.here u.rest c u.search quiet known;
         at_place = u.at_place;
         spots = u.spots;
         once = u.once;
         first = u.first;
         as_many = u.as_many;
+        as_many_by = u.as_many_by;
         led = u.led;
       },
       refl,
     )
 
-    past_end : (kind : Kind) → slice_get (moves plane h u.here.0) c ≡ Some (End kind) → is_among ends kind ≡ false → (w : IsUnderWay plane h ends start found from place (suc c)) × (w.here ≡ u.here)
+    past_end : (kind : Kind) → slice_get (moves plane h u.here.0) c ≡ Some (End kind) → is_met goal (End kind) ≡ false → Later found from by
     past_end kind at quiet =
-        stays (ap (is_asked ends) at ∙ quiet) (λ t on. absurd (let off : leads_to plane h u.here.0 c ≡ None = ap position_of at in let wrong : ⊥ = cc (on, off) in wrong))
+        stays (ap (is_met_by goal) at ∙ quiet) (λ t on. absurd (let off : leads_to plane h u.here.0 c ≡ None = ap position_of at in let wrong : ⊥ = cc (on, off) in wrong))
 
-    past_known : (t : Pos) → slice_get (moves plane h u.here.0) c ≡ Some (Next t) → stands_in found t ≡ true → (w : IsUnderWay plane h ends start found from place (suc c)) × (w.here ≡ u.here)
-    past_known t at there =
-        stays (ap (is_asked ends) at) (λ p on.
+    past_known : (t : Pos) → slice_get (moves plane h u.here.0) c ≡ Some (Next t) → is_met goal (Next t) ≡ false → stands_in found t ≡ true → Later found from by
+    past_known t at quiet there =
+        stays (ap (is_met_by goal) at ∙ quiet) (λ p on.
         let to : leads_to plane h u.here.0 c ≡ Some t = ap position_of at in
         let same : t ≡ p = cc (on, to) in
         let (e, is, here) = stood all t (subst (λ xs. stands_in xs t ≡ true) (sym u.spots) there) in
         (e, is, here ∙ same))
 
-    new_entry : Pos → Entry
-    new_entry t = (t, c ∷ u.here.1)
-
-    led_more : (t : Pos) → slice_get (moves plane h u.here.0) c ≡ Some (Next t) → (j : ℕ) → 0 < j → j < length (found ++ t ∷ []) → IsLed plane h start (all ++ (t, c ∷ u.here.1) ∷ []) j (slice_index (from ++ place ∷ []) j)
+    led_more : (t : Pos) → slice_get (moves plane h u.here.0) c ≡ Some (Next t) → (j : ℕ) → 0 < j → j < length (found ++ t ∷ []) → IsLed plane h start (all ++ (t, c ∷ u.here.1) ∷ []) j (slice_index (from ++ place ∷ []) j) (slice_index (by ++ c ∷ []) j)
     led_more t on j some low =
         let new : Entry = (t, c ∷ u.here.1) in
         let fits = place_fits in
         let same = same_length in
         let many : length from ≡ length found = u.as_many in
+        let many_by : length by ≡ length found = u.as_many_by in
         ⊎_elim (λ old.
         let at : slice_index (from ++ place ∷ []) j ≡ slice_index from j = get_or_append_left from (place ∷ []) 0 j (omega arith) in
-        subst (IsLed plane h start (all ++ new ∷ []) j) (sym at) (kept_led all new j (slice_index from j) (omega arith) (u.led j some old)))
+        let at_by : slice_index (by ++ c ∷ []) j ≡ slice_index by j = get_or_append_left by (c ∷ []) 0 j (omega arith) in
+        subst (λ i. IsLed plane h start (all ++ new ∷ []) j i (slice_index (by ++ c ∷ []) j)) (sym at) (subst (IsLed plane h start (all ++ new ∷ []) j (slice_index from j)) (sym at_by) (kept_led all new j (slice_index from j) (slice_index by j) (omega arith) (u.led j some old))))
         (λ high.
         let e : j ≡ length found = omega (arith, length-append found (t ∷ [])) in
         let f : length from ≡ j = omega arith in
+        let k : length by ≡ j = omega arith in
         let g : length all ≡ j = omega arith in
         let at : slice_index (from ++ place ∷ []) j ≡ place = ap (λ i. slice_index (from ++ place ∷ []) i) (sym f) ∙ get_or-append_seam from place [] 0 in
-        let led : IsLed plane h start (all ++ new ∷ []) (length all) place = new_led all t u.here place c (omega arith) at_entry on in
-        subst (IsLed plane h start (all ++ new ∷ []) j) (sym at) (subst (λ i. IsLed plane h start (all ++ new ∷ []) i place) g led)) (cases_lt j (length found))
+        let at_by : slice_index (by ++ c ∷ []) j ≡ c = ap (λ i. slice_index (by ++ c ∷ []) i) (sym k) ∙ get_or-append_seam by c [] 0 in
+        let led : IsLed plane h start (all ++ new ∷ []) (length all) place c = new_led all t u.here place c (omega arith) at_entry on in
+        subst (λ i. IsLed plane h start (all ++ new ∷ []) j i (slice_index (by ++ c ∷ []) j)) (sym at) (subst (IsLed plane h start (all ++ new ∷ []) j place) (sym at_by) (subst (λ i. IsLed plane h start (all ++ new ∷ []) i place c) g led))) (cases_lt j (length found))
 
-    past_new : (t : Pos) → slice_get (moves plane h u.here.0) c ≡ Some (Next t) → stands_in found t ≡ false → (w : IsUnderWay plane h ends start (found ++ t ∷ []) (from ++ place ∷ []) place (suc c)) × (w.here ≡ u.here)
-    past_new t at none =
+    past_new : (t : Pos) → slice_get (moves plane h u.here.0) c ≡ Some (Next t) → is_met goal (Next t) ≡ false → stands_in found t ≡ false → Later (found ++ t ∷ []) (from ++ place ∷ []) (by ++ c ∷ [])
+    past_new t at quiet none =
         let new : Entry = (t, c ∷ u.here.1) in
         let more : u.done ++ u.here ∷ (u.rest ++ new ∷ []) ≡ all ++ new ∷ [] = sym (append_assoc u.done (u.here ∷ u.rest) (new ∷ [])) in
         let off : stands_in (map spot all) t ≡ false = subst (λ xs. stands_in xs t ≡ false) (sym u.spots) none in (
@@ -209,125 +218,84 @@ module _ {plane : DataPlane} {h : Header} {ends : Ends} {start : Pos} where
             done = u.done;
             here = u.here;
             rest = u.rest ++ new ∷ [];
-            search = waits (leads_to plane h) (ends_by plane h ends) start u.done u.here u.rest c u.search t (ap position_of at) (ap (is_asked ends) at) (apart all t off);
+            search = waits (leads_to plane h) (meets_by plane h goal) start u.done u.here u.rest c u.search t (ap position_of at) (ap (is_met_by goal) at ∙ quiet) (apart all t off);
             at_place = u.at_place;
             spots = ap (map spot) more ∙ map-append spot all (new ∷ []) ∙ ap (λ xs. xs ++ t ∷ []) u.spots;
             once = IsDistinct-push same_position-laws found t u.once none;
             first = ap (λ xs. slice_index_or xs 0 (no_entry start)) more ∙ get_or_append_left all (new ∷ []) (no_entry start) 0 (let f = place_fits in let l = same_length in omega arith) ∙ u.first;
             as_many = length-append from (place ∷ []) ∙ (let e : length from ≡ length found = u.as_many in let k : length from + 1 ≡ length found + 1 = omega arith in k) ∙ sym (length-append found (t ∷ []));
-            led = λ j some low. subst (λ xs. IsLed plane h start xs j (slice_index (from ++ place ∷ []) j)) (sym more) (led_more t at j some low);
+            as_many_by = length-append by (c ∷ []) ∙ (let e : length by ≡ length found = u.as_many_by in let k : length by + 1 ≡ length found + 1 = omega arith in k) ∙ sym (length-append found (t ∷ []));
+            led = λ j some low. subst (λ xs. IsLed plane h start xs j (slice_index (from ++ place ∷ []) j) (slice_index (by ++ c ∷ []) j)) (sym more) (led_more t at j some low);
           },
           refl,
         )
 
-    -- a move that isn't asked for is looked at
-    pub looked_at : (m : Move) → slice_get (moves plane h u.here.0) c ≡ Some m → asked_kind ends m ≡ None → (w : IsUnderWay plane h ends start (found_with found m) (from_with found from place m) place (suc c)) × (w.here ≡ u.here)
-    looked_at (End kind) at none = past_end kind at (unasked (is_among ends kind) none)
+    -- a move that isn't sought is looked at
+    looked_at : (m : Move) → slice_get (moves plane h u.here.0) c ≡ Some m → is_met goal m ≡ false → Later (found_with found m) (from_with found from place m) (by_with found by c m)
+    looked_at (End kind) at quiet = past_end kind at quiet
+    looked_at (Next t) at quiet = choice (stands_in found t) refl
       where
-        unasked : (b : Bool) → (if b then Some kind else None) ≡ None → b ≡ false
-        unasked true e = absurd (cc)
-        unasked false e = refl
-    looked_at (Next t) at none = by (stands_in found t) refl
-      where
-        by : (b : Bool) → stands_in found t ≡ b → (w : IsUnderWay plane h ends start (if b then found else found ++ t ∷ []) (if b then from else from ++ place ∷ []) place (suc c)) × (w.here ≡ u.here)
-        by true there = past_known t at there
-        by false off = past_new t at off
+        choice : (b : Bool) → stands_in found t ≡ b → Later (if b then found else found ++ t ∷ []) (if b then from else from ++ place ∷ []) (if b then by else by ++ c ∷ [])
+        choice true there = past_known t at quiet there
+        choice false off = past_new t at quiet off
 
-    -- ---- the moves of the position, one after another
-    module _ (seen : List Move) (long : length seen ≡ c) (m : Move) (others : List Move) (all_moves : seen ++ m ∷ others ≡ moves plane h u.here.0) where
-      next_move : slice_get (moves plane h u.here.0) c ≡ Some m
-      next_move = ap (λ ms. slice_get ms c) (sym all_moves) ∙ ap (λ k. slice_get (seen ++ m ∷ others) k) (sym long) ∙ get_seam seen m others
-
-      module _ (o : Option Kind) (said : o ≡ asked_kind ends m) (found' : List Pos) (from' : List ℕ) (found_is : found' ≡ found_with found m) (from_is : from' ≡ from_with found from place m) where
-        -- it isn't asked for
-        pub looked_on : is_some o ≡ false → (w : IsUnderWay plane h ends start found' from' place (length (seen ++ m ∷ []))) × (seen ++ m ∷ [] ++ others ≡ moves plane h w.here.0)
-        looked_on none =
-            let quiet : asked_kind ends m ≡ None = sym said ∙ no_kind o none in
-            let (w, here) = looked_at m next_move quiet in
-            let many : suc c ≡ length (seen ++ m ∷ []) = sym (length-append seen (m ∷ []) ∙ (let e : length seen + 1 ≡ suc c = omega arith in e)) in
-            moved found' from' (length (seen ++ m ∷ [])) found_is from_is many w (append_assoc seen (m ∷ []) others ∙ all_moves ∙ ap (λ (e : Entry). moves plane h e.0) (sym here))
-          where
-            no_kind : (k : Option Kind) → is_some k ≡ false → k ≡ None
-            no_kind None e = refl
-            no_kind (Some kind) e = absurd (cc)
-
-            moved : (fs : List Pos) (js : List ℕ) (k : ℕ) → fs ≡ found_with found m → js ≡ from_with found from place m → suc c ≡ k → (w : IsUnderWay plane h ends start (found_with found m) (from_with found from place m) place (suc c)) → (seen ++ m ∷ []) ++ others ≡ moves plane h w.here.0 → (v : IsUnderWay plane h ends start fs js place k) × (seen ++ m ∷ [] ++ others ≡ moves plane h v.here.0)
-            moved fs js k e f g w all =
-                let P : List Pos → List ℕ → ℕ → Type 0 = λ xs ys n. (v : IsUnderWay plane h ends start xs ys place n) × (seen ++ m ∷ [] ++ others ≡ moves plane h v.here.0) in
-                subst (λ xs. P xs js k) (sym e) (subst (λ ys. P (found_with found m) ys k) (sym f) (subst (λ n. P (found_with found m) (from_with found from place m) n) g (w, all)))
-
-        -- it is
-        pub ended_at : is_some o ≡ true → MatchOption o (HasLooked plane h ends start found' from' place) (λ kind. IsAtEnd plane h ends start found' from' place kind)
-        ended_at some = by o m said some next_move found_is from_is
-          where
-            unasked : (kind : Kind) (k : Option Kind) (b : Bool) → is_among ends kind ≡ b → k ≡ (if b then Some kind else None) → is_some k ≡ true → (is_among ends kind ≡ true) × (k ≡ Some kind)
-            unasked kind k true e f g = (e, f)
-            unasked kind k false e f g = absurd (let off : is_some k ≡ false = ap is_some f in let wrong : ⊥ = cc (off, g) in wrong)
-
-            by : (k : Option Kind) (x : Move) → k ≡ asked_kind ends x → is_some k ≡ true → slice_get (moves plane h u.here.0) c ≡ Some x → found' ≡ found_with found x → from' ≡ from_with found from place x → MatchOption k (HasLooked plane h ends start found' from' place) (λ kind. IsAtEnd plane h ends start found' from' place kind)
-            by k (Next t) e g at fs js = absurd (let off : is_some k ≡ false = ap is_some e in let wrong : ⊥ = cc (off, g) in wrong)
-            by k (End kind) e g at fs js =
-                let (asked, is) = unasked kind k (is_among ends kind) refl e g in
-                let end : IsAtEnd plane h ends start found from place kind = record { last = c; way = u; ended = at; asked = asked } in
-                subst (λ x. MatchOption x (HasLooked plane h ends start found' from' place) (λ l. IsAtEnd plane h ends start found' from' place l)) (sym is) (subst (λ xs. IsAtEnd plane h ends start xs from' place kind) (sym fs) (subst (λ ys. IsAtEnd plane h ends start found ys place kind) (sym js) end))
-
-    -- there is no further one
-    pub looked_all : (seen : List Move) → length seen ≡ c → seen ++ [] ≡ moves plane h u.here.0 → HasLooked plane h ends start found from place
-    looked_all seen long all_moves =
-        let many : length (moves plane h u.here.0) ≡ c = ap length (sym all_moves) ∙ ap length (append-nil seen) ∙ long in
-        record { many = c; way = u; all = omega arith }
+    pub looked_on : (m : Move) → slice_get (moves plane h u.here.0) c ≡ Some m → is_met goal m ≡ false → (found' : List Pos) (from' by' : List ℕ) (k : ℕ) → found' ≡ found_with found m → from' ≡ from_with found from place m → by' ≡ by_with found by c m → k ≡ suc c → (w : IsUnderWay plane h goal start found' from' by' place k) × (w.here ≡ u.here)
+    looked_on m at quiet found' from' by' k e f g n =
+        let P : List Pos → List ℕ → List ℕ → ℕ → Type 0 = λ xs ys zs i. (w : IsUnderWay plane h goal start xs ys zs place i) × (w.here ≡ u.here) in
+        subst (λ i. P found' from' by' i) (sym n) (subst (λ xs. P xs from' by' (suc c)) (sym e) (subst (λ ys. P (found_with found m) ys by' (suc c)) (sym f) (subst (λ zs. P (found_with found m) (from_with found from place m) zs (suc c)) (sym g) (looked_at m at quiet))))
 
     -- ---- from position to position
 
-    at_end : (k : ℕ) → length (moves plane h u.here.0) ≤ k → (ends_by plane h ends u.here.0 k ≡ false) × (leads_to plane h u.here.0 k ≡ None)
+    pub at_end : (k : ℕ) → length (moves plane h u.here.0) ≤ k → (meets_by plane h goal u.here.0 k ≡ false) × (leads_to plane h u.here.0 k ≡ None)
     at_end k past =
         let none : slice_get (moves plane h u.here.0) k ≡ None = get_past (moves plane h u.here.0) k past in
-        (ap (is_asked ends) none, ap position_of none)
+        (ap (is_met_by goal) none, ap position_of none)
 
     -- nothing waits
-    pub no_more : place + 1 ≡ length found → length (moves plane h u.here.0) ≤ c → NothingEnds (leads_to plane h) (ends_by plane h ends) start
-    no_more e past = by u.rest refl
+    pub no_more : place + 1 ≡ length found → length (moves plane h u.here.0) ≤ c → NothingEnds (leads_to plane h) (meets_by plane h goal) start
+    no_more e past = rests u.rest refl
       where
-        by : (rest : List Entry) → u.rest ≡ rest → NothingEnds (leads_to plane h) (ends_by plane h ends) start
-        by [] none =
-            nothing_ends (leads_to plane h) (ends_by plane h ends) start u.done u.here c (subst (λ r. IsSearch (leads_to plane h) (ends_by plane h ends) start u.done u.here r c) none u.search) (λ d low. at_end d (omega arith))
-        by (x ∷ xs) some =
+        rests : (rest : List Entry) → u.rest ≡ rest → NothingEnds (leads_to plane h) (meets_by plane h goal) start
+        rests [] none =
+            nothing_ends (leads_to plane h) (meets_by plane h goal) start u.done u.here c (subst (λ r. IsSearch (leads_to plane h) (meets_by plane h goal) start u.done u.here r c) none u.search) (λ d low. at_end d (omega arith))
+        rests (x ∷ xs) some =
             let many : length found ≡ length u.done + suc (suc (length xs)) = long ∙ ap (λ r. length u.done + suc (length r)) some in
             let at : length u.done ≡ place = u.at_place in
             absurd (let wrong : ⊥ = omega arith in wrong)
 
     -- the next comes to hand
-    pub next_place : place + 1 < length found → length (moves plane h u.here.0) ≤ c → IsUnderWay plane h ends start found from (place + 1) 0
-    next_place less past = by u.rest refl
+    pub next_place : place + 1 < length found → length (moves plane h u.here.0) ≤ c → IsUnderWay plane h goal start found from by (place + 1) 0
+    next_place less past = rests u.rest refl
       where
-        by : (rest : List Entry) → u.rest ≡ rest → IsUnderWay plane h ends start found from (place + 1) 0
-        by [] none =
+        rests : (rest : List Entry) → u.rest ≡ rest → IsUnderWay plane h goal start found from by (place + 1) 0
+        rests [] none =
             let many : length found ≡ length u.done + suc 0 = long ∙ ap (λ r. length u.done + suc (length r)) none in
             let at : length u.done ≡ place = u.at_place in
             absurd (let wrong : ⊥ = omega arith in wrong)
-        by (x ∷ xs) some =
-            let s : IsSearch (leads_to plane h) (ends_by plane h ends) start u.done u.here (x ∷ xs) c = subst (λ r. IsSearch (leads_to plane h) (ends_by plane h ends) start u.done u.here r c) some u.search in
+        rests (x ∷ xs) some =
+            let s : IsSearch (leads_to plane h) (meets_by plane h goal) start u.done u.here (x ∷ xs) c = subst (λ r. IsSearch (leads_to plane h) (meets_by plane h goal) start u.done u.here r c) some u.search in
             let same : all ≡ (u.done ++ u.here ∷ []) ++ x ∷ xs = ap (λ r. u.done ++ u.here ∷ r) some ∙ sym (append_assoc u.done (u.here ∷ []) (x ∷ xs)) in
             record {
               done = u.done ++ u.here ∷ [];
               here = x;
               rest = xs;
-              search = comes_to_hand (leads_to plane h) (ends_by plane h ends) start u.done u.here x xs c s (λ d low. at_end d (omega arith));
+              search = comes_to_hand (leads_to plane h) (meets_by plane h goal) start u.done u.here x xs c s (λ d low. at_end d (omega arith));
               at_place = length-append u.done (u.here ∷ []) ∙ (let at : length u.done ≡ place = u.at_place in let e : length u.done + 1 ≡ place + 1 = omega arith in e);
               spots = ap (map spot) (sym same) ∙ u.spots;
               once = u.once;
               first = ap (λ ys. slice_index_or ys 0 (no_entry start)) (sym same) ∙ u.first;
               as_many = u.as_many;
-              led = λ j low high. subst (λ ys. IsLed plane h start ys j (slice_index from j)) same (u.led j low high);
+              as_many_by = u.as_many_by;
+              led = λ j low high. subst (λ ys. IsLed plane h start ys j (slice_index from j) (slice_index by j)) same (u.led j low high);
             }
 
     -- the first choice that ends as asked
-    pub found_first : ends_by plane h ends u.here.0 c ≡ true → IsFirstEnd (leads_to plane h) (ends_by plane h ends) start u.here.1 u.here.0 c
-    found_first e = ends_here (leads_to plane h) (ends_by plane h ends) start u.done u.here u.rest c u.search e
+    pub found_first : meets_by plane h goal u.here.0 c ≡ true → IsFirstEnd (leads_to plane h) (meets_by plane h goal) start u.here.1 u.here.0 c
+    found_first e = ends_here (leads_to plane h) (meets_by plane h goal) start u.done u.here u.rest c u.search e
 
     -- ---- the positions found are no more than the network's
 
-    enters : (e : Entry) → Lead (leads_to plane h) (ends_by plane h ends) start e.1 e.0 → list_any (same_position e.0) (start ∷ entries plane.links) ≡ true
+    enters : (e : Entry) → Lead (leads_to plane h) (meets_by plane h goal) start e.1 e.0 → list_any (same_position e.0) (start ∷ entries plane.links) ≡ true
     enters (p, []) lead = first_true (same_position p start) (list_any (same_position p) (entries plane.links)) ((same_position-Decides p start).1 (sym lead))
       where
         first_true : (a b : Bool) → a ≡ true → (a || b) ≡ true
@@ -355,30 +323,33 @@ module _ {plane : DataPlane} {h : Header} {ends : Ends} {start : Pos} where
     pub linked : AreLinked found from
     linked j some low = (u.led j some low).earlier
 
-    pub record IsWay (entry : Entry) (back : List Pos) : Type 0 where
+    pub record IsWay (entry : Entry) (back : List Pos) (choices : List ℕ) : Type 0 where
       pub steps : List Pos
       pub positions : reverse back ≡ start ∷ steps
+      pub chosen : choices ≡ entry.1
       pub along : Along plane h start entry.1 steps
       pub last : last_position start steps ≡ entry.0
 
-    passes : (j : ℕ) (ps : List Pos) → WaysBack found from j ps → j < length found → IsWay (slice_index_or all j (no_entry start)) ps
-    passes j ps (at_first {p = p} at) low =
+    passes : (j : ℕ) (ps : List Pos) (cs : List ℕ) → WaysBack found from by j ps cs → j < length found → IsWay (slice_index_or all j (no_entry start)) ps cs
+    passes j ps cs (at_first {p = p} at) low =
         let here : p ≡ start = sym (got found 0 p start at) ∙ spot_of 0 ∙ ap spot u.first in
         record {
           steps = [];
           positions = ap (λ x. x ∷ []) here;
+          chosen = ap (λ (e : Entry). e.1) (sym u.first);
           along = subst (λ (e : Entry). Along plane h start e.1 []) (sym u.first) refl;
           last = ap spot (sym u.first);
         }
-    passes j ps (further {p = p} {ps = rest} some at back) low =
+    passes j ps cs (further {p = p} {ps = rest} {cs = choices} some at back) low =
         let l = u.led j some low in
-        let w = passes (slice_index from j) rest back (let e : slice_index from j < j = l.earlier in omega arith) in
+        let w = passes (slice_index from j) rest choices back (let e : slice_index from j < j = l.earlier in omega arith) in
         let here : p ≡ (slice_index_or all j (no_entry start)).0 = sym (got found j p start at) ∙ spot_of j in
-        let on : slice_get (moves plane h (last_position start w.steps)) l.choice ≡ Some (Next p) = ap (λ q. slice_get (moves plane h q) l.choice) w.last ∙ l.on ∙ ap (λ q. Some (Next q)) (sym here) in
+        let on : slice_get (moves plane h (last_position start w.steps)) (slice_index by j) ≡ Some (Next p) = ap (λ q. slice_get (moves plane h q) (slice_index by j)) w.last ∙ l.on ∙ ap (λ q. Some (Next q)) (sym here) in
         record {
           steps = w.steps ++ p ∷ [];
           positions = reverse_more p rest ∙ ap (λ xs. xs ++ p ∷ []) w.positions;
-          along = subst (λ cs. Along plane h start cs (w.steps ++ p ∷ [])) (sym l.choices) (p, w.steps, refl, w.along, on);
+          chosen = ap (λ xs. slice_index by j ∷ xs) w.chosen ∙ sym l.choices;
+          along = subst (λ ds. Along plane h start ds (w.steps ++ p ∷ [])) (sym l.choices) (p, w.steps, refl, w.along, on);
           last = last_behind w.steps start p ∙ here;
         }
       where
@@ -386,5 +357,8 @@ module _ {plane : DataPlane} {h : Header} {ends : Ends} {start : Pos} where
         last_behind [] q t = refl
         last_behind (x ∷ us) q t = last_behind us x t
 
-    pub passes_here : (back : List Pos) → WaysBack found from place back → IsWay u.here back
-    passes_here back way = subst (λ e. IsWay e back) at_entry (passes place back way place_fits)
+    pub passes_to : (j : ℕ) (back : List Pos) (choices : List ℕ) → j < length found → WaysBack found from by j back choices → IsWay (slice_index_or all j (no_entry start)) back choices
+    passes_to j back choices low way = passes j back choices way low
+
+    pub passes_here : (back : List Pos) (choices : List ℕ) → WaysBack found from by place back choices → IsWay u.here back choices
+    passes_here back choices way = subst (λ e. IsWay e back choices) at_entry (passes place back choices way place_fits)

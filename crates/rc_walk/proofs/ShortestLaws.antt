@@ -1,6 +1,6 @@
 -- The shortest walk is what a search finds first, there is one of it, and it can be computed.
 use Rattle.std.proofs.Common.{refl, ◌≡◌, ap, sym, ◌∙◌, subst, ℕ, zero, suc, ◌+◌, ◌≤◌, ◌<◌, ◌⊎◌, inl, inr, ⊎_elim, Bool, true, false, List, [], ◌∷◌, length, reverse, Option, Some, None, MatchOption, arith}
-use Rattle.std.specs.List.{slice_get}
+use Rattle.std.specs.List.{IsDistinct, slice_get}
 use Rattle.std.specs.Option.{option_map, option_or}
 use Rattle.std.specs.Prelude.{if◌then◌else◌}
 use Rattle.std.proofs.lemmas.Bool.{cases_lt}
@@ -9,24 +9,39 @@ use Rattle.rc_base.specs.declared.ending.Ends.{Ends}
 use Rattle.rc_base.specs.declared.ending.Kind.{Kind}
 use Rattle.rc_base.specs.declared.header.Header.{Header}
 use Rattle.rc_base.specs.declared.position.Pos.{Pos}
-use Rattle.rc_base.specs.Positions.{is_among}
+use Rattle.rc_base.specs.Positions.{is_among, same_position}
 use Rattle.rc_topology.specs.Links.{all_ids}
+use Rattle.rc_walk.specs.declared.goal.Goal.TheVariants.{Ending}
 use Rattle.rc_walk.specs.declared.walk.Move.{Move}
 use Rattle.rc_walk.specs.declared.walk.Move.TheVariants.{Next, End}
 use Rattle.rc_walk.specs.declared.walk.Stop.TheVariants.{At}
 use Rattle.rc_walk.specs.declared.walk.Walk.{Walk}
 use Rattle.rc_walk.specs.Moves.{DataPlane, moves}
 use Rattle.rc_walk.specs.Search.{IsEnd, IsFirstEnd, NothingEnds, Lead}
-use Rattle.rc_walk.specs.Searching.{is_asked, leads_to, ends_by, IsAtEnd, WaysBack}
+use Rattle.rc_walk.specs.Goals.{is_met_by}
+use Rattle.rc_walk.specs.Searching.{leads_to, meets_by, IsAllLooked, IsAtEnd, WaysBack}
 use Rattle.rc_walk.specs.ShortestWalks.{IsLess, ComeBefore, AreChoices, IsWalkTo, IsShortestWalk, NoWalkEnds, first_of, Rest, end_by, rest_by, rest_of, fewest_from, shortest_walk}
-use Rattle.rc_walk.specs.Walks.{last_position, IsWalk, MayStopAt}
+use Rattle.rc_walk.specs.Walks.{last_position, IsWalk}
 use Rattle.rc_walk.proofs.BoundLaws.{few_steps}
 use Rattle.rc_walk.proofs.ChoiceLaws.{Along, HasTurned, along_end, turned_choices, along_lead, lead_along, passed_once, turned_at_most, not_longer, before_once, same_choices, chosen_moves}
-use Rattle.rc_walk.proofs.SearchState.{passes_here, found_first}
+use Rattle.rc_walk.proofs.SearchState.{passes_here, found_first, no_more}
+
+module _ (plane : DataPlane) (h : Header) (ends : Ends) where
+  -- choices to an ending that is asked for make a walk to it, where no position is passed twice
+  walk_by : (q : Pos) (ts : List Pos) (kind : Kind) (cs : List ℕ) → AreChoices plane h q ts kind cs → is_among ends kind ≡ true → IsDistinct same_position (q ∷ ts) → IsWalkTo plane h ends q (record { positions = q ∷ ts; stop = At kind }) cs
+  walk_by q ts kind cs chosen asked once =
+      let (each, ended, long) = chosen_moves plane h q ts kind cs chosen in
+      record {
+        walk = record { steps = ts; positions = refl; each = each; once = once; stops = ended };
+        kind = kind;
+        stop = refl;
+        asked = asked;
+        chosen = chosen;
+      }
 
 module _ (plane : DataPlane) (h : Header) (ends : Ends) (start : Pos) where
   abbrev IsEndBy : List ℕ → Pos → ℕ → Type 0
-  IsEndBy cs p c = IsEnd (leads_to plane h) (ends_by plane h ends) start cs p c
+  IsEndBy cs p c = IsEnd (leads_to plane h) (meets_by plane h (Ending ends)) start cs p c
 
   -- the choices of a walk to an ending that is asked for, read from the last one on
   record IsTurnedWalk (others : List ℕ) : Type 0 where
@@ -38,52 +53,49 @@ module _ (plane : DataPlane) (h : Header) (ends : Ends) (start : Pos) where
 
   turned_walk : (v : Walk) (others : List ℕ) → IsWalkTo plane h ends start v others → IsTurnedWalk others
   turned_walk v others w =
-      let t : HasTurned plane h start w.steps w.kind others = turned_choices plane h start w.steps w.kind others w.chosen in
+      let t : HasTurned plane h start w.walk.steps w.kind others = turned_choices plane h start w.walk.steps w.kind others w.chosen in
       record {
         back = t.back;
         last = t.last;
-        at = last_position start w.steps;
+        at = last_position start w.walk.steps;
         whole = t.whole;
-        is_end = record { lead = along_lead plane h start ends t.back w.steps t.along; ends_there = ap (is_asked ends) t.ended ∙ w.asked };
+        is_end = record { lead = along_lead plane h start (Ending ends) t.back w.walk.steps t.along; ends_there = ap (is_met_by (Ending ends)) t.ended ∙ w.asked };
       }
 
   -- the first end is that of the shortest walk
-  pub shortest_end : (cs : List ℕ) (ts : List Pos) (last : ℕ) (kind : Kind) → IsFirstEnd (leads_to plane h) (ends_by plane h ends) start cs (last_position start ts) last → Along plane h start cs ts → slice_get (moves plane h (last_position start ts)) last ≡ Some (End kind) → is_among ends kind ≡ true → IsShortestWalk plane h ends start (record { positions = start ∷ ts; stop = At kind })
+  pub shortest_end : (cs : List ℕ) (ts : List Pos) (last : ℕ) (kind : Kind) → IsFirstEnd (leads_to plane h) (meets_by plane h (Ending ends)) start cs (last_position start ts) last → Along plane h start cs ts → slice_get (moves plane h (last_position start ts)) last ≡ Some (End kind) → is_among ends kind ≡ true → IsShortestWalk plane h ends start (record { positions = start ∷ ts; stop = At kind })
   shortest_end cs ts last kind f along ended asked = record {
     choices = reverse (last ∷ cs);
-    walk = record {
-      steps = ts;
-      kind = kind;
-      positions = refl;
-      stop = refl;
-      asked = asked;
-      chosen = along_end plane h start cs ts along last kind ended;
-      once = passed_once plane h start ends cs ts along (λ ds lead.
-          let l : length (last ∷ cs) ≤ length (last ∷ ds) = not_longer (last ∷ cs) (last ∷ ds) (f.first ds (last_position start ts) last (record { lead = lead; ends_there = f.is_end.ends_there })) in
-          omega arith);
-    };
+    walk = walk_by plane h ends start ts kind (reverse (last ∷ cs)) (along_end plane h start cs ts along last kind ended) asked (passed_once plane h start (Ending ends) cs ts along (λ ds lead.
+        let l : length (last ∷ cs) ≤ length (last ∷ ds) = not_longer (last ∷ cs) (last ∷ ds) (f.first ds (last_position start ts) last (record { lead = lead; ends_there = f.is_end.ends_there })) in
+        omega arith));
     first = λ v others w.
         let t = turned_walk v others w in
         subst (λ xs. (reverse (last ∷ cs) ≡ xs) ⊎ ComeBefore (reverse (last ∷ cs)) xs) (sym t.whole) (turned_at_most (last ∷ cs) (t.last ∷ t.back) (f.first t.back t.at t.last t.is_end));
   }
 
-  pub no_walk : NothingEnds (leads_to plane h) (ends_by plane h ends) start → NoWalkEnds plane h ends start
+  pub no_walk : NothingEnds (leads_to plane h) (meets_by plane h (Ending ends)) start → NoWalkEnds plane h ends start
   no_walk nothing v others w = let t = turned_walk v others w in nothing t.back t.at t.last t.is_end
 
   -- what a search has found at an end
-  pub found_walk : (found : List Pos) (from : List ℕ) (place : ℕ) (kind : Kind) → IsAtEnd plane h ends start found from place kind → (back : List Pos) → WaysBack found from place back → IsShortestWalk plane h ends start (record { positions = reverse back; stop = At kind })
-  found_walk found from place kind e back ways =
-      let w = passes_here e.way back ways in
-      let first : IsFirstEnd (leads_to plane h) (ends_by plane h ends) start e.way.here.1 e.way.here.0 e.last = found_first e.way (ap (is_asked ends) e.ended ∙ e.asked) in
-      let walk = shortest_end e.way.here.1 w.steps e.last kind (subst (λ q. IsFirstEnd (leads_to plane h) (ends_by plane h ends) start e.way.here.1 q e.last) (sym w.last) first) w.along (ap (λ q. slice_get (moves plane h q) e.last) w.last ∙ e.ended) e.asked in
+  pub found_walk : {found : List Pos} {from by : List ℕ} {place choice : ℕ} (kind : Kind) → IsAtEnd plane h (Ending ends) start found from by place choice (End kind) → (back : List Pos) (choices : List ℕ) → WaysBack found from by place back choices → IsShortestWalk plane h ends start (record { positions = reverse back; stop = At kind })
+  found_walk {choice = choice} kind e back choices ways =
+      let w = passes_here e.way back choices ways in
+      let cs = e.way.here.1 in
+      let first : IsFirstEnd (leads_to plane h) (meets_by plane h (Ending ends)) start cs e.way.here.0 choice = found_first e.way (ap (is_met_by (Ending ends)) e.ended ∙ e.met) in
+      let walk = shortest_end cs w.steps choice kind (subst (λ q. IsFirstEnd (leads_to plane h) (meets_by plane h (Ending ends)) start cs q choice) (sym w.last) first) w.along (ap (λ q. slice_get (moves plane h q) choice) w.last ∙ e.ended) e.met in
       subst (λ ps. IsShortestWalk plane h ends start (record { positions = ps; stop = At kind })) (sym w.positions) walk
+
+  -- where it has looked at everything no walk ends so
+  pub none_found : {found : List Pos} {from by : List ℕ} → IsAllLooked plane h (Ending ends) start found from by → NoWalkEnds plane h ends start
+  none_found a = no_walk (no_more a.looked.way a.whole a.looked.all)
 
   -- ---- one walk
 
   same_walk : (w v : Walk) (cs ds : List ℕ) → IsWalkTo plane h ends start w cs → IsWalkTo plane h ends start v ds → cs ≡ ds → w ≡ v
   same_walk w v cs ds a b e =
-      let same = same_choices plane h start a.steps b.steps a.kind b.kind cs a.chosen (subst (λ xs. AreChoices plane h start b.steps b.kind xs) (sym e) b.chosen) in
-      let positions : w.positions ≡ v.positions = a.positions ∙ ap (λ ts. start ∷ ts) same.0 ∙ sym b.positions in
+      let same = same_choices plane h start a.walk.steps b.walk.steps a.kind b.kind cs a.chosen (subst (λ xs. AreChoices plane h start b.walk.steps b.kind xs) (sym e) b.chosen) in
+      let positions : w.positions ≡ v.positions = a.walk.positions ∙ ap (λ ts. start ∷ ts) same.0 ∙ sym b.walk.positions in
       let stop : w.stop ≡ v.stop = a.stop ∙ ap At same.1 ∙ sym b.stop in
       λ i. record { positions = positions i; stop = stop i }
 
@@ -96,10 +108,7 @@ module _ (plane : DataPlane) (h : Header) (ends : Ends) (start : Pos) where
       by (inr less) (inr more) = absurd (before_once a.choices b.choices less more)
 
   pub shortest_walk_is_a_walk : (w : Walk) → IsShortestWalk plane h ends start w → IsWalk plane h start w
-  shortest_walk_is_a_walk w a =
-      let (each, ended, long) = chosen_moves plane h start a.walk.steps a.walk.kind a.choices a.walk.chosen in
-      let stops : MayStopAt plane h w.positions (last_position start a.walk.steps) w.stop = subst (λ s. MayStopAt plane h w.positions (last_position start a.walk.steps) s) (sym a.walk.stop) ended in
-      record { steps = a.walk.steps; positions = a.walk.positions; each = each; once = a.walk.once; stops = stops }
+  shortest_walk_is_a_walk w a = a.walk.walk
 
 -- ---- the walk, computed
 
@@ -360,10 +369,10 @@ module _ (plane : DataPlane) (h : Header) (ends : Ends) where
         let whole : length f.first.choices ≡ suc (length turned_first.back) = ap length turned_first.whole ∙ length-reverse (turned_first.last ∷ turned_first.back) in
         omega arith
 
-    no_fewer : (ds : List ℕ) → Lead (leads_to plane h) (ends_by plane h ends) q ds (last_position q r.0) → length turned_first.back ≤ length ds
+    no_fewer : (ds : List ℕ) → Lead (leads_to plane h) (meets_by plane h (Ending ends)) q ds (last_position q r.0) → length turned_first.back ≤ length ds
     no_fewer ds lead = ⊎_elim
         (λ less.
-        let (ts, along, at) = lead_along plane h q ends ds (last_position q r.0) lead in
+        let (ts, along, at) = lead_along plane h q (Ending ends) ds (last_position q r.0) lead in
         let chosen : AreChoices plane h q ts r.1 (reverse (turned_first.last ∷ ds)) = along_end plane h q ds ts along turned_first.last r.1 (ap (λ x. slice_get (moves plane h x) turned_first.last) at ∙ turned_first.ended) in
         let many : length ds < f.many = (let e = as_many in omega arith) in
         absurd (f.fewer (length ds) (omega arith) many ts r.1 (reverse (turned_first.last ∷ ds)) chosen f.first.asked (length-reverse (turned_first.last ∷ ds))))
@@ -371,25 +380,17 @@ module _ (plane : DataPlane) (h : Header) (ends : Ends) where
 
     none_before : (v : Walk) (others : List ℕ) → IsWalkTo plane h ends q v others → (f.first.choices ≡ others) ⊎ ComeBefore f.first.choices others
     none_before v others w =
-        let long : length others ≡ suc (length w.steps) = many_choices q w.steps w.kind others w.chosen in
+        let long : length others ≡ suc (length w.walk.steps) = many_choices q w.walk.steps w.kind others w.chosen in
         let many : length f.first.choices ≡ suc f.many = f.first.many in
-        ⊎_elim (λ less. absurd (f.fewer (length w.steps) (omega arith) less w.steps w.kind others w.chosen w.asked long)) (λ le. ⊎_elim
+        ⊎_elim (λ less. absurd (f.fewer (length w.walk.steps) (omega arith) less w.walk.steps w.kind others w.chosen w.asked long)) (λ le. ⊎_elim
         (λ less. inr (inl (omega arith)))
-        (λ ge. ⊎_elim (λ same. inl same) (λ before. inr (inr (let e : length f.first.choices ≡ length others = omega arith in e, before))) (f.first.first w.steps w.kind others w.chosen w.asked (omega arith)))
-        (cases_lt f.many (length w.steps))) (cases_lt (length w.steps) f.many)
+        (λ ge. ⊎_elim (λ same. inl same) (λ before. inr (inr (let e : length f.first.choices ≡ length others = omega arith in e, before))) (f.first.first w.walk.steps w.kind others w.chosen w.asked (omega arith)))
+        (cases_lt f.many (length w.walk.steps))) (cases_lt (length w.walk.steps) f.many)
 
     is_shortest : IsShortestWalk plane h ends q (record { positions = q ∷ r.0; stop = At r.1 })
     is_shortest = record {
       choices = f.first.choices;
-      walk = record {
-        steps = r.0;
-        kind = r.1;
-        positions = refl;
-        stop = refl;
-        asked = f.first.asked;
-        chosen = f.first.chosen;
-        once = passed_once plane h q ends turned_first.back r.0 turned_first.along no_fewer;
-      };
+      walk = walk_by plane h ends q r.0 r.1 f.first.choices f.first.chosen f.first.asked (passed_once plane h q (Ending ends) turned_first.back r.0 turned_first.along no_fewer);
       first = none_before;
     }
 
@@ -398,7 +399,7 @@ module _ (plane : DataPlane) (h : Header) (ends : Ends) where
     where
       by : (o : Option Rest) → MatchOption o (NoneUpTo (length (all_ids plane.links)) 0 q) (IsFewest 0 q) → MatchOption (option_map (λ (r : Rest). record { positions = q ∷ r.0; stop = At r.1 }) o) (NoWalkEnds plane h ends q) (IsShortestWalk plane h ends q)
       by None none = λ v others w.
-          let (each, ended, long) = chosen_moves plane h q w.steps w.kind others w.chosen in
-          let few : length w.steps ≤ length (all_ids plane.links) = few_steps plane h q w.steps each w.once in
-          none (length w.steps) (omega arith) (omega arith) w.steps w.kind others w.chosen w.asked long
+          let (each, ended, long) = chosen_moves plane h q w.walk.steps w.kind others w.chosen in
+          let few : length w.walk.steps ≤ length (all_ids plane.links) = few_steps plane h q w.walk.steps each w.walk.once in
+          none (length w.walk.steps) (omega arith) (omega arith) w.walk.steps w.kind others w.chosen w.asked long
       by (Some r) f = is_shortest q r f

@@ -1,6 +1,7 @@
 -- Small networks and their tables, written by hand.
 use Rattle.std.specs.Prelude.{ℕ, ◌+◌, ◌*◌, true, List, [], ◌∷◌, map, Some, None, codes}
 use Rattle.std.specs.List.{enumerate_from}
+use Rattle.rc_base.specs.Fields.{zeros}
 use Rattle.rc_base.specs.Prefix.{prefix_at}
 use Rattle.rc_base.specs.declared.header.Header.{Header}
 use Rattle.rc_base.specs.declared.position.IfId.{IfId}
@@ -25,7 +26,7 @@ ip a b c d = a * 16777216 + b * 65536 + c * 256 + d
 
 -- a packet to an address
 abbrev pub to : ℕ → Header
-to a = record { dst = a; src = 0; proto = 0; sport = 0; dport = 0 }
+to a = record zeros { dst = a }
 
 abbrev pub port : ℕ → ℕ → IfId
 port r n = record { router = r; index = n }

@@ -7,6 +7,7 @@ pub mod WalkRows
 pub mod AccessListRows
 pub mod ShortestWalks
 pub mod Search
+pub mod Goals
 pub mod Searching
 pub mod ShortestRows
 pub mod PairRows

@@ -1,18 +1,18 @@
 -- The shortest walk of a packet to an ending that is asked for: of several the one whose choices come first.
 use Rattle.std.specs.Prelude.{◌≡◌, ℕ, zero, suc, ◌<◌, ◌⊎◌, true, List, [], ◌∷◌, Option, Some, None, length, slice_get, if◌then◌else◌}
-use Rattle.std.specs.List.{IsDistinct}
 use Rattle.std.specs.Option.{option_map, option_or}
 use Rattle.rc_base.specs.declared.ending.Ends.{Ends}
 use Rattle.rc_base.specs.declared.ending.Kind.{Kind}
 use Rattle.rc_base.specs.declared.header.Header.{Header}
 use Rattle.rc_base.specs.declared.position.Pos.{Pos}
-use Rattle.rc_base.specs.Positions.{is_among, same_position}
+use Rattle.rc_base.specs.Positions.{is_among}
 use Rattle.rc_topology.specs.Links.{all_ids}
 use Rattle.rc_walk.specs.declared.walk.Move.{Move}
 use Rattle.rc_walk.specs.declared.walk.Move.TheVariants.{Next, End}
 use Rattle.rc_walk.specs.declared.walk.Stop.TheVariants.{At}
 use Rattle.rc_walk.specs.declared.walk.Walk.{Walk}
 use Rattle.rc_walk.specs.Moves.{DataPlane, moves}
+use Rattle.rc_walk.specs.Walks.{IsWalk}
 
 -- ---- lists of choices
 
@@ -56,15 +56,13 @@ module _ (plane : DataPlane) (h : Header) where
   AreChoices q (t ∷ ts) kind (c ∷ cs) = (slice_get (moves plane h q) c ≡ Some (Next t)) × AreChoices t ts kind cs
 
   module _ (ends : Ends) where
-    -- by these choices a walk from a position, which passes none twice, comes to an ending that is asked for
+    -- by these choices a walk from a position comes to an ending that is asked for
     pub record IsWalkTo (q : Pos) (w : Walk) (choices : List ℕ) : Type 0 where
-      pub steps : List Pos
+      pub walk : IsWalk plane h q w
       pub kind : Kind
-      pub positions : w.positions ≡ q ∷ steps
       pub stop : w.stop ≡ At kind
       pub asked : is_among ends kind ≡ true
-      pub chosen : AreChoices q steps kind choices
-      pub once : IsDistinct same_position (q ∷ steps)
+      pub chosen : AreChoices q walk.steps kind choices
 
     -- a walk to an ending that is asked for, of which no other such walk's choices come before its own
     pub record IsShortestWalk (q : Pos) (w : Walk) : Type 0 where

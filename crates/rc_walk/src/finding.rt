@@ -2,8 +2,10 @@
 ghost use Rattle.std.specs.Prelude.{IfOk, MatchOption};
 ghost use Rattle.rc_walk.specs.ShortestWalks.{IsShortestWalk, NoWalkEnds};
 
-use crate::search::{Search, Wanted};
-use crate::{Plane, Stop, Walk};
+use crate::goal::Goal;
+use crate::search::{Seeking, Sought, seek};
+use crate::way::Way;
+use crate::{Move, Plane, Stop, Walk};
 use rc_base::{Ends, Header, Items, Pos};
 use std::alloc::{AllocError, Global};
 
@@ -18,26 +20,25 @@ pub fn shortest(
 ) -> Result<Option<Walk>, AllocError>
     ensures { IfOk result (λ walk. MatchOption walk (NoWalkEnds plane.now header.now ends position) (IsShortestWalk plane.now header.now ends position)) }
 {
-    let wanted = Wanted {
-        plane,
+    let seeking = Seeking {
+        plane: &*plane,
         header: *header,
         start: position,
-        ends,
+        goal: Goal::Ending(ends),
     };
-    let mut search = Search::set_out(alloc, &wanted.start)?;
-    let mut place = 0;
-    loop {
-        let ended = search.look(&wanted, place)?;
-        if let Some(kind) = ended {
-            let positions = search.way_to(alloc, place)?;
-            return Ok(Some(Walk {
-                positions: Items::from_vec(positions),
-                stop: Stop::At(kind),
-            }));
-        }
-        place += 1;
-        if place == search.found.len() {
-            return Ok(None);
-        }
-    }
+    let Sought { search, end } = seek(alloc, &seeking)?;
+    let Some(end) = end else {
+        return Ok(None);
+    };
+    let Move::End(kind) = end.met.last else {
+        return Ok(None);
+    };
+    let Way {
+        positions,
+        choices: _,
+    } = search.way_to(alloc, end.place)?;
+    Ok(Some(Walk {
+        positions: Items::from_vec(positions),
+        stop: Stop::At(kind),
+    }))
 }

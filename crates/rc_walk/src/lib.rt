@@ -7,6 +7,7 @@
 
 mod begun;
 mod finding;
+mod goal;
 mod laws;
 mod plane;
 mod search;
@@ -15,6 +16,7 @@ mod steps;
 mod walk;
 mod walked;
 mod walking;
+mod way;
 
 pub use finding::shortest;
 pub use laws::{

@@ -1,27 +1,43 @@
-use Rattle.std.proofs.Common.{rules, ◌≡◌, length, replicate, true, subst}
-use Rattle.std.proofs.lemmas.Result.{IfOk-weaker}
+use Rattle.std.proofs.Common.{refl, rules, ◌≡◌, ◌∙◌, ap, length, replicate, sym, true, subst}
+use Rattle.std.proofs.lemmas.Result.{IfOk-at_ok, IfOk-weaker}
+use Rattle.rc_config.specs.Members.{positions}
+use Rattle.rc_edges.specs.Prepare.{ends_at}
+use Rattle.rc_edges.specs.Query.{reaching}
 use Rattle.rc_jobs.specs.Flows.{KnowsFlows, real_endings}
 use Rattle.rc_nodes.specs.Seats.{SeatKnows}
-use Rattle.rc_reach.specs.Rounds.{ending_after}
-use Rattle.rc_reach.proofs.Rounding.{ends_sent, ends_gathered, may_gather_ends}
+use Rattle.rc_reach.specs.Known.{KnowsShare}
+use Rattle.rc_reach.specs.Rounds.{reached_at}
+use Rattle.rc_trees.specs.Recipes.{tree}
+use Rattle.rc_reach.proofs.EndLaws.{ends_sent, ends_gathered, may_gather_ends}
+use Rattle.rc_reach.proofs.JoinLaws.{place_end, place_result}
 use Rattle.rc_reach.proofs.result.ended.Goals as goal
 
 pub gathered_set-requires-clause-may : goal.gathered_set-requires-clause-may
 gathered_set-requires-clause-may g c =
-    let n = length c.args.prepared.now.into in
-    let ends = g.E.Sends.ends c.args.sends.now in
-    let all : c.as_slice.result.now ≡ replicate (length c.args.sets.now) true = search rules in
-    let flows : KnowsFlows c.args.work.now c.as_slice-2.result.now (real_endings ends n) = rw c.as_slice-2.ensures c.requires.ends in
-    may_gather_ends (g.E.Sends.edge c.args.sends.now) ends n c.args.place c.requires.seat c.requires.sets flows c.requires.may c.as_slice.result.now all
+    let plane = c.args.plane.now in
+    let place = c.args.place.now in
+    let n = length (positions plane.network) in
+    let last = reached_at plane place n in
+    let is = c.as_slice.ensures.value in
+    let known : KnowsShare c.args.work.now c.as_slice.result.now last 0 n = subst (λ rs. KnowsShare c.args.work.now rs last 0 n) (sym is) (IfOk-at_ok (λ v. KnowsShare c.args.work.now v.items last 0 n) c.in-Ok.is c.requires.sets) in
+    let every : c.as_slice-2.result.now ≡ replicate (length c.in-Ok.sets.items) true = search rules in
+    let all : c.as_slice-2.result.now ≡ replicate (length c.as_slice.result.now) true = every ∙ ap (λ rs. replicate (length rs) true) (sym is) in
+    let flows : KnowsFlows c.args.work.now c.as_slice-3.result.now (real_endings (ends_at plane c.args.ends) n) = rw c.as_slice-3.ensures c.requires.endings in
+    may_gather_ends (ends_at plane c.args.ends) n last c.requires.seat known flows (place_end plane place n refl c.args.ends c.args.nodes.now.may c.requires.may) c.as_slice-2.result.now all
 
-pub returns-clause-made : goal.returns-clause-made
-returns-clause-made g c =
-    let n = length c.args.prepared.now.into in
-    let edge = g.E.Sends.edge c.args.sends.now in
-    let ends = g.E.Sends.ends c.args.sends.now in
-    let all : c.as_slice.result.now ≡ replicate (length c.args.sets.now) true = search rules in
-    let flows : KnowsFlows c.args.work.now c.as_slice-2.result.now (real_endings ends n) = rw c.as_slice-2.ensures c.requires.ends in
-    let sent = ends_sent edge ends n c.args.place c.requires.seat c.requires.sets flows c.as_slice.result.now all in
-    let whole = ends_gathered edge ends n c.args.place c.requires.seat c.requires.sets flows in
-    IfOk-weaker c.gathered_set.result _ (λ r. SeatKnows c.gathered_set.new.work r.index (ending_after edge n c.args.place ends n))
+pub returns-clause-set : goal.returns-clause-set
+returns-clause-set g c =
+    let plane = c.args.plane.now in
+    let place = c.args.place.now in
+    let n = length (positions plane.network) in
+    let ends = ends_at plane c.args.ends in
+    let last = reached_at plane place n in
+    let is = c.as_slice.ensures.value in
+    let known : KnowsShare c.args.work.now c.as_slice.result.now last 0 n = subst (λ rs. KnowsShare c.args.work.now rs last 0 n) (sym is) (IfOk-at_ok (λ v. KnowsShare c.args.work.now v.items last 0 n) c.in-Ok.is c.requires.sets) in
+    let every : c.as_slice-2.result.now ≡ replicate (length c.in-Ok.sets.items) true = search rules in
+    let all : c.as_slice-2.result.now ≡ replicate (length c.as_slice.result.now) true = every ∙ ap (λ rs. replicate (length rs) true) (sym is) in
+    let flows : KnowsFlows c.args.work.now c.as_slice-3.result.now (real_endings ends n) = rw c.as_slice-3.ensures c.requires.endings in
+    let sent = ends_sent ends n last c.requires.seat known flows c.as_slice-2.result.now all in
+    let whole = ends_gathered ends n last c.requires.seat known flows ∙ place_result plane place n refl c.args.ends in
+    IfOk-weaker c.gathered_set.result _ (λ r. SeatKnows c.gathered_set.new.work r.index (tree (reaching plane place c.args.ends)))
     (λ r h. subst (SeatKnows c.gathered_set.new.work r.index) whole (h _ _ _ sent)) c.gathered_set.ensures.made

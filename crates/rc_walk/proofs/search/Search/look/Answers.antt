@@ -1,29 +1,39 @@
-use Rattle.std.proofs.Common.{◌≡◌, [], ◌∷◌, ◌++◌, refl, ap, sym, ◌∙◌}
+use Rattle.std.proofs.Common.{rules, ◌≡◌, ◌+◌, ◌<◌, length, slice_index_or, ap, sym, ◌∙◌, arith}
+use Rattle.std.specs.List.{slice_get}
 use Rattle.rc_walk.specs.Moves.{moves}
-use Rattle.rc_walk.proofs.SearchState.{here_is, looked_on, ended_at, looked_all}
+use Rattle.rc_walk.specs.Searching.{Entry}
+use Rattle.rc_walk.specs.declared.walk.Move.{Move}
+use Rattle.rc_walk.proofs.SearchState.{get_read, here_is, looked_on}
 use Rattle.rc_walk.proofs.search.Search.look.Goals as goal
 
-pub loop-next-init : goal.loop-next-init
-loop-next-init c =
+pub loop-choice-init : goal.loop-choice-init
+loop-choice-init c =
     let at_place = here_is c.requires in
     let found_there = c.at-here.ensures in
     let same : c.at-here.result ≡ c.requires.here.0 = cc in
-    record { seen = []; way = c.requires; all = c.step-steps.ensures ∙ ap (moves c.args.wanted.now.plane.now c.args.wanted.now.header) same }
+    record { way = c.requires; all = c.in_ok-all.ensures ∙ ap (moves c.args.seeking.now.plane.now c.args.seeking.now.header) same }
 
-pub returns-then-is_some : goal.returns-then-is_some
-returns-then-is_some c =
-    let i = c.loop-next.invariant in
-    let all = ap (λ ms. i.seen ++ ms) (sym c.in-Some.ensures.steps) ∙ i.all in
-    ended_at i.way i.seen refl c.in-Some.next c.next.new.self all c.in_ok-ended.ended c.in_ok-ended.ensures.kind c.look_at.new.self.found c.look_at.new.self.from.items c.in_ok-ended.ensures.found c.in_ok-ended.ensures.from (sym c.is_some.ensures ∙ c.if-is_some.true)
+pub returns-then-is_met : goal.returns-then-is_met
+returns-then-is_met c =
+    let i = c.loop-choice.invariant in
+    let next : Move = c.index.result.now in
+    let low : c.loop-choice.choice < length c.in_ok-all.all.items = (let test = c.loop-choice-test.true in omega (arith, c.in_ok-all.all.ok.0)) in
+    let read : next ≡ slice_index_or c.in_ok-all.all.items c.loop-choice.choice next = search rules in
+    record { way = i.way; ended = ap (λ ms. slice_get ms c.loop-choice.choice) (sym i.all) ∙ get_read c.in_ok-all.all.items c.loop-choice.choice next low read; met = sym c.is_met.ensures ∙ c.if-is_met.true }
 
-pub loop-next-preserved : goal.loop-next-preserved
-loop-next-preserved c =
-    let i = c.loop-next.invariant in
-    let all = ap (λ ms. i.seen ++ ms) (sym c.in-Some.ensures.steps) ∙ i.all in
-    let (way, moves) = looked_on i.way i.seen refl c.in-Some.next c.next.new.self all c.in_ok-ended.ended c.in_ok-ended.ensures.kind c.look_at.new.self.found c.look_at.new.self.from.items c.in_ok-ended.ensures.found c.in_ok-ended.ensures.from (sym c.is_some.ensures ∙ c.if-is_some.false) in
-    record { seen = i.seen ++ c.in-Some.next ∷ []; way = way; all = moves }
+pub loop-choice-preserved : goal.loop-choice-preserved
+loop-choice-preserved c =
+    let i = c.loop-choice.invariant in
+    let next : Move = c.index.result.now in
+    let low : c.loop-choice.choice < length c.in_ok-all.all.items = (let test = c.loop-choice-test.true in omega (arith, c.in_ok-all.all.ok.0)) in
+    let read : next ≡ slice_index_or c.in_ok-all.all.items c.loop-choice.choice next = search rules in
+    let at = ap (λ ms. slice_get ms c.loop-choice.choice) (sym i.all) ∙ get_read c.in_ok-all.all.items c.loop-choice.choice next low read in
+    let (way, here) = looked_on i.way next at (sym c.is_met.ensures ∙ c.if-is_met.false) c.follow.new.self.found c.follow.new.self.from.items c.follow.new.self.by.items (c.loop-choice.choice + 1) c.in_ok-follow.ensures.found c.in_ok-follow.ensures.from c.in_ok-follow.ensures.by (omega arith) in
+    record { way = way; all = i.all ∙ ap (λ (e : Entry). moves c.args.seeking.now.plane.now c.args.seeking.now.header e.0) (sym here) }
 
 pub returns : goal.returns
 returns c =
-    let i = c.loop-next.invariant in
-    looked_all i.way i.seen refl (ap (λ ms. i.seen ++ ms) (sym c.in_default.ensures.steps.0) ∙ i.all)
+    let i = c.loop-choice.invariant in
+    let many = ap length i.all in
+    let test = c.loop-choice-test.false in
+    record { many = c.loop-choice.choice; way = i.way; all = omega (arith, c.in_ok-all.all.ok.0) }

@@ -1,5 +1,5 @@
 use Rattle.std.proofs.Common.{◌-◌}
-use Rattle.rc_jobs.proofs.workers.+fn-work-join+arg2+fn-work-join+arg3+work.Given as goal
+use Rattle.rc_shares.proofs.workers.+by_halves+fn-by_halves-join+arg2+fn-by_halves-join+arg3.Given as goal
 
 abbrev pub decreases-join+arg2 : goal.decreases-join+arg2
 decreases-join+arg2 g l = l.middle - l.first
@@ -7,5 +7,5 @@ decreases-join+arg2 g l = l.middle - l.first
 abbrev pub decreases-join+arg3 : goal.decreases-join+arg3
 decreases-join+arg3 g l = l.last - l.middle
 
-abbrev pub decreases-work : goal.decreases-work
-decreases-work g l = l.last - l.first
+abbrev pub decreases-by_halves : goal.decreases-by_halves
+decreases-by_halves g l = l.last - l.first

@@ -1,0 +1,115 @@
+//! In how large a table a set is tried first.
+//!
+//! A table of nodes is dear by its size alone: its memory is taken whole, and nodes stand in it far apart. The usual one is larger than most
+//! networks need, and takes longer to make than all else that is done for a small one. So a set is tried in a table first that fits the
+//! size of the network, and where that is full it is made again in the one that the words name. Nobody sees the difference: a
+//! set is one in any table, and each worker passes the gate once in each phase.
+ghost use Rattle.std.specs.Prelude.{◌<◌, IfSome};
+ghost use Rattle.rc_reach.specs.FirstTry.{IsFirstRoom};
+
+use rc_config::{Network, RouterText};
+use rc_outside::Gate;
+use rc_route::State;
+use std::sync::atomic::{AtomicU32, Ordering};
+
+/// As how many routes a line of an access list counts: it makes about as many nodes.
+const ROUTES_A_LINE: usize = 64;
+
+/// How many routes the tables have.
+fn routes_in(state: &State) -> usize {
+    let mut routes: usize = 0;
+    for known in state.as_slice() {
+        routes = routes.saturating_add(known.table.len());
+    }
+    routes
+}
+
+/// How many lines the access lists of a router have.
+fn lines_in(file: &RouterText) -> usize {
+    let lists = &file.lists.access_lists;
+    let mut lines: usize = 0;
+    for index in 0..lists.len() {
+        if let Some((_, list)) = lists.at(index) {
+            lines = lines.saturating_add(list.lines.len());
+        }
+    }
+    lines
+}
+
+/// How many routes a network has, where each line of an access list counts as some.
+fn size_of(net: &Network, state: &State) -> usize {
+    let mut size = routes_in(state);
+    for index in 0..net.routers.len() {
+        if let Some((_, file)) = net.routers.at(index) {
+            size = size.saturating_add(lines_in(file).saturating_mul(ROUTES_A_LINE));
+        }
+    }
+    size
+}
+
+/// How many nodes the table of a first try has room for in a network of this size, where there is one. The nodes grow slower than
+/// the routes, since the tables of neighbours are alike.
+fn room_for(size: usize) -> Option<u32>
+    ensures { IfSome result (λ room. 0 < room) }
+{
+    if size <= 16_384 {
+        Some(65_536)
+    } else if size <= 65_536 {
+        Some(131_072)
+    } else if size <= 262_144 {
+        Some(262_144)
+    } else if size <= 1_048_576 {
+        Some(524_288)
+    } else {
+        None
+    }
+}
+
+/// How many nodes the table of a first try has room for, where there is one: fewer than are allowed.
+pub fn first_room(net: &Network, state: &State, allowed: u32) -> Option<u32>
+    ensures { IfSome result (IsFirstRoom allowed) }
+{
+    let room = room_for(size_of(net, state));
+    match room {
+        Some(few) if few < allowed => Some(few),
+        _ => None,
+    }
+}
+
+/// A gate that is passed only beyond a phase: what was passed in a first try isn't passed again in the second.
+#[derive(Drop)]
+pub(crate) struct Onward<'a, G> {
+    gate: &'a G,
+    beyond: u32,
+    /// The last phase in which it was passed.
+    last: AtomicU32,
+}
+
+impl<'a, G: Gate> Onward<'a, G> {
+    /// For a first try.
+    pub fn first(gate: &'a G) -> Onward<'a, G> {
+        Onward {
+            gate,
+            beyond: 0,
+            last: AtomicU32::new(0),
+        }
+    }
+
+    /// For the try after this one.
+    pub fn second(&self) -> Onward<'a, G> {
+        Onward {
+            gate: self.gate,
+            beyond: self.last.load(Ordering::SeqCst),
+            last: AtomicU32::new(0),
+        }
+    }
+}
+
+impl<'a, G: Gate> Gate for Onward<'a, G> {
+    fn pass(&self, phase: u32, worker: u32) {
+        if phase > self.beyond {
+            self.last.store(phase, Ordering::SeqCst);
+            self.gate.pass(phase, worker);
+        }
+    }
+}
