@@ -12,4 +12,4 @@ use Rattle.rc_analyse.specs.Answer.{files_asked, IsAnswer}
 pub record EndsBy (words : List (List ℕ)) (status : Status) : Type 0 where
   pub usage : IfNone (request_of words) (IsWrittenOrMemory Usage usage_text status None None)
   pub usage_only : status ≡ Usage → IsNone (request_of words)
-  pub made : IfSome (request_of words) (λ r. IfSome (files_asked r.ask None) (λ files. IsAnswer files r status None None))
+  pub made : IfSome (request_of words) (λ r. IfSome (files_asked r.source None) (λ files. IsAnswer files r status None None))

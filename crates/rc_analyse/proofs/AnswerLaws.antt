@@ -1,12 +1,15 @@
 -- Without a fault the answer is complete, and plain words are taken.
-use Rattle.std.proofs.Common.{ap, sym, ◌∙◌, ◌≡◌, inl, inr, ℕ, List, Option, Some, None, IfSome}
+use Rattle.std.proofs.Common.{refl, ap, sym, subst, ◌∙◌, ◌≡◌, inl, inr, ℕ, Bool, List, Option, Some, None, Result, Ok, Err, IfOk, IfErr, IfSome, IfNone, IsNone}
 use Rattle.rc_outside.specs.Folder.{File}
-use Rattle.rc_route.specs.declared.outcome.Outcome.TheVariants as outcome
+use Rattle.rc_report.specs.declared.outcomes.RoundsEnd.TheVariants as rounds_end
 use Rattle.rc_words.specs.Laws.{TakesPlainWords}
 use Rattle.rc_words.specs.Request.{request_of}
 use Rattle.rc_words.specs.declared.request.Request.{Request}
-use Rattle.rc_answers.specs.Written.{IsLackingFor, IsPutOf, status_of}
-use Rattle.rc_analyse.specs.Answer.{AreFound, IsLacking, IsAnswer, IsComplete, IsCompleteWithout, IsTakenWhenPlain}
+use Rattle.rc_words.specs.declared.request.WordsFault.{WordsFault}
+use Rattle.rc_words.specs.declared.request.WordsFault.TheVariants as words
+use Rattle.rc_answers.specs.Texts.{usage_text}
+use Rattle.rc_answers.specs.Written.{IsLackingFor, IsPutOf, IsWritten, IsWrittenOrMemory, status_of}
+use Rattle.rc_analyse.specs.Answer.{AreFound, MayAsk, files_asked, IsLacking, IsAnswer, IsComplete, IsCompleteWithout, IsTakenWhenPlain}
 use Rattle.rc_answers.specs.Given.{Given, refused, no_place, ended}
 use Rattle.rc_answers.specs.declared.findings.Findings.{Findings}
 use Rattle.rc_answers.specs.declared.status.Status.{Status}
@@ -36,9 +39,9 @@ answered (Some files) r f answer old new are (inr (lacking, same)) = inr (inr (l
 given_status : (g : Given) → ¬ (status_of g ≡ Source)
 given_status (refused refusal) e = cc
 given_status no_place e = cc
-given_status (ended net (outcome.Fixed k state) shown) e = cc
-given_status (ended net (outcome.Repeats i k) shown) e = cc
-given_status (ended net (outcome.Limit n) shown) e = cc
+given_status (ended net (rounds_end.Fixed k) shown) e = cc
+given_status (ended net (rounds_end.Repeats i k) shown) e = cc
+given_status (ended net (rounds_end.Limit n) shown) e = cc
 
 lacking_status : (most : ℕ) (f : Findings) (answer : Status) → IsLackingFor most f answer → ¬ (answer ≡ Source)
 lacking_status most f Source lacking e = lacking
@@ -69,5 +72,68 @@ pub complete_where_told : (told : Option (List File)) (r : Request) (answer : St
 complete_where_told None r answer old new is source sink = tt
 complete_where_told (Some files) r answer old new is source sink = record { whole = λ read written. complete files r answer old new is (λ e. read (source e)) (λ e. written (sink e)) }
 
-pub taken_when_plain : TakesPlainWords → (words : List (List ℕ)) → IsTakenWhenPlain words
-taken_when_plain law words = record { taken = λ command dir uses plain is. ap request_of is ∙ law command dir uses plain }
+pub taken_when_plain : TakesPlainWords → (said : List (List ℕ)) → IsTakenWhenPlain said
+taken_when_plain law said = record { taken = λ command dir uses plain is. ap request_of is ∙ law command dir uses plain }
+
+-- ---- words, and the request that they make
+
+abbrev Made : Type 0
+Made = Result Request WordsFault
+
+-- what holds of the request that was made, and of any where memory was short, holds of what the words ask for
+pub of_request : (P : Request → Type 0) (asked : Option Request) (made : Made) → IfOk made (λ r. asked ≡ Some r) → (made ≡ Err words.Usage → asked ≡ None)
+    → IfOk made P → (made ≡ Err words.Memory → (r : Request) → P r) → IfSome asked P
+of_request P asked (Ok r) taken usage holds short = subst (λ o. IfSome o P) (sym taken) holds
+of_request P asked (Err words.Usage) taken usage holds short = subst (λ o. IfSome o P) (sym (usage refl)) tt
+of_request P None (Err words.Memory) taken usage holds short = tt
+of_request P (Some r) (Err words.Memory) taken usage holds short = short refl r
+
+-- what holds of any request that the words ask for holds of the one that was made
+pub of_asked : (P : Request → Type 0) (asked : Option Request) (made : Made) → IfOk made (λ r. asked ≡ Some r) → IfSome asked P → IfOk made P
+of_asked P asked (Ok r) taken holds = subst (λ o. IfSome o P) taken holds
+of_asked P asked (Err fault) taken holds = tt
+
+pub may_ask : (allows : List ℕ → Bool) (asked : Option Request) (made : Made) → IfOk made (λ r. asked ≡ Some r) → IfSome asked (λ r. MayAsk allows r.source) → IfOk made (λ r. MayAsk allows r.source)
+may_ask allows asked made taken holds = of_asked (λ r. MayAsk allows r.source) asked made taken holds
+
+pub usage_put : (asked : Option Request) (made : Made) (answer : Status) (old new : Option (List ℕ)) → IfOk made (λ r. asked ≡ Some r)
+    → IfErr made (λ fault. fault ≡ words.Usage → IsWritten Usage usage_text answer old new) → IfErr made (λ fault. fault ≡ words.Memory → (answer ≡ Memory) × (new ≡ old))
+    → IfNone asked (IsWrittenOrMemory Usage usage_text answer old new)
+usage_put asked (Ok r) answer old new taken usage memory = subst (λ o. IfNone o (IsWrittenOrMemory Usage usage_text answer old new)) (sym taken) tt
+usage_put None (Err words.Usage) answer old new taken usage memory = inl (usage refl)
+usage_put None (Err words.Memory) answer old new taken usage memory = inr (memory refl)
+usage_put (Some r) (Err fault) answer old new taken usage memory = tt
+
+pub usage_alone : (asked : Option Request) (made : Made) (answer : Status) (old new : Option (List ℕ)) → (made ≡ Err words.Usage → asked ≡ None) → IfOk made (λ r. ¬ (answer ≡ Usage))
+    → IfErr made (λ fault. fault ≡ words.Memory → (answer ≡ Memory) × (new ≡ old)) → answer ≡ Usage → IsNone asked
+usage_alone asked (Ok r) answer old new none never memory is = absurd (never is)
+usage_alone asked (Err words.Usage) answer old new none never memory is = subst IsNone (sym (none refl)) refl
+usage_alone asked (Err words.Memory) answer old new none never memory is = let bad : Memory ≡ Usage = sym ((memory refl).0) ∙ is in absurd (cc)
+
+-- where memory was short nothing is written, which is an answer
+short : (made : Made) (answer : Status) (old new : Option (List ℕ)) → IfErr made (λ fault. fault ≡ words.Memory → (answer ≡ Memory) × (new ≡ old)) → made ≡ Err words.Memory → (answer ≡ Memory) × (new ≡ old)
+short (Ok r) answer old new memory is = absurd (cc)
+short (Err fault) answer old new memory is = memory (let same : fault ≡ words.Memory = cc in same)
+
+lacks_memory : (files : List File) (r : Request) (answer : Status) → answer ≡ Memory → IsLacking files r answer
+lacks_memory files r answer is = subst (IsLacking files r) (sym is) tt
+
+any-told : (P : List File → Type 0) (told : Option (List File)) → ((files : List File) → P files) → IfSome told P
+any-told P None holds = tt
+any-told P (Some files) holds = holds files
+
+pub answer_of_words : (asked : Option Request) (made : Made) (told : Option (List File)) (answer : Status) (old new : Option (List ℕ)) → IfOk made (λ r. asked ≡ Some r) → (made ≡ Err words.Usage → asked ≡ None)
+    → IfErr made (λ fault. fault ≡ words.Memory → (answer ≡ Memory) × (new ≡ old)) → IfOk made (λ r. IfSome (files_asked r.source told) (λ files. IsAnswer files r answer old new))
+    → IfSome asked (λ r. IfSome (files_asked r.source told) (λ files. IsAnswer files r answer old new))
+answer_of_words asked made told answer old new taken usage memory holds =
+    of_request (λ r. IfSome (files_asked r.source told) (λ files. IsAnswer files r answer old new)) asked made taken usage holds
+    (λ is r. let (none, same) = short made answer old new memory is in any-told (λ files. IsAnswer files r answer old new) (files_asked r.source told) (λ files. inr (inr (lacks_memory files r answer none, same))))
+
+pub complete_of_words : (asked : Option Request) (made : Made) (told : Option (List File)) (answer : Status) (old new : Option (List ℕ)) (SourceRose SinkRose : Type 0) → IfOk made (λ r. asked ≡ Some r)
+    → (made ≡ Err words.Usage → asked ≡ None) → IfErr made (λ fault. fault ≡ words.Memory → (answer ≡ Memory) × (new ≡ old))
+    → IfOk made (λ r. IfSome (files_asked r.source told) (λ files. IsCompleteWithout SourceRose SinkRose files r answer old new))
+    → IfSome asked (λ r. IfSome (files_asked r.source told) (λ files. IsCompleteWithout SourceRose SinkRose files r answer old new))
+complete_of_words asked made told answer old new SourceRose SinkRose taken usage memory holds =
+    of_request (λ r. IfSome (files_asked r.source told) (λ files. IsCompleteWithout SourceRose SinkRose files r answer old new)) asked made taken usage holds
+    (λ is r. let (none, same) = short made answer old new memory is in any-told (λ files. IsCompleteWithout SourceRose SinkRose files r answer old new) (files_asked r.source told)
+    (λ files. record { whole = λ read written. inl (lacks_memory files r answer none) }))

@@ -1,5 +1,5 @@
 -- What is built of models, and what the network of files is found to be.
-use Rattle.std.proofs.Common.{refl, ◌≡◌, sym, List, Option, Some, None, Result, Ok, Err, IfOk, IfSome, subst}
+use Rattle.std.proofs.Common.{refl, ◌≡◌, List, Option, Some, None, Result, Ok, Err, IfOk, IfSome}
 use Rattle.rc_config.specs.Lawful.{IsLawful}
 use Rattle.rc_config.specs.declared.network.Network.{Network}
 use Rattle.rc_network.specs.Build.{Model, IsBuilt}
@@ -7,14 +7,16 @@ use Rattle.rc_network.specs.declared.refusal.BuildError.{BuildError}
 use Rattle.rc_network.specs.declared.refusal.BuildError.TheVariants as building
 use Rattle.rc_network.specs.declared.refusal.NetRefusal.{NetRefusal}
 use Rattle.rc_outside.specs.Folder.{File}
+use Rattle.rc_words.specs.declared.request.Ask.{Ask}
 use Rattle.rc_words.specs.declared.request.Request.{Request}
-use Rattle.rc_answers.specs.Subject.{subject_of}
+use Rattle.rc_answers.proofs.SubjectLaws.{asked_is_there}
+use Rattle.rc_answers.specs.Subject.{asked_at, asked_of, subject_of}
 use Rattle.rc_answers.specs.declared.findings.Findings.{Findings}
 use Rattle.rc_answers.specs.declared.subject.Subject.{Subject}
 use Rattle.rc_analyse.specs.Answer.{AreFound, dir_of}
 use Rattle.rc_analyse.specs.Causes.{network_or_refusal}
 use Rattle.rc_analyse.specs.Net.{IsNet, IsNetOfModels}
-use Rattle.rc_analyse.specs.Sound.{IsFoundAt, IsFoundOf}
+use Rattle.rc_analyse.specs.Sound.{IsFoundAs, IsSoundAsked}
 
 pub built_net : (models : List Model) (made : Result Network BuildError) → IsBuilt models made → IfOk (network_or_refusal made) (IsNetOfModels models)
 built_net models (Ok net) is = is
@@ -26,15 +28,16 @@ built_lawful (Ok net) lawful = lawful
 built_lawful (Err (building.Refused refusal)) lawful = tt
 built_lawful (Err building.Memory) lawful = tt
 
-module _ (files : List File) (r : Request) where
-  at_subject : (net : Network) (subject : Option Subject) (f : Findings) → subject_of net r.ask ≡ subject → IsNet (dir_of r.ask) files (Ok net) → IsFoundAt net r.limits subject f → AreFound files r f
-  at_subject net (Some subject) f is net_of (outcome, same, ended) = subst (AreFound files r) (sym same) (net_of, is, ended)
-  at_subject net None f is net_of same = subst (AreFound files r) (sym same) (net, net_of, is)
+-- what is asked of a lawful network is in it
+asked-sound : (net : Network) (ask : Ask) (subject : Option Subject) → IsLawful net → subject_of net ask ≡ subject → IsSoundAsked (asked_at net subject)
+asked-sound net ask None lawful is = tt
+asked-sound net ask (Some subject) lawful is = (lawful, asked_is_there net ask subject is)
 
-  found_in : (net : Result Network NetRefusal) (f : Findings) → IsNet (dir_of r.ask) files net → IsFoundOf r net f → AreFound files r f
-  found_in (Ok net) f is f_of = at_subject net (subject_of net r.ask) f refl is f_of
-  found_in (Err refusal) f is same = subst (AreFound files r) (sym same) is
+pub asked_sound : (net : Result Network NetRefusal) (ask : Ask) → IfOk net IsLawful → IsSoundAsked (asked_of net ask)
+asked_sound (Ok net) ask lawful = asked-sound net ask (subject_of net ask) lawful refl
+asked_sound (Err refusal) ask lawful = tt
 
-pub are_found : (told : Option (List File)) (r : Request) (net : Result Network NetRefusal) (f : Findings) → IfSome told (λ files. IsNet (dir_of r.ask) files net) → IsFoundOf r net f → IfSome told (λ files. AreFound files r f)
+pub are_found : (told : Option (List File)) (r : Request) (net : Result Network NetRefusal) (f : Findings) → IfSome told (λ files. IsNet (dir_of r.source) files net) → IsFoundAs r.limits (asked_of net r.ask) f
+    → IfSome told (λ files. AreFound files r f)
 are_found None r net f is f_of = tt
-are_found (Some files) r net f is f_of = found_in files r net f is f_of
+are_found (Some files) r net f is f_of = (net, is, f_of)

@@ -1,5 +1,5 @@
 -- The network of the files of a folder, or their first refusal.
-use Rattle.std.specs.Prelude.{◌≡◌, ℕ, Bool, true, false, List, [], ◌∷◌, length, filter, nat_lt, if◌then◌else◌, Some, None, Result, Ok, Err, unwrap_or, IsPermutation, IsSorted}
+use Rattle.std.specs.Prelude.{◌≡◌, ℕ, Bool, true, false, List, [], ◌∷◌, ◌++◌, length, filter, nat_lt, if◌then◌else◌, Option, Some, None, Result, Ok, Err, unwrap_or, IsPermutation, IsSorted}
 use Rattle.std.specs.Ordering.{nat_cmp}
 use Rattle.std.specs.Cmp.Lexicographic.{slice_cmp}
 use Rattle.rc_outside.specs.Folder.{File, names_in, bytes_at, is_config}
@@ -35,6 +35,10 @@ most_bytes = 1048576
 abbrev pub most_files : ℕ
 most_files = 512
 
+-- the refusal of so many configurations, where they are too many
+abbrev pub too_many : ℕ → Option NetRefusal
+too_many n = if nat_lt most_files n then Some TooManyFiles else None
+
 abbrev pub in_file : List ℕ → Result RouterText FileRefusal → Result RouterText NetRefusal
 in_file name (Ok model) = Ok model
 in_file name (Err refusal) = Err (InFile name refusal.line (InText refusal.cause))
@@ -53,6 +57,12 @@ onto name (Ok model) (Err refusal) = Err refusal
 abbrev pub models_of : (List ℕ → List ℕ) → List (List ℕ) → Result (List Model) NetRefusal
 models_of bytes [] = Ok []
 models_of bytes (name ∷ names) = onto name (model_of name (bytes name)) (models_of bytes names)
+
+-- models that were read, or the first refusal, and behind them what the next file is said to be
+abbrev pub with_model : Result (List Model) NetRefusal → List ℕ → Result RouterText NetRefusal → Result (List Model) NetRefusal
+with_model (Err refusal) name said = Err refusal
+with_model (Ok models) name (Ok model) = Ok (models ++ (name, model) ∷ [])
+with_model (Ok models) name (Err refusal) = Err refusal
 
 -- the network of models, or their first refusal
 abbrev pub IsNetOfModels : List Model → Result Network NetRefusal → Type 0

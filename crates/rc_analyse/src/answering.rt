@@ -1,7 +1,7 @@
 //! What the words ask for is found and written.
 ghost use Rattle.std.specs.Prelude.{◌≡◌, ◌≢◌, ◌<◌, IfSome};
 ghost use Rattle.rc_outside.specs.Causes.{Rose};
-ghost use Rattle.rc_words.specs.Request.{AreInRange, IsAskInRange};
+ghost use Rattle.rc_words.specs.Request.{AreInRange, IsSourceInRange};
 ghost use Rattle.rc_analyse.specs.Answer.{IsAnswer, IsCompleteWithout, IsSilent, MayAsk, files_asked};
 
 use crate::findings::analyse_folder;
@@ -20,11 +20,11 @@ pub(crate) fn answer_folder<R: Threads + Sync + AllocGlobal, F: Folder, S: Sink,
     out: &mut S,
     gate: &G,
 ) -> Status
-    requires allowed { MayAsk (F.allows folder.old) request.now.ask }
+    requires allowed { MayAsk (F.allows folder.old) request.now.source }
     requires limits { AreInRange request.now.limits }
-    requires ask { IsAskInRange request.now.ask }
-    ensures answer { IfSome (files_asked request.now.ask (F.told folder.old)) (λ files. IsAnswer files request.now result (S.told out.old) (S.told out.new)) }
-    ensures complete { IfSome (files_asked request.now.ask (F.told folder.old)) (λ files. IsCompleteWithout (Rose (F.faults folder.old) (F.faults folder.new)) (Rose (S.faults out.old) (S.faults out.new)) files request.now result (S.told out.old) (S.told out.new)) }
+    requires source { IsSourceInRange request.now.source }
+    ensures answer { IfSome (files_asked request.now.source (F.told folder.old)) (λ files. IsAnswer files request.now result (S.told out.old) (S.told out.new)) }
+    ensures complete { IfSome (files_asked request.now.source (F.told folder.old)) (λ files. IsCompleteWithout (Rose (F.faults folder.old) (F.faults folder.new)) (Rose (S.faults out.old) (S.faults out.new)) files request.now result (S.told out.old) (S.told out.new)) }
     ensures never_usage { result ≢ Status.Usage }
     ensures silent { IsSilent result → S.told out.new ≡ S.told out.old }
     ensures source_only { result ≡ Status.Source → Rose (F.faults folder.old) (F.faults folder.new) }

@@ -1,10 +1,10 @@
 //! The models of the configurations of a folder, and their network.
-ghost use Rattle.std.specs.Prelude.{◌≡◌, ◌≢◌, ◌≤◌, All, List, ℕ, Ok, Err, IsTrue, IsSome, IfOk, IfErr, IfSome, OnErr, length};
+ghost use Rattle.std.specs.Prelude.{◌≡◌, ◌≢◌, ◌≤◌, ◌∷◌, [], All, List, ℕ, Ok, Err, IsTrue, IsSome, IfOk, IfErr, IfSome, IfNone, OnErr, length};
 ghost use Rattle.rc_outside.specs.Causes.{HasCause};
 ghost use Rattle.rc_outside.specs.Folder.{is_config, bytes_at};
 ghost use Rattle.rc_config.specs.Lawful.{IsLawful, IsLawfulFile};
 ghost use Rattle.rc_analyse.specs.Causes.{network_or_refusal, refusal_of};
-ghost use Rattle.rc_analyse.specs.Net.{model_of, models_of, bytes_in, IsNet, IsNetOf};
+ghost use Rattle.rc_analyse.specs.Net.{model_of, models_of, too_many, with_model, bytes_in, IsNet, IsNetOf};
 
 use crate::listing::config_names;
 use rc_base::{FileName, Items};
@@ -102,7 +102,42 @@ fn read_model<F: Folder>(
     }
 }
 
-/// The models of the configurations, in their order, or the first refusal.
+/// The next of the configurations that are left, while none was refused.
+fn next_of(
+    read: &Result<Items<(FileName, RouterText)>, NetRefusal>,
+    left: &mut VecDeque<FileName>,
+) -> Option<FileName>
+    ensures next { IfSome result (λ name. left.old.items ≡ name ∷ left.new.items) }
+    ensures ends { IfNone result (IfOk read.now (λ models. left.old.items ≡ [])) }
+{
+    match read {
+        Ok(_) => left.pop_front(),
+        Err(_) => None,
+    }
+}
+
+/// The models that were read, or the first refusal, and behind them what the next file is said to be.
+fn with_model(
+    read: Result<Items<(FileName, RouterText)>, NetRefusal>,
+    name: FileName,
+    said: Result<RouterText, NetRefusal>,
+) -> Result<Result<Items<(FileName, RouterText)>, NetRefusal>, AllocError>
+    ensures read { IfOk result (λ next. next ≡ with_model read name said) }
+    ensures refused { IfErr (with_model read name said) (λ refusal. result ≡ Ok (Err refusal)) }
+{
+    let mut models = match read {
+        Ok(models) => models,
+        Err(refusal) => return Ok(Err(refusal)),
+    };
+    let model = match said {
+        Ok(model) => model,
+        Err(refusal) => return Ok(Err(refusal)),
+    };
+    models.push((name, model))?;
+    Ok(Ok(models))
+}
+
+/// The models of the configurations, in their order, or the first refusal, behind which no file is read.
 fn read_models<F: Folder>(
     alloc: Global,
     dir: &str,
@@ -117,23 +152,19 @@ fn read_models<F: Folder>(
     ensures few { IfOk result (λ said. IfOk said (λ models. length models ≡ length configs.items)) }
     ensures cause { HasCause (F.faults folder.old) (F.faults folder.new) result }
 {
-    let mut models = Items::new(alloc);
+    let mut read = Ok(Items::new(alloc));
     let mut left = VecDeque::from(configs);
-    while let Some(name) = left.pop_front() {
+    while let Some(name) = next_of(&read, &mut left) {
         let said = match read_model(alloc, dir, name.as_str(), folder) {
             Ok(said) => said,
             Err(error) => return Err(error),
         };
-        let model = match said {
-            Ok(model) => model,
-            Err(refusal) => return Ok(Err(refusal)),
-        };
-        match models.push((name, model)) {
-            Ok(()) => {}
+        read = match with_model(read, name, said) {
+            Ok(next) => next,
             Err(_) => return Err(SourceError::Memory),
-        }
+        };
     }
-    Ok(Ok(models))
+    Ok(read)
 }
 
 /// What was built, or the refusal of it, or that memory ran out.
@@ -167,6 +198,61 @@ fn network_of(
     }
 }
 
+/// The refusal of so many configurations, where they are too many.
+fn too_many(configs: &[FileName]) -> Option<NetRefusal>
+    ensures { result ≡ too_many (length configs.now) }
+{
+    if configs.len() > MOST_FILES {
+        return Some(NetRefusal::TooManyFiles);
+    }
+    None
+}
+
+/// The network of so few configurations, or the first refusal.
+fn network_read<F: Folder>(
+    alloc: Global,
+    dir: &str,
+    configs: Vec<FileName>,
+    folder: &mut F,
+) -> Result<Result<Network, NetRefusal>, SourceError>
+    requires allowed { IsTrue (F.allows folder.old dir.now) }
+    requires few { length configs.items ≤ 512 }
+    requires configs { All (λ n. IsTrue (is_config n)) configs.items }
+    requires there { IfSome (F.told folder.old) (λ files. All (λ n. IsSome (bytes_at dir.now n files)) configs.items) }
+    ensures net { IfOk result (λ net. IfSome (F.told folder.old) (λ files. IsNetOf (models_of (bytes_in dir.now files) configs.items) net)) }
+    ensures lawful { IfOk result (λ net. IfOk net IsLawful) }
+    ensures cause { HasCause (F.faults folder.old) (F.faults folder.new) result }
+{
+    let read = match read_models(alloc, dir, configs, folder) {
+        Ok(read) => read,
+        Err(error) => return Err(error),
+    };
+    network_of(alloc, read)
+}
+
+/// The network of the configurations of a folder, or the first refusal, where their number has none.
+fn network_in<F: Folder>(
+    alloc: Global,
+    dir: &str,
+    configs: Vec<FileName>,
+    refusal: Option<NetRefusal>,
+    folder: &mut F,
+) -> Result<Result<Network, NetRefusal>, SourceError>
+    requires allowed { IsTrue (F.allows folder.old dir.now) }
+    requires few { IfNone refusal (length configs.items ≤ 512) }
+    requires configs { All (λ n. IsTrue (is_config n)) configs.items }
+    requires there { IfSome (F.told folder.old) (λ files. All (λ n. IsSome (bytes_at dir.now n files)) configs.items) }
+    ensures net { IfNone refusal (IfOk result (λ net. IfSome (F.told folder.old) (λ files. IsNetOf (models_of (bytes_in dir.now files) configs.items) net))) }
+    ensures refused { IfSome refusal (λ first. result ≡ Ok (Err first)) }
+    ensures lawful { IfOk result (λ net. IfOk net IsLawful) }
+    ensures cause { HasCause (F.faults folder.old) (F.faults folder.new) result }
+{
+    match refusal {
+        Some(refusal) => Ok(Err(refusal)),
+        None => network_read(alloc, dir, configs, folder),
+    }
+}
+
 /// The network of the files of a folder, or their first refusal.
 pub(crate) fn read_network<F: Folder>(
     alloc: Global,
@@ -182,12 +268,6 @@ pub(crate) fn read_network<F: Folder>(
         Ok(configs) => configs,
         Err(error) => return Err(error),
     };
-    if configs.len() > MOST_FILES {
-        return Ok(Err(NetRefusal::TooManyFiles));
-    }
-    let read = match read_models(alloc, dir, configs, folder) {
-        Ok(read) => read,
-        Err(error) => return Err(error),
-    };
-    network_of(alloc, read)
+    let refusal = too_many(configs.as_slice());
+    network_in(alloc, dir, configs, refusal, folder)
 }

@@ -1,4 +1,3 @@
-mod RouteLaws
 mod PutLaws
 mod ExampleLaws
 pub mod SubjectLaws

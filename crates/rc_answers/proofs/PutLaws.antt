@@ -1,134 +1,146 @@
 -- What is written of a fixed point, and of what was found.
-use Rattle.std.proofs.Common.{refl, ◌≡◌, inl, inr, sym, subst, ℕ, List, Option}
-use Rattle.rc_base.specs.declared.ending.Ends.{Ends}
+use Rattle.std.proofs.Common.{refl, ◌≡◌, ◌∙◌, ap, inl, inr, sym, subst, ℕ, ◌++◌, List, [], true, Option}
 use Rattle.rc_base.specs.declared.header.Header.{Header}
 use Rattle.rc_base.specs.declared.position.Pos.{Pos}
 use Rattle.rc_config.specs.declared.network.Network.{Network}
+use Rattle.rc_cubes.specs.Cubes.{cubes}
 use Rattle.rc_network.specs.declared.refusal.NetRefusal.{NetRefusal}
+use Rattle.rc_bdd.specs.declared.work.SetError.{SetError}
+use Rattle.rc_bdd.specs.declared.work.SetError.TheVariants as set_error
+use Rattle.rc_reach.specs.Reached.{IsFullAtMost}
 use Rattle.rc_reach.specs.Reaching.{IsReachingSet}
-use Rattle.rc_trees.specs.Trees.{Tree}
+use Rattle.rc_report.specs.CubeText.{cubes_text, shown as only}
+use Rattle.rc_report.specs.OutcomeText.{outcome_line}
+use Rattle.rc_report.specs.StateText.{route_count, routes_line}
+use Rattle.rc_report.specs.OutcomeText.{end_of}
 use Rattle.rc_route.specs.declared.state.RouterState.{RouterState}
 use Rattle.rc_route.specs.declared.outcome.Outcome.{Outcome}
-use Rattle.rc_route.specs.declared.outcome.Outcome.TheVariants.{Fixed, Repeats, Limit}
+use Rattle.rc_route.specs.declared.outcome.Outcome.TheVariants as outcome
+use Rattle.rc_report.specs.declared.outcomes.RoundsEnd.{RoundsEnd}
+use Rattle.rc_trees.specs.Trees.{Tree}
 use Rattle.rc_walk.specs.Moves.{DataPlane, plane_of}
 use Rattle.rc_walk.specs.Walks.{IsFirstWalk}
 use Rattle.rc_walk.specs.declared.walk.Walk.{Walk}
-use Rattle.rc_words.specs.Endings.{arrivals}
 use Rattle.rc_words.specs.declared.request.Request.{Request}
-use Rattle.rc_answers.specs.Written.{AreExamplesOf, AreReachingCubes, IsFirstArriving, IsGivenBy, IsLackingFor, IsPutAtFixed, IsPutOf, IsShown, IsShownAtFixed, IsWritten, IsWrittenOrMemory, NeedsMore, status_after}
-use Rattle.rc_answers.specs.Given.{Shown, refused, ended, nothing, routes_of, walk_of, cubes_of, first_cube_of}
-use Rattle.rc_answers.specs.Texts.{outcome_line, outcome_text, refused_line, route_count}
+use Rattle.rc_answers.specs.Given.{Shown, refused, no_place, ended, nothing, routes_of_all, routes_of, walk_of, cubes_of, first_cube_of}
+use Rattle.rc_answers.specs.Subject.{place_text}
+use Rattle.rc_answers.specs.Texts.{ended_text, head_text, no_place_line, refused_line}
+use Rattle.rc_answers.specs.Written.{AreExamplesOf, AreReachingCubes, IsDetail, IsFirstReaching, IsGivenBy, IsLackingFor, IsPutAtFixed, IsPutBehind, IsPutOf, IsPutOver, IsShown, IsShownAtFixed, IsWrittenOrMemory, NeedsMore, examples_in, lacking_of, status_after}
+use Rattle.rc_answers.specs.declared.findings.FileFindings.{FileFindings}
+use Rattle.rc_answers.specs.declared.findings.FileFindings.TheVariants as file
 use Rattle.rc_answers.specs.declared.findings.Findings.{Findings}
 use Rattle.rc_answers.specs.declared.findings.Findings.TheVariants as found
 use Rattle.rc_answers.specs.declared.status.Status.{Status}
-use Rattle.rc_answers.specs.declared.status.Status.TheVariants.{Refused, Memory, Nodes}
+use Rattle.rc_answers.specs.declared.status.Status.TheVariants.{Refused, Memory, NoPlace}
+use Rattle.rc_answers.specs.declared.subject.Detail.TheVariants.{Examples, First}
+use Rattle.rc_answers.specs.declared.subject.Reaching.{Reaching}
 use Rattle.rc_answers.specs.declared.subject.Subject.{Subject}
-use Rattle.rc_answers.specs.declared.subject.Subject.TheVariants.{OneRouter, Packet, Packets, Made}
+use Rattle.rc_answers.specs.declared.subject.Subject.TheVariants.{AllRouters, OneRouter, Packet, Packets}
 
 -- what is shown was written, or memory ran out before
-pub put_at_fixed : (r : Request) (net : Network) (outcome : Outcome) (state : List RouterState) (subject : Subject) (shown : Shown) {answer : Status} {old new : Option (List ℕ)}
-    → IsShownAtFixed net state subject shown → IsWrittenOrMemory (status_after outcome) (outcome_text r.ask net outcome shown) answer old new → IsPutAtFixed r net outcome state subject answer old new
-put_at_fixed r net outcome state subject shown is (inl written) = inl (shown, is, written)
-put_at_fixed r net outcome state subject shown is (inr none) = inr (inl none)
+put_behind : (r : Request) (net : Network) (end : RoundsEnd) (IsToShow : Shown → Type 0) (IsMoreNeeded : Type 0) (shown : Shown) {answer : Status} {old new : Option (List ℕ)}
+    → IsToShow shown → IsWrittenOrMemory (status_after end) (ended_text r.source net end shown) answer old new → IsPutBehind r net end IsToShow IsMoreNeeded answer old new
+put_behind r net end IsToShow IsMoreNeeded shown is (inl written) = inl (shown, is, written)
+put_behind r net end IsToShow IsMoreNeeded shown is (inr none) = inr (inl none)
+
+pub put_at_fixed : (r : Request) (net : Network) (end : RoundsEnd) (state : List RouterState) (subject : Subject) (shown : Shown) {answer : Status} {old new : Option (List ℕ)}
+    → IsShownAtFixed net state subject shown → IsWrittenOrMemory (status_after end) (ended_text r.source net end shown) answer old new → IsPutAtFixed r net end state subject answer old new
+put_at_fixed r net end state subject shown is put = put_behind r net end (IsShownAtFixed net state subject) (NeedsMore r.limits.nodes net state subject) shown is put
 
 -- want of memory before anything is written
-pub memory_at_fixed : (r : Request) (net : Network) (outcome : Outcome) (state : List RouterState) (subject : Subject) {old : Option (List ℕ)} → IsPutAtFixed r net outcome state subject Memory old old
-memory_at_fixed r net outcome state subject = inr (inl (refl, refl))
+pub memory_at_fixed : (r : Request) (net : Network) (end : RoundsEnd) (state : List RouterState) (subject : Subject) {old : Option (List ℕ)} → IsPutAtFixed r net end state subject Memory old old
+memory_at_fixed r net end state subject = inr (inl (refl, refl))
 
--- too few nodes, before anything is written
-pub nodes_at_fixed : (r : Request) (net : Network) (outcome : Outcome) (state : List RouterState) (subject : Subject) {old : Option (List ℕ)} → NeedsMore r.limits.nodes net state subject → IsPutAtFixed r net outcome state subject Nodes old old
-nodes_at_fixed r net outcome state subject more = inr (inr (refl, more, refl))
+-- want of memory, or of what a set lacks
+pub memory_over : (r : Request) (plane : DataPlane) (end : RoundsEnd) (routes : ℕ) (asked : Reaching) {old : Option (List ℕ)} → IsPutOver r plane end routes asked Memory old old
+memory_over r plane end routes asked = inr (inl (refl, refl))
+
+pub lacking_over : (r : Request) (plane : DataPlane) (end : RoundsEnd) (routes : ℕ) (asked : Reaching) (e : SetError) {answer : Status} {old : Option (List ℕ)}
+    → answer ≡ lacking_of e → IsFullAtMost r.limits.nodes plane asked.place asked.ends e → IsPutOver r plane end routes asked answer old old
+lacking_over r plane end routes asked set_error.Full is full = inr (inr (is, full refl, refl))
+lacking_over r plane end routes asked set_error.Memory is full = inr (inl (is, refl))
+
+-- ---- what is asked of a fixed point
+
+pub asked_put : (r : Request) (net : Network) (end : RoundsEnd) (state : List RouterState) (subject is_subject : Subject) {answer : Status} {old new : Option (List ℕ)}
+    → subject ≡ is_subject → IsPutAtFixed r net end state is_subject answer old new → IsPutAtFixed r net end state subject answer old new
+asked_put r net end state subject is_subject {answer} {old} {new} is put = subst (λ s. IsPutAtFixed r net end state s answer old new) (sym is) put
+
+-- the packets of a plane are those of its network and state
+pub packets_put : (r : Request) (net : Network) (end : RoundsEnd) (state : List RouterState) (plane : DataPlane) (routes : ℕ) (asked : Reaching) {answer : Status} {old new : Option (List ℕ)}
+    → plane ≡ plane_of net state → routes ≡ route_count state → IsPutOver r plane end routes asked answer old new → IsPutAtFixed r net end state (Packets asked) answer old new
+packets_put r net end state plane routes asked {answer} {old} {new} is many put =
+    subst (λ n. IsPutOver r (plane_of net state) end n asked answer old new) many (subst (λ p. IsPutOver r p end routes asked answer old new) is put)
+
+-- a set and the walks of its examples are shown so: all cubes, or the number of routes and the first cube
+module _ (r : Request) (plane : DataPlane) (end : RoundsEnd) (routes : ℕ) (asked : Reaching) (set : Tree) (walks : List (List Walk)) where
+  pub cubes_put : {most : ℕ} {answer : Status} {old new : Option (List ℕ)} (net : Network) → asked.detail ≡ Examples most → net ≡ plane.network → IsReachingSet plane asked.place asked.ends set
+      → AreExamplesOf plane asked.place asked.ends (examples_in asked.detail) set walks
+      → IsWrittenOrMemory (status_after end) (ended_text r.source net end (cubes_of set walks)) answer old new → IsPutOver r plane end routes asked answer old new
+  cubes_put {most} {answer} {old} {new} net is same reaches are put =
+      let detailed : AreReachingCubes plane asked.place asked.ends most (cubes_of set walks) =
+      record { set = set; reaches = reaches; walks = walks; examples = subst (λ d. AreExamplesOf plane asked.place asked.ends (examples_in d) set walks) is are; are = refl } in
+      put_behind r plane.network end (IsDetail plane routes asked.place asked.ends asked.detail) _ (cubes_of set walks)
+      (subst (λ d. IsDetail plane routes asked.place asked.ends d (cubes_of set walks)) (sym is) detailed)
+      (subst (λ n. IsWrittenOrMemory (status_after end) (ended_text r.source n end (cubes_of set walks)) answer old new) same put)
+
+  pub first_cube_put : {answer : Status} {old new : Option (List ℕ)} (net : Network) → asked.detail ≡ First → net ≡ plane.network → IsReachingSet plane asked.place asked.ends set
+      → AreExamplesOf plane asked.place asked.ends (examples_in asked.detail) set walks
+      → IsWrittenOrMemory (status_after end) ((head_text r.source ++ outcome_line end) ++ (routes_line routes ++ cubes_text net (only true (cubes set)) walks)) answer old new
+      → IsPutOver r plane end routes asked answer old new
+  first_cube_put {answer} {old} {new} net is same reaches are put =
+      let none : walks ≡ [] = subst (λ d. AreExamplesOf plane asked.place asked.ends (examples_in d) set walks) is are in
+      let first : IsFirstReaching plane asked.place asked.ends routes (first_cube_of routes set) = record { set = set; reaches = reaches; is = refl } in
+      let text : Network → List (List Walk) → List ℕ = λ n ws. (head_text r.source ++ outcome_line end) ++ (routes_line routes ++ cubes_text n (only true (cubes set)) ws) in
+      put_behind r plane.network end (IsDetail plane routes asked.place asked.ends asked.detail) _ (first_cube_of routes set)
+      (subst (λ d. IsDetail plane routes asked.place asked.ends d (first_cube_of routes set)) (sym is) first)
+      (subst (λ ws. IsWrittenOrMemory (status_after end) (text plane.network ws) answer old new) none
+      (subst (λ n. IsWrittenOrMemory (status_after end) (text n walks) answer old new) same put))
+
+-- ---- what was found
 
 -- what is put of a fixed point is put of what was found
-pub fixed_put : (r : Request) (net : Network) (k : ℕ) (state : List RouterState) (subject : Subject) {answer : Status} {old new : Option (List ℕ)}
-    → IsPutAtFixed r net (Fixed k state) state subject answer old new → IsPutOf r (found.Ended net (Fixed k state) subject) answer old new
-fixed_put r net k state subject (inl (shown, is, written)) = inl (ended net (Fixed k state) shown, (shown, is, refl), written)
-fixed_put r net k state subject {answer} {old} {new} (inr (inl (is, same))) = inr (subst (IsLackingFor r.limits.nodes (found.Ended net (Fixed k state) subject)) (sym is) tt, same)
-fixed_put r net k state subject (inr (inr (is, more, same))) = inr (subst (IsLackingFor r.limits.nodes (found.Ended net (Fixed k state) subject)) (sym is) more, same)
+pub fixed_put : (r : Request) (net : Network) (o : Outcome) (end : RoundsEnd) (subject : Subject) {k : ℕ} {state : List RouterState} {answer : Status} {old new : Option (List ℕ)}
+    → o ≡ outcome.Fixed k state → end ≡ end_of o → IsPutAtFixed r net end state subject answer old new → IsPutOf r (found.Ended net o subject) answer old new
+fixed_put r net o end subject {k} {state} {answer} {old} {new} is ends put =
+    subst (λ p. IsPutOf r (found.Ended net p subject) answer old new) (sym is)
+    (at_end (subst (λ e. IsPutAtFixed r net e state subject answer old new) (ends ∙ ap end_of is) put))
+  where
+    at_end : IsPutAtFixed r net (end_of (outcome.Fixed k state)) state subject answer old new → IsPutOf r (found.Ended net (outcome.Fixed k state) subject) answer old new
+    at_end (inl (shown, shows, written)) = inl (ended net (end_of (outcome.Fixed k state)) shown, (shown, shows, refl), written)
+    at_end (inr (inl (memory, same))) = inr (subst (IsLackingFor r.limits.nodes (found.Ended net (outcome.Fixed k state) subject)) (sym memory) tt, same)
+    at_end (inr (inr (nodes, more, same))) = inr (subst (IsLackingFor r.limits.nodes (found.Ended net (outcome.Fixed k state) subject)) (sym nodes) more, same)
 
 -- without a fixed point nothing is shown
-pub other_put : (r : Request) (net : Network) (outcome : Outcome) (subject : Subject) {answer : Status} {old new : Option (List ℕ)} → ((shown : Shown) → shown ≡ nothing → IsShown net outcome subject shown)
-    → IsWrittenOrMemory (status_after outcome) (outcome_text r.ask net outcome nothing) answer old new → IsPutOf r (found.Ended net outcome subject) answer old new
-other_put r net outcome subject shows (inl written) = inl (ended net outcome nothing, (nothing, shows nothing refl, refl), written)
-other_put r net outcome subject shows (inr (is, same)) = inr (subst (IsLackingFor r.limits.nodes (found.Ended net outcome subject)) (sym is) tt, same)
+other_put : (r : Request) (net : Network) (o : Outcome) (end : RoundsEnd) (subject : Subject) {answer : Status} {old new : Option (List ℕ)} → end ≡ end_of o → IsShown net o subject nothing
+    → IsWrittenOrMemory (status_after end) (ended_text r.source net end nothing) answer old new → IsPutOf r (found.Ended net o subject) answer old new
+other_put r net o end subject {answer} {old} {new} ends shows put =
+    by (subst (λ e. IsWrittenOrMemory (status_after e) (ended_text r.source net e nothing) answer old new) ends put)
+  where
+    by : IsWrittenOrMemory (status_after (end_of o)) (ended_text r.source net (end_of o) nothing) answer old new → IsPutOf r (found.Ended net o subject) answer old new
+    by (inl written) = inl (ended net (end_of o) nothing, (nothing, shows, refl), written)
+    by (inr (memory, same)) = inr (subst (IsLackingFor r.limits.nodes (found.Ended net o subject)) (sym memory) tt, same)
 
-pub fixed_put_of : (r : Request) (net : Network) (outcome : Outcome) (subject : Subject) {k : ℕ} {state : List RouterState} {answer : Status} {old new : Option (List ℕ)}
-    → outcome ≡ Fixed k state → IsPutAtFixed r net (Fixed k state) state subject answer old new → IsPutOf r (found.Ended net outcome subject) answer old new
-fixed_put_of r net outcome subject {k} {state} {answer} {old} {new} is put =
-    subst (λ o. IsPutOf r (found.Ended net o subject) answer old new) (sym is) (fixed_put r net k state subject put)
+pub repeats_put : (r : Request) (net : Network) (o : Outcome) (end : RoundsEnd) (subject : Subject) {i k : ℕ} {answer : Status} {old new : Option (List ℕ)}
+    → o ≡ outcome.Repeats i k → end ≡ end_of o → IsWrittenOrMemory (status_after end) (ended_text r.source net end nothing) answer old new → IsPutOf r (found.Ended net o subject) answer old new
+repeats_put r net o end subject is ends put = other_put r net o end subject ends (subst (λ p. IsShown net p subject nothing) (sym is) refl) put
 
-pub repeats_put : (r : Request) (net : Network) (outcome : Outcome) (subject : Subject) {i k : ℕ} {answer : Status} {old new : Option (List ℕ)}
-    → outcome ≡ Repeats i k → IsWrittenOrMemory (status_after (Repeats i k)) (outcome_text r.ask net (Repeats i k) nothing) answer old new → IsPutOf r (found.Ended net outcome subject) answer old new
-repeats_put r net outcome subject {i} {k} {answer} {old} {new} is put =
-    subst (λ o. IsPutOf r (found.Ended net o subject) answer old new) (sym is) (other_put r net (Repeats i k) subject (λ shown none. none) put)
+pub limit_put : (r : Request) (net : Network) (o : Outcome) (end : RoundsEnd) (subject : Subject) {n : ℕ} {answer : Status} {old new : Option (List ℕ)}
+    → o ≡ outcome.Limit n → end ≡ end_of o → IsWrittenOrMemory (status_after end) (ended_text r.source net end nothing) answer old new → IsPutOf r (found.Ended net o subject) answer old new
+limit_put r net o end subject is ends put = other_put r net o end subject ends (subst (λ p. IsShown net p subject nothing) (sym is) refl) put
 
-pub limit_put : (r : Request) (net : Network) (outcome : Outcome) (subject : Subject) {n : ℕ} {answer : Status} {old new : Option (List ℕ)}
-    → outcome ≡ Limit n → IsWrittenOrMemory (status_after (Limit n)) (outcome_text r.ask net (Limit n) nothing) answer old new → IsPutOf r (found.Ended net outcome subject) answer old new
-limit_put r net outcome subject {n} {answer} {old} {new} is put =
-    subst (λ o. IsPutOf r (found.Ended net o subject) answer old new) (sym is) (other_put r net (Limit n) subject (λ shown none. none) put)
+pub refused_put : (r : Request) (f : FileFindings) {refusal : NetRefusal} {answer : Status} {old new : Option (List ℕ)}
+    → f ≡ file.Refused refusal → IsWrittenOrMemory Refused (refused_line refusal) answer old new → IsPutOf r (found.OfFiles f) answer old new
+refused_put r f {refusal} {answer} {old} {new} is put = subst (λ x. IsPutOf r (found.OfFiles x) answer old new) (sym is) (by put)
+  where
+    by : IsWrittenOrMemory Refused (refused_line refusal) answer old new → IsPutOf r (found.OfFiles (file.Refused refusal)) answer old new
+    by (inl written) = inl (refused refusal, refl, written)
+    by (inr (memory, same)) = inr (subst (IsLackingFor r.limits.nodes (found.OfFiles (file.Refused refusal))) (sym memory) tt, same)
 
-pub refused_put : (r : Request) (f : Findings) {refusal : NetRefusal} {answer : Status} {old new : Option (List ℕ)}
-    → f ≡ found.Refused refusal → IsWrittenOrMemory Refused (refused_line refusal) answer old new → IsPutOf r f answer old new
-refused_put r f {refusal} is (inl written) = inl (refused refusal, subst (λ x. IsGivenBy x (refused refusal)) (sym is) refl, written)
-refused_put r f is (inr (memory, same)) = inr (subst (λ a. IsLackingFor r.limits.nodes f a) (sym memory) tt, same)
-
--- the routes of one router
-pub router_put : (r : Request) (net : Network) (outcome : Outcome) (state : List RouterState) (subject : Subject) {router : ℕ} {answer : Status} {old new : Option (List ℕ)}
-    → subject ≡ OneRouter router → IsWrittenOrMemory (status_after outcome) (outcome_text r.ask net outcome (routes_of router)) answer old new → IsPutAtFixed r net outcome state subject answer old new
-router_put r net outcome state subject {router} {answer} {old} {new} is put =
-    subst (λ s. IsPutAtFixed r net outcome state s answer old new) (sym is) (put_at_fixed r net outcome state (OneRouter router) (routes_of router) refl put)
-
--- the cubes of what reaches, with the walks of their examples
-pub packets_put : (r : Request) (net : Network) (outcome : Outcome) (state : List RouterState) (plane : DataPlane) (q : Pos) (ends : Ends) (examples : ℕ) (set : Tree) (walks shown : List (List Walk)) {answer : Status} {old new : Option (List ℕ)}
-    → plane ≡ plane_of net state → shown ≡ walks → IsReachingSet plane q ends set → AreExamplesOf plane q ends examples set walks
-    → IsWrittenOrMemory (status_after outcome) (outcome_text r.ask net outcome (cubes_of set shown)) answer old new → IsPutAtFixed r net outcome state (Packets q ends examples) answer old new
-packets_put r net outcome state plane q ends examples set walks shown {answer} {old} {new} is same reaches are put =
-    let cubes : AreReachingCubes plane q ends examples (cubes_of set walks) = record { set = set; reaches = reaches; walks = walks; examples = are; are = refl } in
-    put_at_fixed r net outcome state (Packets q ends examples) (cubes_of set walks) (subst (λ p. AreReachingCubes p q ends examples (cubes_of set walks)) is cubes)
-    (subst (λ ws. IsWrittenOrMemory (status_after outcome) (outcome_text r.ask net outcome (cubes_of set ws)) answer old new) same put)
-
--- how many routes there are, and the first cube of what arrives
-pub made_put : (r : Request) (net : Network) (outcome : Outcome) (state : List RouterState) (q : Pos) (routes : ℕ) (set : Tree) {answer : Status} {old new : Option (List ℕ)}
-    → routes ≡ route_count state → IsReachingSet (plane_of net state) q arrivals set
-    → IsWrittenOrMemory (status_after outcome) (outcome_text r.ask net outcome (first_cube_of routes set)) answer old new → IsPutAtFixed r net outcome state (Made q) answer old new
-made_put r net outcome state q routes set is reaches put =
-    let first : IsFirstArriving (plane_of net state) q routes (first_cube_of routes set) = record { set = set; reaches = reaches; is = refl } in
-    put_at_fixed r net outcome state (Made q) (first_cube_of routes set) (subst (λ n. IsFirstArriving (plane_of net state) q n (first_cube_of routes set)) is first) put
-
--- ---- the line of an outcome tells no route: where none is told behind it either, what is put is the same beside any routes
-
-module _ (r : Request) (net : Network) (k : ℕ) (some other known state : List RouterState) (is_known : known ≡ state) where
-  written_beside : (shown told : Shown) {answer : Status} {old new : Option (List ℕ)} → shown ≡ told → outcome_text r.ask net (Fixed k some) told ≡ outcome_text r.ask net (Fixed k other) told
-      → IsWritten (status_after (Fixed k some)) (outcome_text r.ask net (Fixed k some) shown) answer old new → IsWritten (status_after (Fixed k other)) (outcome_text r.ask net (Fixed k other) shown) answer old new
-  written_beside shown told {answer} {old} {new} is same written =
-      subst (λ s. IsWritten (status_after (Fixed k other)) (outcome_text r.ask net (Fixed k other) s) answer old new) (sym is)
-      (subst (λ text. IsWritten (status_after (Fixed k other)) text answer old new) same
-      (subst (λ s. IsWritten (status_after (Fixed k some)) (outcome_text r.ask net (Fixed k some) s) answer old new) is written))
-
-  packets_alone : (q : Pos) (ends : Ends) (examples : ℕ) {answer : Status} {old new : Option (List ℕ)}
-      → IsPutAtFixed r net (Fixed k some) state (Packets q ends examples) answer old new → IsPutAtFixed r net (Fixed k other) state (Packets q ends examples) answer old new
-  unfolding outcome_line
-  packets_alone q ends examples (inl (shown, cubes, written)) = inl (shown, cubes, written_beside shown (cubes_of cubes.set cubes.walks) cubes.are refl written)
-  packets_alone q ends examples (inr lacking) = inr lacking
-
-  made_alone : (q : Pos) {answer : Status} {old new : Option (List ℕ)}
-      → IsPutAtFixed r net (Fixed k some) state (Made q) answer old new → IsPutAtFixed r net (Fixed k other) state (Made q) answer old new
-  unfolding outcome_line
-  made_alone q (inl (shown, first, written)) = inl (shown, first, written_beside shown (first_cube_of (route_count state) first.set) first.is refl written)
-  made_alone q (inr lacking) = inr lacking
-
-  pub packets_beside : (q : Pos) (ends : Ends) (examples : ℕ) {answer : Status} {old new : Option (List ℕ)}
-      → IsPutAtFixed r net (Fixed k some) known (Packets q ends examples) answer old new → IsPutAtFixed r net (Fixed k other) state (Packets q ends examples) answer old new
-  packets_beside q ends examples {answer} {old} {new} put =
-      packets_alone q ends examples (subst (λ s. IsPutAtFixed r net (Fixed k some) s (Packets q ends examples) answer old new) is_known put)
-
-  pub made_beside : (q : Pos) {answer : Status} {old new : Option (List ℕ)}
-      → IsPutAtFixed r net (Fixed k some) known (Made q) answer old new → IsPutAtFixed r net (Fixed k other) state (Made q) answer old new
-  made_beside q {answer} {old} {new} put = made_alone q (subst (λ s. IsPutAtFixed r net (Fixed k some) s (Made q) answer old new) is_known put)
-
--- a walk, put behind the line of such an outcome
-pub walk_put : (r : Request) (net : Network) (k : ℕ) (some state : List RouterState) (q : Pos) (h : Header) (walk : Walk) {answer : Status} {old new : Option (List ℕ)}
-    → IsFirstWalk (plane_of net state) h q walk → IsWrittenOrMemory (status_after (Fixed k some)) (outcome_text r.ask net (Fixed k some) (walk_of walk)) answer old new
-    → IsPutAtFixed r net (Fixed k state) state (Packet q h) answer old new
-unfolding outcome_line
-walk_put r net k some state q h walk first put = put_at_fixed r net (Fixed k state) state (Packet q h) (walk_of walk) (walk, first, refl) put
+pub no_place_put : (r : Request) (f : FileFindings) {answer : Status} {old new : Option (List ℕ)}
+    → f ≡ file.NoPlace → IsWrittenOrMemory NoPlace (no_place_line (place_text r.ask)) answer old new → IsPutOf r (found.OfFiles f) answer old new
+no_place_put r f {answer} {old} {new} is put = subst (λ x. IsPutOf r (found.OfFiles x) answer old new) (sym is) (by put)
+  where
+    by : IsWrittenOrMemory NoPlace (no_place_line (place_text r.ask)) answer old new → IsPutOf r (found.OfFiles file.NoPlace) answer old new
+    by (inl written) = inl (no_place, refl, written)
+    by (inr (memory, same)) = inr (subst (IsLackingFor r.limits.nodes (found.OfFiles file.NoPlace)) (sym memory) tt, same)

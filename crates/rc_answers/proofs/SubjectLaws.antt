@@ -14,12 +14,14 @@ use Rattle.rc_config.specs.Members.{router_named, interface_named, interfaces_of
 use Rattle.rc_config.specs.Named.{index_of}
 use Rattle.rc_config.specs.declared.network.Network.{Network}
 use Rattle.rc_words.specs.declared.request.Ask.{Ask}
-use Rattle.rc_words.specs.declared.request.Ask.TheVariants.{Routes, Trace, Reach, Sample}
+use Rattle.rc_words.specs.declared.request.Ask.TheVariants.{Routes, Trace, Reach, Summary}
 use Rattle.rc_words.specs.declared.request.PlaceName.{PlaceName}
 use Rattle.rc_answers.specs.Sound.{StartsIn}
 use Rattle.rc_answers.specs.Subject.{position_at, position_named, router_of_text, sample_place, subject_of}
+use Rattle.rc_answers.specs.declared.subject.Detail.TheVariants.{Examples, First}
 use Rattle.rc_answers.specs.declared.subject.Subject.{Subject}
-use Rattle.rc_answers.specs.declared.subject.Subject.TheVariants.{AllRouters, OneRouter, Packet, Packets, Made}
+use Rattle.rc_answers.specs.declared.subject.Subject.TheVariants.{AllRouters, OneRouter, Packet, Packets}
+use Rattle.rc_words.specs.Endings.{arrivals}
 
 -- an index under a name is one of the list
 within : {V : Type 0} (es : List (List ℕ × V)) (name : List ℕ) (i : ℕ) → index_of es name ≡ Some i → i < length es
@@ -64,8 +66,8 @@ module _ (net : Network) where
       by (Some r) h = let same : OneRouter r ≡ subject = cc in subst (StartsIn net) same tt
 
   pub asked_is_there : (ask : Ask) (subject : Subject) → subject_of net ask ≡ Some subject → StartsIn net subject
-  asked_is_there (Routes dir None) subject e = let same : AllRouters ≡ subject = cc in subst (StartsIn net) same tt
-  asked_is_there (Routes dir (Some text)) subject e = asked_router text subject e
-  asked_is_there (Trace dir place header) subject e = at_place (λ q. Packet q header) place subject (λ q is. tt) e
-  asked_is_there (Reach dir place ends examples) subject e = at_place (λ q. Packets q ends examples) place subject (λ q is. is) e
-  asked_is_there (Sample n) subject e = at_place Made sample_place subject (λ q is. is) e
+  asked_is_there (Routes None) subject e = let same : AllRouters ≡ subject = cc in subst (StartsIn net) same tt
+  asked_is_there (Routes (Some text)) subject e = asked_router text subject e
+  asked_is_there (Trace place header) subject e = at_place (λ q. Packet q header) place subject (λ q is. tt) e
+  asked_is_there (Reach place ends examples) subject e = at_place (λ q. Packets (record { place = q; ends = ends; detail = Examples examples })) place subject (λ q is. is) e
+  asked_is_there Summary subject e = at_place (λ q. Packets (record { place = q; ends = arrivals; detail = First })) sample_place subject (λ q is. is) e

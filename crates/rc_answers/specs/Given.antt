@@ -2,16 +2,17 @@
 use Rattle.std.specs.Prelude.{ℕ, List}
 use Rattle.rc_config.specs.declared.network.Network.{Network}
 use Rattle.rc_network.specs.declared.refusal.NetRefusal.{NetRefusal}
-use Rattle.rc_route.specs.declared.outcome.Outcome.{Outcome}
+use Rattle.rc_report.specs.declared.outcomes.RoundsEnd.{RoundsEnd}
+use Rattle.rc_route.specs.declared.state.RouterState.{RouterState}
 use Rattle.rc_trees.specs.Trees.{Tree}
 use Rattle.rc_walk.specs.declared.walk.Walk.{Walk}
 
 -- what is shown after the outcome of the rounds
 pub data Shown : Type 0 where
   nothing : Shown
-  -- the routes of all routers, or of one
-  routes_of_all : Shown
-  routes_of : ℕ → Shown
+  -- the routes of all routers in a state, or of one
+  routes_of_all : List RouterState → Shown
+  routes_of : List RouterState → ℕ → Shown
   -- a walk
   walk_of : Walk → Shown
   -- the cubes of a set of headers; the first ones have an example each, with its walks
@@ -19,8 +20,8 @@ pub data Shown : Type 0 where
   -- how many routes all tables have, and the first cube of a set of headers
   first_cube_of : ℕ → Tree → Shown
 
--- the first refusal, or that there is no such place, or a network with the outcome of its rounds and what is shown after it
+-- the first refusal, or that there is no such place, or a network with how its rounds ended and what is shown after it
 pub data Given : Type 0 where
   refused : NetRefusal → Given
   no_place : Given
-  ended : Network → Outcome → Shown → Given
+  ended : Network → RoundsEnd → Shown → Given

@@ -4,7 +4,4 @@ pub mod Given
 pub mod Texts
 pub mod Written
 pub mod Sound
-pub mod Lines
 pub mod Rows
-pub mod FirstTry
-pub mod Reached

@@ -7,12 +7,11 @@ use Rattle.rc_route.specs.declared.outcome.Outcome.{Outcome}
 use Rattle.rc_answers.specs.declared.findings.Findings.{Findings}
 use Rattle.rc_answers.specs.declared.findings.Findings.TheVariants.{Ended}
 use Rattle.rc_answers.specs.declared.subject.Subject.{Subject}
-use Rattle.rc_answers.specs.declared.subject.Subject.TheVariants.{Packets, Made}
+use Rattle.rc_answers.specs.declared.subject.Subject.TheVariants.{Packets}
 
 -- where packets start is a position of the network
 abbrev pub StartsIn : Network → Subject → Type 0
-StartsIn net (Packets position ends examples) = IsPosition net position
-StartsIn net (Made position) = IsPosition net position
+StartsIn net (Packets asked) = IsPosition net asked.place
 StartsIn net _ = Unit {0}
 
 -- the network is lawful, the state of a fixed point is in its order, and what is asked about is in the network

@@ -1,16 +1,22 @@
 -- What of a network is asked about.
-use Rattle.std.specs.Prelude.{ℕ, List, [], ◌++◌, codes, Option, Some, None}
+use Rattle.std.specs.Prelude.{ℕ, List, [], ◌++◌, codes, Option, Some, None, Result, Ok, Err}
 use Rattle.std.specs.Option.{option_and_then, option_map, option_map_or}
 use Rattle.rc_base.specs.Name.{name_of}
 use Rattle.rc_base.specs.declared.position.Pos.{Pos}
 use Rattle.rc_base.specs.declared.position.Pos.TheVariants.{Own, Entering}
 use Rattle.rc_config.specs.Members.{router_named, interface_named}
 use Rattle.rc_config.specs.declared.network.Network.{Network}
+use Rattle.rc_network.specs.declared.refusal.NetRefusal.{NetRefusal}
+use Rattle.rc_words.specs.Endings.{arrivals}
 use Rattle.rc_words.specs.declared.request.Ask.{Ask}
-use Rattle.rc_words.specs.declared.request.Ask.TheVariants.{Routes, Trace, Reach, Sample}
+use Rattle.rc_words.specs.declared.request.Ask.TheVariants.{Routes, Trace, Reach, Summary}
 use Rattle.rc_words.specs.declared.request.PlaceName.{PlaceName}
+use Rattle.rc_answers.specs.declared.findings.FileFindings.TheVariants.{Refused, NoPlace}
+use Rattle.rc_answers.specs.declared.findings.Asked.{Asked}
+use Rattle.rc_answers.specs.declared.findings.Asked.TheVariants.{OfFiles, OfRounds}
+use Rattle.rc_answers.specs.declared.subject.Detail.TheVariants.{Examples, First}
 use Rattle.rc_answers.specs.declared.subject.Subject.{Subject}
-use Rattle.rc_answers.specs.declared.subject.Subject.TheVariants.{AllRouters, OneRouter, Packet, Packets, Made}
+use Rattle.rc_answers.specs.declared.subject.Subject.TheVariants.{AllRouters, OneRouter, Packet, Packets}
 
 -- the router that a text names; a text that is no name names none
 abbrev pub router_of_text : Network → List ℕ → Option ℕ
@@ -31,11 +37,21 @@ sample_place = record { router = codes "r000"; interface = Some (codes "GigabitE
 
 -- what of the network is asked about, and none where it has no such router or interface
 abbrev pub subject_of : Network → Ask → Option Subject
-subject_of net (Routes dir None) = Some AllRouters
-subject_of net (Routes dir (Some text)) = option_map OneRouter (router_of_text net text)
-subject_of net (Trace dir place header) = option_map (λ q. Packet q header) (position_named net place)
-subject_of net (Reach dir place ends examples) = option_map (λ q. Packets q ends examples) (position_named net place)
-subject_of net (Sample n) = option_map Made (position_named net sample_place)
+subject_of net (Routes None) = Some AllRouters
+subject_of net (Routes (Some text)) = option_map OneRouter (router_of_text net text)
+subject_of net (Trace place header) = option_map (λ q. Packet q header) (position_named net place)
+subject_of net (Reach place ends examples) = option_map (λ q. Packets (record { place = q; ends = ends; detail = Examples examples })) (position_named net place)
+subject_of net Summary = option_map (λ q. Packets (record { place = q; ends = arrivals; detail = First })) (position_named net sample_place)
+
+-- where there is such a router or interface the rounds have to be run, and else the files alone tell that there is none
+abbrev pub asked_at : Network → Option Subject → Asked
+asked_at net None = OfFiles NoPlace
+asked_at net (Some subject) = OfRounds net subject
+
+-- what the files alone tell, as their first refusal, or what of their network is asked about once its rounds have ended
+abbrev pub asked_of : Result Network NetRefusal → Ask → Asked
+asked_of (Err refusal) ask = OfFiles (Refused refusal)
+asked_of (Ok net) ask = asked_at net (subject_of net ask)
 
 -- the name of an interface behind a colon
 abbrev pub behind_colon : Option (List ℕ) → List ℕ
@@ -46,7 +62,7 @@ name_of_place place = place.router ++ behind_colon place.interface
 
 -- the text that names the router or the place
 abbrev pub place_text : Ask → List ℕ
-place_text (Routes dir router) = option_map_or (λ text. text) router []
-place_text (Trace dir place header) = name_of_place place
-place_text (Reach dir place ends examples) = name_of_place place
-place_text (Sample n) = name_of_place sample_place
+place_text (Routes router) = option_map_or (λ text. text) router []
+place_text (Trace place header) = name_of_place place
+place_text (Reach place ends examples) = name_of_place place
+place_text Summary = name_of_place sample_place

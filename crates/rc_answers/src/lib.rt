@@ -7,14 +7,13 @@
 
 mod answering;
 mod findings;
-mod first_try;
-mod reached_set;
 mod reaching;
 mod status;
 mod subject;
 mod writing;
+mod written;
 
 pub use answering::{answer_findings, answer_usage};
-pub use findings::Findings;
+pub use findings::{Asked, FileFindings, Findings, asked_of};
 pub use status::Status;
-pub use subject::{Subject, subject_of};
+pub use subject::{Detail, Reaching, Subject, subject_of};

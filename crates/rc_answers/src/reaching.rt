@@ -2,43 +2,47 @@
 //!
 //! The table of nodes, the set and the walks of its examples are all made before the first line is put, and a cube takes no memory: so an
 //! answer is written whole, or it lacks something and nothing is.
-ghost use Rattle.std.specs.Prelude.{◌≡◌, ◌∷◌, ◌++◌, ◌<◌, ◌≤◌, [], true, false, IfOk, IfErr, IfSome, length};
-ghost use Rattle.rc_base.specs.declared.ending.Ends.{Ends as EndsModel};
+ghost use Rattle.std.specs.Prelude.{◌≡◌, ◌∷◌, ◌<◌, [], IfOk, IfErr, IfSome, length};
 ghost use Rattle.rc_config.specs.Lawful.{IsLawful, IsPosition};
-ghost use Rattle.rc_cubes.specs.Cubes.{cubes};
 ghost use Rattle.rc_nodes.specs.Seats.{IsKnown, IsSeatOf, Keeps, SeatKnows};
 ghost use Rattle.rc_outside.specs.Causes.{Rose};
-ghost use Rattle.rc_outside.specs.Put.{IsPut};
-ghost use Rattle.rc_report.specs.CubeText.{cubes_text, shown};
+ghost use Rattle.rc_reach.specs.FirstTry.{IsFirstRoom};
+ghost use Rattle.rc_reach.specs.Reached.{HoldsReaching, IsFullAtMost};
+ghost use Rattle.rc_reach.specs.Reaching.{IsReachingSet};
 ghost use Rattle.rc_route.specs.Tables.{IsStateOf};
+ghost use Rattle.rc_topology.specs.Ports.{links_of};
 ghost use Rattle.rc_trees.specs.Trees.{Tree};
-ghost use Rattle.rc_walk.specs.Moves.{plane_of};
-ghost use Rattle.rc_words.specs.Endings.{arrivals};
 ghost use Rattle.rc_words.specs.Request.{AreInRange};
-ghost use Rattle.rc_answers.specs.Written.{AreExamplesOf, AreWalksOf, IsPutAtFixed, IsWrittenOrMemory, lacking_of, status_after};
-ghost use Rattle.rc_answers.specs.FirstTry.{IsFirstRoom};
-ghost use Rattle.rc_answers.specs.Reached.{HoldsReaching, IsFullAtMost};
-ghost use Rattle.rc_answers.specs.Texts.{head_text, outcome_line, route_count, routes_line};
+ghost use Rattle.rc_answers.specs.Written.{AreExamplesOf, AreWalksOf, IsPutAtFixed, IsPutOver, examples_in, lacking_of};
 
-use crate::answering::status_after;
-use crate::first_try::first_room;
-use crate::reached_set::{ReachedSet, reached};
-use crate::writing::{put_front, put_route_count};
-use crate::{Status, Subject};
-use rc_base::{Ends, Header, Items, Pos};
+use crate::written::write_ended;
+use crate::{Detail, Reaching, Status, Subject};
+use rc_base::{Header, Items};
 use rc_bdd::SetError;
 use rc_config::Network;
 use rc_cubes::Cubes;
 use rc_nodes::{May, Nodes, Ref, Seat};
 use rc_outside::{Gate, Sink};
-use rc_report::{Buffer, SinkFault, put_cubes};
-use rc_route::{Outcome, State};
+use rc_reach::{ReachedSet, first_room, reached};
+use rc_report::{CubeLines, RoundsEnd, RoutesLine, Then, route_count};
+use rc_route::State;
 use rc_topology::Links;
 use rc_walk::{Plane, Walk, shortest};
-use rc_words::{Ask, Request, arrivals};
+use rc_words::Request;
 use std::alloc::{AllocError, AllocGlobal, Global};
-use std::snapshot::Snapshot;
 use std::thread::Threads;
+
+/// What stands where packets are asked about at a fixed point.
+#[derive(Clone, Copy)]
+pub(crate) struct AtFixed<'a> {
+    pub request: &'a Request,
+    /// The network in the state of the fixed point.
+    pub plane: &'a Plane<'a>,
+    /// How the rounds ended.
+    pub end: RoundsEnd,
+    /// How many routes the tables of all routers have.
+    pub routes: u64,
+}
 
 /// One walk.
 fn alone(alloc: Global, walk: Walk) -> Result<Items<Walk>, AllocError>
@@ -53,16 +57,25 @@ fn alone(alloc: Global, walk: Walk) -> Result<Items<Walk>, AllocError>
 fn walks_of(
     alloc: Global,
     plane: &Plane<'_>,
-    position: &Pos,
-    ends: &Ends,
+    asked: &Reaching,
     header: &Header,
 ) -> Result<Items<Walk>, AllocError>
-    ensures { IfOk result (AreWalksOf plane.now position.now ends.now header.now) }
+    ensures { IfOk result (AreWalksOf plane.now asked.now.place asked.now.ends header.now) }
 {
-    let found = shortest(alloc, plane, *position, header, *ends)?;
+    let found = shortest(alloc, plane, asked.place, header, asked.ends)?;
     match found {
         Some(walk) => alone(alloc, walk),
         None => Ok(Items::new(alloc)),
+    }
+}
+
+/// How many examples are shown.
+fn examples_in(detail: &Detail) -> u32
+    ensures { result ≡ examples_in detail.now }
+{
+    match detail {
+        Detail::Examples(most) => *most,
+        Detail::First => 0,
     }
 }
 
@@ -70,8 +83,7 @@ fn walks_of(
 fn example_walks<M: May>(
     alloc: Global,
     plane: &Plane<'_>,
-    position: &Pos,
-    ends: &Ends,
+    asked: &Reaching,
     nodes: &Nodes<M>,
     seat: &mut Seat<M>,
     set: Ref,
@@ -81,13 +93,13 @@ fn example_walks<M: May>(
     requires known { IsKnown seat.old set.index }
     ensures seat { IsSeatOf nodes.now seat.new }
     ensures keeps { Keeps seat.old seat.new }
-    ensures walks { IfOk result (λ walks. (t : Tree) → SeatKnows seat.old set.index t → AreExamplesOf plane.now position.now ends.now most t walks.items) }
+    ensures walks { IfOk result (λ walks. (t : Tree) → SeatKnows seat.old set.index t → AreExamplesOf plane.now asked.now.place asked.now.ends most t walks.items) }
 {
     let mut walks = Vec::new(alloc);
     let mut cubes = Cubes::new(set);
     for _ in 0..most {
         match cubes.next(nodes, seat) {
-            Some(cube) => walks.push(walks_of(alloc, plane, position, ends, &cube.value)?)?,
+            Some(cube) => walks.push(walks_of(alloc, plane, asked, &cube.value)?)?,
             None => return Ok(walks),
         }
     }
@@ -104,372 +116,144 @@ fn lacking(error: SetError) -> Status
     }
 }
 
-/// Puts an outcome and the cubes of a set, with the walks of its examples.
-fn put_packets<S: Sink, M: May>(
+/// Writes what is shown of a set, behind how the rounds ended. Its examples are those of its first cubes.
+fn write_set<S: Sink>(
+    alloc: Global,
+    at: &AtFixed<'_>,
+    asked: &Reaching,
+    held: ReachedSet<'_>,
+    examples: Vec<Items<Walk>>,
     out: &mut S,
-    line: &mut Buffer,
-    ask: &Ask,
-    net: &Network,
-    outcome: &Outcome,
-    nodes: &Nodes<M>,
-    seat: &mut Seat<M>,
-    set: Ref,
-    walks: &[Items<Walk>],
-) -> Result<(), SinkFault>
-    requires seat { IsSeatOf nodes.now seat.old }
-    requires known { IsKnown seat.old set.index }
-    ensures seat { IsSeatOf nodes.now seat.new }
-    ensures keeps { Keeps seat.old seat.new }
-    ensures put { (t : Tree) → SeatKnows seat.old set.index t → IsPut S.Sink out.old out.new result ((head_text ask.now ++ outcome_line outcome.now) ++ cubes_text net.now (shown false (cubes t)) walks.now) }
+) -> Status
+    requires seat { IsSeatOf held.nodes held.seat }
+    requires known { IsKnown held.seat held.set.index }
+    requires set { (t : Tree) × SeatKnows held.seat held.set.index t × IsReachingSet at.now.plane.now asked.now.place asked.now.ends t × AreExamplesOf at.now.plane.now asked.now.place asked.now.ends (examples_in asked.now.detail) t examples.items }
+    ensures put { IsPutOver at.now.request.now at.now.plane.now at.now.end at.now.routes asked.now result (S.told out.old) (S.told out.new) }
+    ensures sink_only { result ≡ Status.Sink → Rose (S.faults out.old) (S.faults out.new) }
+    ensures sink_always { S.faults out.old < S.faults out.new → result ≡ Status.Sink }
 {
-    put_front(out, line, ask, outcome)?;
-    put_cubes(out, line, net, nodes, seat, set, false, walks)
-}
-
-/// Puts how many routes there are, and the first cube of a set.
-fn put_summary<S: Sink, M: May>(
-    out: &mut S,
-    line: &mut Buffer,
-    net: &Network,
-    routes: u64,
-    nodes: &Nodes<M>,
-    seat: &mut Seat<M>,
-    set: Ref,
-) -> Result<(), SinkFault>
-    requires seat { IsSeatOf nodes.now seat.old }
-    requires known { IsKnown seat.old set.index }
-    ensures seat { IsSeatOf nodes.now seat.new }
-    ensures keeps { Keeps seat.old seat.new }
-    ensures put { (t : Tree) → SeatKnows seat.old set.index t → IsPut S.Sink out.old out.new result (routes_line routes ++ cubes_text net.now (shown true (cubes t)) []) }
-{
-    put_route_count(out, line, routes)?;
-    put_cubes(out, line, net, nodes, seat, set, true, &[])
-}
-
-/// Puts an outcome, how many routes there are, and the first cube of a set.
-fn put_made<S: Sink, M: May>(
-    out: &mut S,
-    line: &mut Buffer,
-    ask: &Ask,
-    net: &Network,
-    outcome: &Outcome,
-    routes: u64,
-    nodes: &Nodes<M>,
-    seat: &mut Seat<M>,
-    set: Ref,
-) -> Result<(), SinkFault>
-    requires seat { IsSeatOf nodes.now seat.old }
-    requires known { IsKnown seat.old set.index }
-    ensures seat { IsSeatOf nodes.now seat.new }
-    ensures keeps { Keeps seat.old seat.new }
-    ensures put { (t : Tree) → SeatKnows seat.old set.index t → IsPut S.Sink out.old out.new result ((head_text ask.now ++ outcome_line outcome.now) ++ (routes_line routes ++ cubes_text net.now (shown true (cubes t)) [])) }
-{
-    put_front(out, line, ask, outcome)?;
-    put_summary(out, line, net, routes, nodes, seat, set)
-}
-
-/// How many routes the tables of all routers have. A number beyond 64 bits counts as want of memory: no tables are so large.
-fn route_count(state: &State) -> Result<u64, AllocError>
-    ensures { IfOk result (λ n. n ≡ route_count state.now) }
-{
-    let mut count: u64 = 0;
-    for known in state.as_slice() {
-        match count.checked_add(known.table.len() as u64) {
-            Some(more) => count = more,
-            None => return Err(AllocError),
+    let ReachedSet { nodes, seat, set } = held;
+    let net = at.plane.network();
+    let source = &at.request.source;
+    match asked.detail {
+        Detail::Examples(_) => {
+            let cubes = CubeLines {
+                net,
+                nodes,
+                seat,
+                set,
+                only_first: false,
+                examples,
+            };
+            write_ended(alloc, source, at.end, cubes, out)
         }
-    }
-    Ok(count)
-}
-
-/// Writes the cubes of a set. All memory but that of a line is taken.
-fn write_packets<S: Sink, M: May>(
-    alloc: Global,
-    ask: &Ask,
-    net: &Network,
-    outcome: &Outcome,
-    nodes: &Nodes<M>,
-    seat: &mut Seat<M>,
-    set: Ref,
-    walks: &[Items<Walk>],
-    out: &mut S,
-) -> Status
-    requires seat { IsSeatOf nodes.now seat.old }
-    requires known { IsKnown seat.old set.index }
-    ensures put { (t : Tree) → SeatKnows seat.old set.index t → IsWrittenOrMemory (status_after outcome.now) ((head_text ask.now ++ outcome_line outcome.now) ++ cubes_text net.now (shown false (cubes t)) walks.now) result (S.told out.old) (S.told out.new) }
-    ensures sink_only { result ≡ Status.Sink → Rose (S.faults out.old) (S.faults out.new) }
-    ensures sink_always { S.faults out.old < S.faults out.new → result ≡ Status.Sink }
-{
-    let mut line = match Buffer::new(alloc) {
-        Ok(line) => line,
-        Err(_) => return Status::Memory,
-    };
-    match put_packets(out, &mut line, ask, net, outcome, nodes, seat, set, walks) {
-        Ok(()) => status_after(outcome),
-        Err(_) => Status::Sink,
-    }
-}
-
-/// Writes what is shown of a made network. All memory but that of a line is taken.
-fn write_made<S: Sink, M: May>(
-    alloc: Global,
-    ask: &Ask,
-    net: &Network,
-    outcome: &Outcome,
-    routes: u64,
-    nodes: &Nodes<M>,
-    seat: &mut Seat<M>,
-    set: Ref,
-    out: &mut S,
-) -> Status
-    requires seat { IsSeatOf nodes.now seat.old }
-    requires known { IsKnown seat.old set.index }
-    ensures put { (t : Tree) → SeatKnows seat.old set.index t → IsWrittenOrMemory (status_after outcome.now) ((head_text ask.now ++ outcome_line outcome.now) ++ (routes_line routes ++ cubes_text net.now (shown true (cubes t)) [])) result (S.told out.old) (S.told out.new) }
-    ensures sink_only { result ≡ Status.Sink → Rose (S.faults out.old) (S.faults out.new) }
-    ensures sink_always { S.faults out.old < S.faults out.new → result ≡ Status.Sink }
-{
-    let mut line = match Buffer::new(alloc) {
-        Ok(line) => line,
-        Err(_) => return Status::Memory,
-    };
-    match put_made(out, &mut line, ask, net, outcome, routes, nodes, seat, set) {
-        Ok(()) => status_after(outcome),
-        Err(_) => Status::Sink,
+        Detail::First => {
+            let cubes = CubeLines {
+                net,
+                nodes,
+                seat,
+                set,
+                only_first: true,
+                examples,
+            };
+            let behind = Then {
+                first: RoutesLine(at.routes),
+                behind: cubes,
+            };
+            write_ended(alloc, source, at.end, behind, out)
+        }
     }
 }
 
 /// Answers which packets reach where their set was made, and else what was lacking for it.
-#[tactic(auto, using(crate::proofs::PutLaws::memory_at_fixed))]
-fn answer_reached_packets<S: Sink>(
+#[tactic(auto, using(crate::proofs::PutLaws::memory_over, crate::proofs::PutLaws::lacking_over))]
+fn answer_reached<S: Sink>(
     alloc: Global,
-    request: &Request,
-    net: &Network,
-    outcome: &Outcome,
-    known: Snapshot<State>,
-    plane: &Plane<'_>,
-    position: &Pos,
-    ends: &Ends,
-    examples: u32,
+    at: &AtFixed<'_>,
+    asked: &Reaching,
     reached: Result<ReachedSet<'_>, SetError>,
     out: &mut S,
 ) -> Status
-    requires plane { plane.now ≡ plane_of net.now known.value }
-    requires set { IfOk reached (HoldsReaching plane.now position.now ends.now) }
-    requires full { IfErr reached (IsFullAtMost request.now.limits.nodes plane.now position.now ends.now) }
-    ensures put { IsPutAtFixed request.now net.now outcome.now known.value (Subject.Packets position.now ends.now examples) result (S.told out.old) (S.told out.new) }
+    requires set { IfOk reached (HoldsReaching at.now.plane.now asked.now.place asked.now.ends) }
+    requires full { IfErr reached (IsFullAtMost at.now.request.now.limits.nodes at.now.plane.now asked.now.place asked.now.ends) }
+    ensures put { IsPutOver at.now.request.now at.now.plane.now at.now.end at.now.routes asked.now result (S.told out.old) (S.told out.new) }
     ensures lacking { IfErr reached.entry (λ e. result ≡ lacking_of e) }
     ensures sink_only { result ≡ Status.Sink → Rose (S.faults out.old) (S.faults out.new) }
     ensures sink_always { S.faults out.old < S.faults out.new → result ≡ Status.Sink }
 {
-    let _ = known;
-    let reached = match reached {
-        Ok(reached) => reached,
+    let held = match reached {
+        Ok(held) => held,
         Err(error) => return lacking(error),
     };
     let ReachedSet {
         nodes,
         mut seat,
         set,
-    } = reached;
-    let walks = match example_walks(
-        alloc, plane, position, ends, &nodes, &mut seat, set, examples,
-    ) {
-        Ok(walks) => walks,
-        Err(_) => return Status::Memory,
-    };
-    write_packets(
+    } = held;
+    let Ok(examples) = example_walks(
         alloc,
-        &request.ask,
-        net,
-        outcome,
+        at.plane,
+        asked,
         &nodes,
         &mut seat,
         set,
-        walks.as_slice(),
-        out,
-    )
+        examples_in(&asked.detail),
+    ) else {
+        return Status::Memory;
+    };
+    let held = ReachedSet { nodes, seat, set };
+    write_set(alloc, at, asked, held, examples, out)
 }
 
 /// Answers which packets reach, over a plane.
-fn packets_over<R: Threads + Sync + AllocGlobal, S: Sink, G: Gate>(
+fn answer_over<R: Threads + Sync + AllocGlobal, S: Sink, G: Gate>(
     rt: &R,
-    request: &Request,
-    net: &Network,
-    outcome: &Outcome,
-    known: Snapshot<State>,
-    plane: &Plane<'_>,
+    at: &AtFixed<'_>,
     few: Option<u32>,
-    position: &Pos,
-    ends: &Ends,
-    examples: u32,
+    asked: &Reaching,
     out: &mut S,
     gate: &G,
 ) -> Status
-    requires limits { AreInRange request.now.limits }
-    requires lawful { IsLawful net.now }
-    requires plane { plane.now ≡ plane_of net.now known.value }
-    requires few { IfSome few (IsFirstRoom request.now.limits.nodes) }
-    requires place { IsPosition net.now position.now }
-    ensures put { IsPutAtFixed request.now net.now outcome.now known.value (Subject.Packets position.now ends.now examples) result (S.told out.old) (S.told out.new) }
+    requires limits { AreInRange at.now.request.now.limits }
+    requires lawful { IsLawful at.now.plane.now.network }
+    requires links { at.now.plane.now.links ≡ links_of at.now.plane.now.network }
+    requires few { IfSome few (IsFirstRoom at.now.request.now.limits.nodes) }
+    requires place { IsPosition at.now.plane.now.network asked.now.place }
+    ensures put { IsPutOver at.now.request.now at.now.plane.now at.now.end at.now.routes asked.now result (S.told out.old) (S.told out.new) }
     ensures sink_only { result ≡ Status.Sink → Rose (S.faults out.old) (S.faults out.new) }
     ensures sink_always { S.faults out.old < S.faults out.new → result ≡ Status.Sink }
 {
-    let limits = &request.limits;
-    let reached = reached(rt, few, &*plane, position, ends, limits, gate);
-    answer_reached_packets(
-        rt.alloc(),
-        request,
-        net,
-        outcome,
-        known,
-        plane,
-        position,
-        ends,
-        examples,
-        reached,
-        out,
-    )
+    let limits = &at.request.limits;
+    let reached = reached(
+        rt,
+        few,
+        at.plane,
+        &asked.place,
+        &asked.ends,
+        limits.nodes,
+        limits.workers,
+        gate,
+    );
+    answer_reached(rt.alloc(), at, asked, reached, out)
 }
 
-/// Answers what is shown of a made network where its set was made, and else what was lacking for it.
-#[tactic(auto, using(crate::proofs::PutLaws::memory_at_fixed))]
-fn answer_reached_made<S: Sink>(
-    alloc: Global,
-    request: &Request,
-    net: &Network,
-    outcome: &Outcome,
-    known: Snapshot<State>,
-    routes: u64,
-    position: &Pos,
-    reached: Result<ReachedSet<'_>, SetError>,
-    out: &mut S,
-) -> Status
-    requires routes { routes ≡ route_count known.value }
-    requires set { IfOk reached (HoldsReaching (plane_of net.now known.value) position.now arrivals) }
-    requires full { IfErr reached (IsFullAtMost request.now.limits.nodes (plane_of net.now known.value) position.now arrivals) }
-    ensures put { IsPutAtFixed request.now net.now outcome.now known.value (Subject.Made position.now) result (S.told out.old) (S.told out.new) }
-    ensures lacking { IfErr reached.entry (λ e. result ≡ lacking_of e) }
-    ensures sink_only { result ≡ Status.Sink → Rose (S.faults out.old) (S.faults out.new) }
-    ensures sink_always { S.faults out.old < S.faults out.new → result ≡ Status.Sink }
-{
-    let _ = known;
-    let _ = position;
-    let reached = match reached {
-        Ok(reached) => reached,
-        Err(error) => return lacking(error),
-    };
-    let ReachedSet {
-        nodes,
-        mut seat,
-        set,
-    } = reached;
-    write_made(
-        alloc,
-        &request.ask,
-        net,
-        outcome,
-        routes,
-        &nodes,
-        &mut seat,
-        set,
-        out,
-    )
-}
-
-/// Answers what is shown of a made network, over a plane.
-fn made_over<R: Threads + Sync + AllocGlobal, S: Sink, G: Gate>(
-    rt: &R,
-    request: &Request,
-    net: &Network,
-    outcome: &Outcome,
-    known: Snapshot<State>,
-    plane: &Plane<'_>,
-    routes: u64,
-    few: Option<u32>,
-    position: &Pos,
-    out: &mut S,
-    gate: &G,
-) -> Status
-    requires limits { AreInRange request.now.limits }
-    requires lawful { IsLawful net.now }
-    requires plane { plane.now ≡ plane_of net.now known.value }
-    requires routes { routes ≡ route_count known.value }
-    requires few { IfSome few (IsFirstRoom request.now.limits.nodes) }
-    requires place { IsPosition net.now position.now }
-    ensures put { IsPutAtFixed request.now net.now outcome.now known.value (Subject.Made position.now) result (S.told out.old) (S.told out.new) }
-    ensures sink_only { result ≡ Status.Sink → Rose (S.faults out.old) (S.faults out.new) }
-    ensures sink_always { S.faults out.old < S.faults out.new → result ≡ Status.Sink }
-{
-    let ends = arrivals();
-    let limits = &request.limits;
-    let reached = reached(rt, few, &*plane, position, &ends, limits, gate);
-    answer_reached_made(
-        rt.alloc(),
-        request,
-        net,
-        outcome,
-        known,
-        routes,
-        position,
-        reached,
-        out,
-    )
-}
-
-/// Answers which packets get from a position to one of some endings, at a fixed point. Its tables become those of the plane; its
-/// outcome's line names none of them.
+/// Answers which packets get from a position to one of some endings, at a fixed point. Its tables become those of the plane.
 #[tactic(auto, using(crate::proofs::PutLaws::memory_at_fixed))]
 pub(crate) fn answer_packets<R: Threads + Sync + AllocGlobal, S: Sink, G: Gate>(
     rt: &R,
     request: &Request,
     net: &Network,
-    rounds: u32,
+    end: RoundsEnd,
     state: State,
-    position: &Pos,
-    ends: &Ends,
-    examples: u32,
+    asked: &Reaching,
     out: &mut S,
     gate: &G,
 ) -> Status
     requires limits { AreInRange request.now.limits }
     requires lawful { IsLawful net.now }
     requires state { IsStateOf (length net.now.routers) state }
-    requires place { IsPosition net.now position.now }
-    ensures put { IsPutAtFixed request.now net.now (Outcome.Fixed rounds state) state (Subject.Packets position.now ends.now examples) result (S.told out.old) (S.told out.new) }
-    ensures sink_only { result ≡ Status.Sink → Rose (S.faults out.old) (S.faults out.new) }
-    ensures sink_always { S.faults out.old < S.faults out.new → result ≡ Status.Sink }
-{
-    let Ok(links) = Links::of(rt.alloc(), net) else {
-        return Status::Memory;
-    };
-    let few = first_room(net, &state, request.limits.nodes);
-    let known = Snapshot::of(&state);
-    let Ok(plane) = Plane::of(rt.alloc(), net, &links, state) else {
-        return Status::Memory;
-    };
-    let outcome = Outcome::Fixed(rounds, Items::new(rt.alloc()));
-    packets_over(
-        rt, request, net, &outcome, known, &plane, few, position, ends, examples, out, gate,
-    )
-}
-
-/// Answers what is shown of a made network at a fixed point, in the same way.
-#[tactic(auto, using(crate::proofs::PutLaws::memory_at_fixed))]
-pub(crate) fn answer_made<R: Threads + Sync + AllocGlobal, S: Sink, G: Gate>(
-    rt: &R,
-    request: &Request,
-    net: &Network,
-    rounds: u32,
-    state: State,
-    position: &Pos,
-    out: &mut S,
-    gate: &G,
-) -> Status
-    requires limits { AreInRange request.now.limits }
-    requires lawful { IsLawful net.now }
-    requires state { IsStateOf (length net.now.routers) state }
-    requires place { IsPosition net.now position.now }
-    ensures put { IsPutAtFixed request.now net.now (Outcome.Fixed rounds state) state (Subject.Made position.now) result (S.told out.old) (S.told out.new) }
+    requires place { IsPosition net.now asked.now.place }
+    ensures put { IsPutAtFixed request.now net.now end state (Subject.Packets asked.now) result (S.told out.old) (S.told out.new) }
     ensures sink_only { result ≡ Status.Sink → Rose (S.faults out.old) (S.faults out.new) }
     ensures sink_always { S.faults out.old < S.faults out.new → result ≡ Status.Sink }
 {
@@ -480,12 +264,14 @@ pub(crate) fn answer_made<R: Threads + Sync + AllocGlobal, S: Sink, G: Gate>(
         return Status::Memory;
     };
     let few = first_room(net, &state, request.limits.nodes);
-    let known = Snapshot::of(&state);
     let Ok(plane) = Plane::of(rt.alloc(), net, &links, state) else {
         return Status::Memory;
     };
-    let outcome = Outcome::Fixed(rounds, Items::new(rt.alloc()));
-    made_over(
-        rt, request, net, &outcome, known, &plane, routes, few, position, out, gate,
-    )
+    let at = AtFixed {
+        request,
+        plane: &plane,
+        end,
+        routes,
+    };
+    answer_over(rt, &at, few, asked, out, gate)
 }

@@ -4,9 +4,26 @@ ghost use Rattle.rc_answers.specs.Subject.{position_at, position_named, router_o
 
 use rc_base::{Ends, Header, Name, Pos, RouterId};
 use rc_config::Network;
-use rc_words::{Ask, PlaceName};
+use rc_words::{Ask, PlaceName, arrivals};
 
-/// What of a network is asked about.
+/// Which cubes of a set of packets are shown.
+#[derive(Clone, Copy)]
+pub enum Detail {
+    /// All of them, and examples of the first ones, so many.
+    Examples(u32),
+    /// The first one alone, behind the number of all routes.
+    First,
+}
+
+/// The packets that get from a position to one of some endings, and which of their cubes are shown.
+#[derive(Clone, Copy)]
+pub struct Reaching {
+    pub place: Pos,
+    pub ends: Ends,
+    pub detail: Detail,
+}
+
+/// What of a network is asked about, once its rounds have ended.
 #[derive(Clone, Copy)]
 pub enum Subject {
     /// The routes of all routers.
@@ -15,10 +32,8 @@ pub enum Subject {
     OneRouter(RouterId),
     /// The walk of a packet with this header from this position.
     Packet(Pos, Header),
-    /// The packets that get from this position to one of these endings, and examples of the first of their cubes, so many.
-    Packets(Pos, Ends, u32),
-    /// A made network: its routes, and the first packets that arrive from this position.
-    Made(Pos),
+    /// These packets.
+    Packets(Reaching),
 }
 
 /// The router that a text names. A text that is no name names none.
@@ -67,38 +82,35 @@ pub fn subject_of(net: &Network, ask: &Ask) -> Option<Subject>
     ensures { result ≡ subject_of net.now ask.now }
 {
     match ask {
-        Ask::Routes {
-            dir: _,
-            router: None,
-        } => Some(Subject::AllRouters),
-        Ask::Routes {
-            dir: _,
-            router: Some(text),
-        } => {
+        Ask::Routes { router: None } => Some(Subject::AllRouters),
+        Ask::Routes { router: Some(text) } => {
             let router = router_of_text(net, text.as_str())?;
             Some(Subject::OneRouter(router))
         }
-        Ask::Trace {
-            dir: _,
-            place,
-            header,
-        } => {
+        Ask::Trace { place, header } => {
             let position = position_named(net, place)?;
             Some(Subject::Packet(position, *header))
         }
         Ask::Reach {
-            dir: _,
             place,
             ends,
             examples,
         } => {
             let position = position_named(net, place)?;
-            Some(Subject::Packets(position, *ends, *examples))
+            Some(Subject::Packets(Reaching {
+                place: position,
+                ends: *ends,
+                detail: Detail::Examples(*examples),
+            }))
         }
-        Ask::Sample { routers: _ } => {
+        Ask::Summary => {
             let place = sample_place()?;
             let position = position_named(net, &place)?;
-            Some(Subject::Made(position))
+            Some(Subject::Packets(Reaching {
+                place: position,
+                ends: arrivals(),
+                detail: Detail::First,
+            }))
         }
     }
 }

@@ -3,12 +3,14 @@ use Rattle.std.proofs.Common.{refl, ◌≡◌, ap, sym, ◌∙◌, subst, ℕ, B
 use Rattle.std.specs.Prelude.{option_copied, if◌then◌else◌}
 use Rattle.std.specs.List.{slice_get}
 use Rattle.std.specs.Slice.Iter.{iter_rest, iter_steps}
+use Rattle.rc_base.specs.Header.{is_free}
 use Rattle.rc_config.specs.declared.network.Network.{Network}
 use Rattle.rc_cubes.specs.declared.cube.Cube.{Cube}
 use Rattle.rc_outside.specs.Put.{IsPut}
 use Rattle.rc_outside.specs.declared.sink.Sink.{Ghosts}
 use Rattle.rc_outside.proofs.PutLaws.{put_then, put_stopped}
-use Rattle.rc_report.specs.CubeText.{is_free, tests, cube_line, cube_text, cubes_text, shown}
+use Rattle.rc_report.specs.CubeText.{fields_text, cube_line, cube_text, cubes_text, shown}
+use Rattle.rc_report.specs.declared.cubes.Told.TheVariants.{Tests}
 use Rattle.rc_report.specs.declared.put.SinkFault.{SinkFault}
 use Rattle.rc_walk.specs.declared.walk.Walk.{Walk}
 
@@ -16,11 +18,11 @@ use Rattle.rc_walk.specs.declared.walk.Walk.{Walk}
 
 pub line_of_all : (c : Cube) → is_free c.mask ≡ true → cube_line c ≡ codes "cube all\n"
 unfolding cube_line
-line_of_all c e = ap (λ (b : Bool). if b then codes "cube all\n" else (codes "cube" ++ tests c) ++ codes "\n") e
+line_of_all c e = ap (λ (b : Bool). if b then codes "cube all\n" else (codes "cube" ++ fields_text (Tests c)) ++ codes "\n") e
 
-pub line_of_tests : (c : Cube) → is_free c.mask ≡ false → cube_line c ≡ (codes "cube" ++ tests c) ++ codes "\n"
+pub line_of_tests : (c : Cube) → is_free c.mask ≡ false → cube_line c ≡ (codes "cube" ++ fields_text (Tests c)) ++ codes "\n"
 unfolding cube_line
-line_of_tests c e = ap (λ (b : Bool). if b then codes "cube all\n" else (codes "cube" ++ tests c) ++ codes "\n") e
+line_of_tests c e = ap (λ (b : Bool). if b then codes "cube all\n" else (codes "cube" ++ fields_text (Tests c)) ++ codes "\n") e
 
 -- ---- a list of cubes
 
@@ -61,8 +63,3 @@ module _ (net : Network) where
     pub put_all : {old now : S} {all cs : List Cube} {examples left : List (List Walk)} → IsPutUpTo sink old now all examples cs left → cs ≡ [] → IsPut sink {E = SinkFault} old now (Ok tt) (cubes_text net all examples)
     put_all {old = old} {now = now} {left = left} p none =
         subst (λ x. IsPut sink {E = SinkFault} old now (Ok tt) x) (sym (append-nil p.before) ∙ ap (λ xs. p.before ++ cubes_text net xs left) (sym none) ∙ p.whole) p.put
-
--- ---- an example's line
-
-pub example_parts : (a b c d e f g x y z w v : List ℕ) → a ++ (x ++ (b ++ (y ++ (c ++ (z ++ (d ++ (w ++ (e ++ (v ++ (f ++ g)))))))))) ≡ a ++ x ++ b ++ y ++ c ++ z ++ d ++ w ++ e ++ v ++ (f ++ g)
-example_parts a b c d e f g x y z w v = simp append_assoc

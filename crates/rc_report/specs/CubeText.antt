@@ -1,47 +1,48 @@
 -- The cubes of a set of headers, as text, with examples and their walks.
-use Rattle.std.specs.Prelude.{ℕ, Bool, ◌&&◌, ◌==◌, List, [], ◌∷◌, ◌++◌, codes, decimal, flat_map, take, if◌then◌else◌, Option, Some, None}
+use Rattle.std.specs.Prelude.{ℕ, Bool, ◌==◌, List, [], ◌∷◌, ◌++◌, codes, decimal, flat_map, take, if◌then◌else◌, Option, Some, None}
 use Rattle.rc_base.specs.Addr.{dotted}
+use Rattle.rc_base.specs.Fields.{fields, name, of}
+use Rattle.rc_base.specs.Header.{is_free}
+use Rattle.rc_base.specs.declared.field.Field.{Field}
+use Rattle.rc_base.specs.declared.field.Field.TheVariants.{Dst, Src}
 use Rattle.rc_base.specs.declared.header.Header.{Header}
 use Rattle.rc_config.specs.declared.network.Network.{Network}
 use Rattle.rc_cubes.specs.declared.cube.Cube.{Cube}
-use Rattle.rc_report.specs.declared.cubes.Field.{Field}
-use Rattle.rc_report.specs.declared.cubes.Field.TheVariants as field
+use Rattle.rc_report.specs.declared.cubes.Told.{Told}
+use Rattle.rc_report.specs.declared.cubes.Told.TheVariants.{Tests, Values}
 use Rattle.rc_report.specs.WalkText.{walk_text}
 use Rattle.rc_walk.specs.declared.walk.Walk.{Walk}
 
--- a field by its name, its value and its mask, with the blank before it; nothing where no bit of it is tested
-unfoldable pub address_test : List ℕ → ℕ → ℕ → List ℕ
-address_test name value mask = if mask == 0 then [] else codes " " ++ name ++ codes "=" ++ dotted value ++ codes "&" ++ dotted mask
+-- a field's number: an address with dots, and every other one in decimal
+abbrev pub number_text : Field → ℕ → List ℕ
+number_text Dst n = dotted n
+number_text Src n = dotted n
+number_text f n = decimal n
 
-unfoldable pub number_test : List ℕ → ℕ → ℕ → List ℕ
-number_test name value mask = if mask == 0 then [] else codes " " ++ name ++ codes "=" ++ decimal value ++ codes "&" ++ decimal mask
+-- a field that a cube tests, with the blank before it, its value and its mask; nothing where no bit of it is tested
+unfoldable pub test_of : Cube → Field → List ℕ
+test_of c f = if of f c.mask == 0 then [] else codes " " ++ name f ++ codes "=" ++ number_text f (of f c.value) ++ codes "&" ++ number_text f (of f c.mask)
 
-abbrev pub field_test : Field → List ℕ
-field_test (field.Address name value mask) = address_test name.now value mask
-field_test (field.Number name value mask) = number_test name.now value mask
+-- a field of an example
+unfoldable pub value_of : Header → Field → List ℕ
+value_of h f = codes " " ++ name f ++ codes "=" ++ number_text f (of f h)
 
--- the fields that a cube tests, in the header's order
-unfoldable pub tests : Cube → List ℕ
-tests c =
-    address_test (codes "dst") c.value.dst c.mask.dst
-    ++ address_test (codes "src") c.value.src c.mask.src
-    ++ number_test (codes "proto") c.value.proto c.mask.proto
-    ++ number_test (codes "sport") c.value.sport c.mask.sport
-    ++ number_test (codes "dport") c.value.dport c.mask.dport
+-- what a line shows of a field: what a cube tests of it, or its number in an example
+abbrev pub field_text : Told → Field → List ℕ
+field_text (Tests c) f = test_of c f
+field_text (Values h) f = value_of h f
 
--- no bit is tested
-abbrev pub is_free : Header → Bool
-is_free mask = (mask.dst == 0) && (mask.src == 0) && (mask.proto == 0) && (mask.sport == 0) && (mask.dport == 0)
+-- of all fields, in the header's order
+unfoldable pub fields_text : Told → List ℕ
+fields_text s = flat_map (field_text s) fields
 
 -- the line of a cube
 unfoldable pub cube_line : Cube → List ℕ
-cube_line c = if is_free c.mask then codes "cube all\n" else (codes "cube" ++ tests c) ++ codes "\n"
+cube_line c = if is_free c.mask then codes "cube all\n" else (codes "cube" ++ fields_text (Tests c)) ++ codes "\n"
 
 -- the line of an example, which is the value of its cube
 unfoldable pub example_line : Header → List ℕ
-example_line h =
-    codes "example dst=" ++ dotted h.dst ++ codes " src=" ++ dotted h.src ++ codes " proto=" ++ decimal h.proto
-    ++ codes " sport=" ++ decimal h.sport ++ codes " dport=" ++ decimal h.dport ++ codes "\n"
+example_line h = (codes "example" ++ fields_text (Values h)) ++ codes "\n"
 
 -- the line of an example, then the lines of its walks
 unfoldable pub example_text : Network → Header → List Walk → List ℕ

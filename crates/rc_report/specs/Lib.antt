@@ -4,3 +4,5 @@ pub mod WalkText
 pub mod CubeText
 pub mod CubeRows
 pub mod RouteRows
+pub mod OutcomeText
+pub mod StateText

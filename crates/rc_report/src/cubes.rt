@@ -3,65 +3,45 @@ ghost use Rattle.std.specs.Prelude.{◌≡◌, ◌++◌, true, codes, flat_map, 
 ghost use Rattle.rc_cubes.specs.Cubes.{cubes};
 ghost use Rattle.rc_nodes.specs.Seats.{IsKnown, IsSeatOf, Keeps, SeatKnows};
 ghost use Rattle.rc_outside.specs.Put.{IsPut, IsPutByHand};
-ghost use Rattle.rc_report.specs.CubeText.{address_test, cube_line, cube_text, cubes_text, example_line, example_text, field_test, is_free, number_test, shown, tests};
+ghost use Rattle.rc_report.specs.CubeText.{cube_line, cube_text, cubes_text, example_line, example_text, field_text, fields_text, number_text, shown, test_of, value_of};
 ghost use Rattle.rc_report.specs.Parts.{part_text};
 ghost use Rattle.rc_report.specs.WalkText.{walk_text};
 ghost use Rattle.rc_trees.specs.Trees.{Tree};
 
 use crate::put::close_line;
 use crate::{Buffer, Part, SinkFault, put_line, put_parts, put_walk};
-use rc_base::{Addr, Header, Items};
+use rc_base::{Addr, Field, Header, Items, header_is_free};
 use rc_config::Network;
 use rc_cubes::{Cube, Cubes};
 use rc_nodes::{May, Nodes, Ref, Seat};
 use rc_outside::Sink;
 use rc_walk::Walk;
 
-/// A field of a header that a cube may test, with its value and its mask.
+/// What a line shows of a header's fields.
 #[derive(Clone, Copy)]
-pub(crate) enum Field {
-    Address {
-        name: &'static [u8],
-        value: Addr,
-        mask: Addr,
-    },
-    Number {
-        name: &'static [u8],
-        value: u64,
-        mask: u64,
-    },
+pub(crate) enum Told {
+    /// What a cube tests of them.
+    Tests(Cube),
+    /// Their numbers in an example.
+    Values(Header),
 }
 
-/// The test of a field that is an address, or empty texts where no bit of it is tested.
-#[tactic(auto, unfolding(crate::specs::CubeText::address_test))]
-fn address_parts(name: &'static [u8], value: Addr, mask: Addr) -> [Part<'static>; 6]
-    ensures { flat_map part_text result ≡ address_test name.now value mask }
+/// A field's number: that of an address with dots.
+fn number_part(field: Field, number: u32) -> Part<'static>
+    ensures { part_text result ≡ number_text field number }
 {
-    if mask.bits() == 0 {
-        return [
-            Part::Text(b""),
-            Part::Text(b""),
-            Part::Text(b""),
-            Part::Text(b""),
-            Part::Text(b""),
-            Part::Text(b""),
-        ];
+    match field {
+        Field::Dst | Field::Src => Part::Address(Addr::new(number)),
+        _ => Part::Number(u64::from(number)),
     }
-    [
-        Part::Text(b" "),
-        Part::Text(name),
-        Part::Text(b"="),
-        Part::Address(value),
-        Part::Text(b"&"),
-        Part::Address(mask),
-    ]
 }
 
-/// The test of a field that is a number, or empty texts where no bit of it is tested.
-#[tactic(auto, unfolding(crate::specs::CubeText::number_test))]
-fn number_parts(name: &'static [u8], value: u64, mask: u64) -> [Part<'static>; 6]
-    ensures { flat_map part_text result ≡ number_test name.now value mask }
+/// A field that a cube tests, or empty texts where it tests no bit of it.
+#[tactic(auto, unfolding(crate::specs::CubeText::test_of))]
+fn test_parts(cube: &Cube, field: Field) -> [Part<'static>; 6]
+    ensures { flat_map part_text result ≡ test_of cube.now field }
 {
+    let mask = field.of(&cube.mask);
     if mask == 0 {
         return [
             Part::Text(b""),
@@ -74,120 +54,90 @@ fn number_parts(name: &'static [u8], value: u64, mask: u64) -> [Part<'static>; 6
     }
     [
         Part::Text(b" "),
-        Part::Text(name),
+        Part::Text(field.name()),
         Part::Text(b"="),
-        Part::Number(value),
+        number_part(field, field.of(&cube.value)),
         Part::Text(b"&"),
-        Part::Number(mask),
+        number_part(field, mask),
     ]
 }
 
-fn field_parts(field: &Field) -> [Part<'static>; 6]
-    ensures { flat_map part_text result ≡ field_test field.now }
+/// A field of an example.
+#[tactic(auto, unfolding(crate::specs::CubeText::value_of))]
+fn value_parts(header: &Header, field: Field) -> [Part<'static>; 6]
+    ensures { flat_map part_text result ≡ value_of header.now field }
 {
-    match field {
-        Field::Address { name, value, mask } => address_parts(name, *value, *mask),
-        Field::Number { name, value, mask } => number_parts(name, *value, *mask),
+    [
+        Part::Text(b" "),
+        Part::Text(field.name()),
+        Part::Text(b"="),
+        number_part(field, field.of(header)),
+        Part::Text(b""),
+        Part::Text(b""),
+    ]
+}
+
+fn field_parts(told: &Told, field: Field) -> [Part<'static>; 6]
+    ensures { flat_map part_text result ≡ field_text told.now field }
+{
+    match told {
+        Told::Tests(cube) => test_parts(cube, field),
+        Told::Values(header) => value_parts(header, field),
     }
 }
 
-/// The fields of a cube, in the header's order.
-#[tactic(auto, unfolding(crate::specs::CubeText::tests))]
-fn fields_of(cube: &Cube) -> [Field; 5]
-    ensures { flat_map field_test result ≡ tests cube.now }
-{
-    let value = cube.value;
-    let mask = cube.mask;
-    [
-        Field::Address {
-            name: b"dst",
-            value: value.dst,
-            mask: mask.dst,
-        },
-        Field::Address {
-            name: b"src",
-            value: value.src,
-            mask: mask.src,
-        },
-        Field::Number {
-            name: b"proto",
-            value: u64::from(value.proto),
-            mask: u64::from(mask.proto),
-        },
-        Field::Number {
-            name: b"sport",
-            value: u64::from(value.sport),
-            mask: u64::from(mask.sport),
-        },
-        Field::Number {
-            name: b"dport",
-            value: u64::from(value.dport),
-            mask: u64::from(mask.dport),
-        },
-    ]
-}
-
-/// Whether a mask has no bit.
-fn is_free(mask: &Header) -> bool
-    ensures { result ≡ is_free mask.now }
-{
-    mask.dst.bits() == 0
-        && mask.src.bits() == 0
-        && mask.proto == 0
-        && mask.sport == 0
-        && mask.dport == 0
-}
-
-fn put_fields<S: Sink>(out: &mut S, line: &mut Buffer, fields: &[Field]) -> Result<(), SinkFault>
-    ensures { IsPutByHand S.Sink out.old out.new result (line.old ++ flat_map field_test fields.now) line.new }
+fn put_fields<S: Sink>(
+    out: &mut S,
+    line: &mut Buffer,
+    told: &Told,
+    fields: &[Field],
+) -> Result<(), SinkFault>
+    ensures { IsPutByHand S.Sink out.old out.new result (line.old ++ flat_map (field_text told.now) fields.now) line.new }
 {
     for field in fields {
-        let parts = field_parts(field);
+        let parts = field_parts(told, *field);
         put_parts(out, line, &parts)?;
     }
     Ok(())
 }
 
-/// The line of a cube up to its end, where the cube tests something.
-fn put_open_cube<S: Sink>(out: &mut S, line: &mut Buffer, cube: &Cube) -> Result<(), SinkFault>
-    ensures { IsPutByHand S.Sink out.old out.new result (line.old ++ (codes "cube" ++ tests cube.now)) line.new }
+/// A line's head, and all fields in the header's order.
+fn put_open_line<S: Sink>(
+    out: &mut S,
+    line: &mut Buffer,
+    head: &'static [u8],
+    told: &Told,
+) -> Result<(), SinkFault>
+    ensures { IsPutByHand S.Sink out.old out.new result (line.old ++ (head.now ++ fields_text told.now)) line.new }
 {
-    let fields = fields_of(cube);
-    put_parts(out, line, &[Part::Text(b"cube")])?;
-    put_fields(out, line, &fields)
+    let fields = Field::all();
+    put_parts(out, line, &[Part::Text(head)])?;
+    put_fields(out, line, told, fields)
+}
+
+fn put_headed<S: Sink>(
+    out: &mut S,
+    line: &mut Buffer,
+    head: &'static [u8],
+    told: &Told,
+) -> Result<(), SinkFault>
+    ensures { IsPut S.Sink out.old out.new result ((head.now ++ fields_text told.now) ++ codes "\n") }
+{
+    line.clear();
+    put_open_line(out, line, head, told)?;
+    close_line(out, line)
 }
 
 fn put_cube_line<S: Sink>(out: &mut S, line: &mut Buffer, cube: &Cube) -> Result<(), SinkFault>
     ensures { IsPut S.Sink out.old out.new result (cube_line cube.now) }
 {
-    if is_free(&cube.mask) {
+    if header_is_free(&cube.mask) {
         return put_line(out, line, &[Part::Text(b"cube all\n")]);
     }
-    line.clear();
-    put_open_cube(out, line, cube)?;
-    close_line(out, line)
+    put_headed(out, line, b"cube", &Told::Tests(*cube))
 }
 
-/// What stands in the line of an example.
 #[tactic(auto, unfolding(crate::specs::CubeText::example_line))]
-fn example_parts(header: &Header) -> [Part<'static>; 11]
-    ensures { flat_map part_text result ≡ example_line header.now }
-{
-    [
-        Part::Text(b"example dst="),
-        Part::Address(header.dst),
-        Part::Text(b" src="),
-        Part::Address(header.src),
-        Part::Text(b" proto="),
-        Part::Number(u64::from(header.proto)),
-        Part::Text(b" sport="),
-        Part::Number(u64::from(header.sport)),
-        Part::Text(b" dport="),
-        Part::Number(u64::from(header.dport)),
-        Part::Text(b"\n"),
-    ]
-}
-
 fn put_example_line<S: Sink>(
     out: &mut S,
     line: &mut Buffer,
@@ -195,8 +145,7 @@ fn put_example_line<S: Sink>(
 ) -> Result<(), SinkFault>
     ensures { IsPut S.Sink out.old out.new result (example_line header.now) }
 {
-    let parts = example_parts(header);
-    put_line(out, line, &parts)
+    put_headed(out, line, b"example", &Told::Values(*header))
 }
 
 fn put_walks<S: Sink>(

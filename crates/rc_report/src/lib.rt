@@ -1,20 +1,28 @@
 //! Texts to a sink: lines out of parts, the route table of a router, the walk of a packet, and the cubes of a set of headers.
 //!
 //! It stands on sinks, addresses, networks, routes, walks, and the node table with its cubes. The layer above knows a text as what is appended to the sink, or a
-//! front of it where the sink fails. A line of any length goes in pieces of 512 bytes; only `Buffer::new` takes memory.
+//! front of it where the sink fails, and joins texts by `Puts`. A line of any length goes in pieces of 512 bytes; only `Buffer::new` takes memory.
 #![tactic(auto)]
 
+mod behind;
 mod buffer;
 mod cubes;
 mod names;
+mod outcomes;
 mod part;
 mod put;
+mod puts;
 mod routes;
+mod tables;
 mod walks;
 
+pub use behind::{CubeLines, WalkLines};
 pub use buffer::Buffer;
 pub use cubes::put_cubes;
+pub use outcomes::{OutcomeLine, RoundsEnd, end_of};
 pub use part::Part;
 pub use put::{SinkFault, end_line, put_line, put_parts};
+pub use puts::{Nothing, Puts, Then};
 pub use routes::put_routes;
+pub use tables::{AllRoutes, RoutesLine, RoutesOf, route_count};
 pub use walks::put_walk;

@@ -14,8 +14,10 @@ use Rattle.clap.specs.declared.builder.ArgAction.TheVariants.{Set}
 use Rattle.clap.specs.declared.builder.ValueParser.{ValueParser}
 use Rattle.clap.specs.declared.builder.ValueParser.TheVariants as vp
 use Rattle.clap.proofs.OnLiterals.{clap_on_literals}
+use Rattle.rc_base.specs.Fields.{fields}
+use Rattle.rc_base.specs.declared.field.Field.TheVariants.{Dst, Src, Proto, Sport, Dport}
 use Rattle.rc_words.specs.App.{netcheck_app}
-use Rattle.rc_words.specs.Plain.{CommandName, routes, trace, reach, sample, command_word, OptionName, router, from, dst, src, proto, sport, dport, end, examples, rounds, workers, nodes, option_name, same_option, ValueKind, number, text, kind_of, default, options_of, required_of}
+use Rattle.rc_words.specs.Plain.{CommandName, routes, trace, reach, sample, command_word, OptionName, router, from, field, end, examples, rounds, workers, nodes, option_name, same_option, ValueKind, number, text, kind_of, default, options_of, required_of}
 use Rattle.rc_words.proofs.Defaults.{IsDefaulted, defaults_by, looked, or_default}
 use Rattle.rc_words.proofs.KeptValues.{IsOwn, AreOwn}
 use Rattle.rc_words.proofs.PlainWalk.{IsFirst}
@@ -39,7 +41,7 @@ parser_by text = vp.String
 
 abbrev is_required : OptionName → Bool
 is_required from = true
-is_required dst = true
+is_required (field Dst) = true
 is_required _ = false
 
 abbrev pub rule_for : OptionName → Rule
@@ -73,7 +75,7 @@ count_rule = record (new_rule (codes "N")) {
 -- ---- names of options
 
 abbrev all_options : List OptionName
-all_options = router ∷ from ∷ dst ∷ src ∷ proto ∷ sport ∷ dport ∷ end ∷ examples ∷ rounds ∷ workers ∷ nodes ∷ []
+all_options = router ∷ from ∷ map field fields ++ (end ∷ examples ∷ rounds ∷ workers ∷ nodes ∷ [])
 
 abbrev pub IsSmall : ValueKind → Type 0
 IsSmall (number low high) = high < 2 ^ 32
@@ -91,11 +93,11 @@ pub record IsNamed (o : OptionName) : Type 0 where
 pub named : (o : OptionName) → IsNamed o
 named router = record { long = refl; not_end = refl; own = refl; not_dir = refl; not_count = refl; small = tt }
 named from = record { long = refl; not_end = refl; own = refl; not_dir = refl; not_count = refl; small = tt }
-named dst = record { long = refl; not_end = refl; own = refl; not_dir = refl; not_count = refl; small = tt }
-named src = record { long = refl; not_end = refl; own = refl; not_dir = refl; not_count = refl; small = tt }
-named proto = record { long = refl; not_end = refl; own = refl; not_dir = refl; not_count = refl; small = lit< tt }
-named sport = record { long = refl; not_end = refl; own = refl; not_dir = refl; not_count = refl; small = lit< tt }
-named dport = record { long = refl; not_end = refl; own = refl; not_dir = refl; not_count = refl; small = lit< tt }
+named (field Dst) = record { long = refl; not_end = refl; own = refl; not_dir = refl; not_count = refl; small = tt }
+named (field Src) = record { long = refl; not_end = refl; own = refl; not_dir = refl; not_count = refl; small = tt }
+named (field Proto) = record { long = refl; not_end = refl; own = refl; not_dir = refl; not_count = refl; small = lit< tt }
+named (field Sport) = record { long = refl; not_end = refl; own = refl; not_dir = refl; not_count = refl; small = lit< tt }
+named (field Dport) = record { long = refl; not_end = refl; own = refl; not_dir = refl; not_count = refl; small = lit< tt }
 named end = record { long = refl; not_end = refl; own = refl; not_dir = refl; not_count = refl; small = tt }
 named examples = record { long = refl; not_end = refl; own = refl; not_dir = refl; not_count = refl; small = lit< tt }
 named rounds = record { long = refl; not_end = refl; own = refl; not_dir = refl; not_count = refl; small = lit< tt }

@@ -6,9 +6,11 @@ mod KeptValues
 mod Defaults
 mod Commands
 mod Told
+mod HeaderRead
+mod ByCommand
 mod Matched
 mod FirstWord
 mod RequestLaws
 mod PlainTaken
 mod PlainRequest
-mod NoLimits
+mod Parts

@@ -1,5 +1,6 @@
 -- Where clap finds no fault in the words there is a request, with every number in its option's range, but where the text of a place, an address or an ending isn't read.
-use Rattle.std.proofs.Common.{ap, sym, lit<, ◌≡◌, ◌∙◌, Bool, true, false, not, ◌&&◌, ◌||◌, ◌⊎◌, inl, inr, List, [], ◌∷◌, refl, Option, Some, None, codes, find, is_some, true≢false}
+use Rattle.std.proofs.Common.{ap, sym, lit<, ◌≡◌, ◌∙◌, ℕ, ◌<◌, ◌^◌, Bool, true, false, not, ◌&&◌, ◌||◌, ◌⊎◌, inl, inr, List, [], ◌∷◌, refl, Option, Some, None, codes, find, is_some, true≢false}
+use Rattle.std.proofs.Math.Nat.{lt_of_le_of_lt}
 use Rattle.std.specs.Prelude.{option_and_then, option_map}
 use Rattle.std.specs.List.{list_any}
 use Rattle.std.specs.Option.{option_map_or}
@@ -10,21 +11,27 @@ use Rattle.clap.specs.Takes.{is_given}
 use Rattle.clap.specs.Walk.{Held, Names, Row, Rule, Text, Walk, answers_to, walk, walk_from, nothing_held, settled, finished}
 use Rattle.clap.specs.Words.{subcommand_of, first_of}
 use Rattle.clap.proofs.WalkLemmas.{both}
+use Rattle.rc_base.specs.Fields.{fields, zeros}
+use Rattle.rc_base.specs.Header.{IsHeader}
+use Rattle.rc_base.specs.declared.field.Field.TheVariants.{Dst, Src, Proto, Sport, Dport}
 use Rattle.rc_base.specs.declared.header.Header.{Header}
-use Rattle.rc_openings.specs.Values.{address_of}
+use Rattle.rc_openings.specs.Values.{address_of, at_most}
 use Rattle.rc_base.specs.declared.ending.Ends.{Ends}
 use Rattle.rc_words.specs.App.{netcheck_app}
 use Rattle.rc_base.specs.Endings.{kind_named}
 use Rattle.rc_words.specs.Endings.{endings_of, only}
-use Rattle.rc_words.specs.Plain.{CommandName, routes, trace, reach, sample, command_word, from, dst, src, proto, sport, dport, examples, rounds, workers, nodes, limit_options}
-use Rattle.rc_words.specs.Request.{address_at, place_of, place_at, limits_at, header_at, ends_at, trace_at, reach_at, request_at, is_read, texts_are_read, AreInRange, IsHeaderInRange, IsAskInRange}
-use Rattle.rc_words.specs.declared.request.Ask.TheVariants.{Routes, Trace, Reach, Sample}
+use Rattle.rc_words.specs.Plain.{CommandName, routes, trace, reach, sample, command_word, from, field, examples, rounds, workers, nodes, limit_options}
+use Rattle.rc_words.specs.Request.{address_at, place_of, place_at, field_at, header_at, ends_at, trace_at, reach_at, source_at, limits_at, request_at, is_read, texts_are_read, AreInRange, IsSourceInRange, IsAskInRange}
+use Rattle.rc_words.specs.declared.request.Ask.TheVariants.{Routes, Trace, Reach, Summary}
 use Rattle.rc_words.specs.declared.request.Limits.{Limits}
-use Rattle.rc_words.specs.declared.request.PlaceName.{PlaceName}
 use Rattle.rc_words.specs.declared.request.Request.{Request}
+use Rattle.rc_words.specs.declared.request.Source.TheVariants.{Folder, Made}
 use Rattle.rc_words.proofs.Commands.{IsCommand, IsOption, whole, wanted_ids, dir_rule, count_rule, rule_for, routes_shape, routes_is, trace_shape, trace_is, reach_shape, reach_is, sample_shape, sample_is}
 use Rattle.rc_words.proofs.Defaults.{IsDefaulted, look, look_all}
 use Rattle.rc_words.proofs.KeptValues.{RowsPass, all_pass, settled_passes, first_none, second_none}
+use Rattle.rc_words.proofs.HeaderRead.{address_fits, header_read, zeros_fit}
+use Rattle.rc_words.proofs.Numbers.{within}
+use Rattle.rc_words.proofs.Parts.{without_ask}
 use Rattle.rc_words.proofs.Rules.{AllOf, find_all, some_of}
 use Rattle.rc_words.proofs.Told.{after, look_option, number_in, count_in, given_text, default_text, no_text}
 
@@ -47,30 +54,42 @@ read_text read (Some u) t is e = some_of (read u) e
 argument_asked : (k : CommandName) (a : Rule) (s : Shape) → IsCommand k a s → (rows : List Row) → RowsPass s.rules rows → is_given a.id (after s.rules rows) ≡ true → (t : Text) × (first_of a.id (after s.rules rows) ≡ Some t)
 argument_asked k a s f rows h given = given_text s.rules a.id a rows (look_all s.rules a.id rows f.defaults ∙ f.after (look a.id rows)) f.no_default h given
 
+read_fits : (o : Option Text) (n : ℕ) → option_and_then address_of o ≡ Some n → n < 2 ^ 32
+read_fits None n e = absurd (cc)
+read_fits (Some t) n e = address_fits t n e
+
 header_asked : (s : Shape) (f : IsCommand trace dir_rule s) (rows : List Row) → RowsPass s.rules rows → is_given (codes "dst") (after s.rules rows) ≡ true
     → is_read address_of (first_of (codes "dst") (after s.rules rows)) ≡ true → is_read address_of (first_of (codes "src") (after s.rules rows)) ≡ true
-    → (h : Header) × (header_at (after s.rules rows) ≡ Some h) × IsHeaderInRange h
+    → (h : Header) × (header_at (after s.rules rows) ≡ Some h) × IsHeader h
 header_asked s f rows h given to_read by_read =
     let c = s.rules in
     let d = f.defaults in
     let i = f.options in
-    let (to_text, to_is) = given_text s.rules (codes "dst") (rule_for dst) rows (look_option s.rules dst rows d i.1.0) refl h given in
+    let (to_text, to_is) = given_text s.rules (codes "dst") (rule_for (field Dst)) rows (look_option s.rules (field Dst) rows d i.1.0) refl h given in
     let (to, to_at) = read_text address_of (first_of (codes "dst") (after s.rules rows)) to_text to_is to_read in
-    let (by_text, by_is) = default_text s.rules src (codes "0.0.0.0") rows d i.1.1.0 h refl in
+    let to_fits = read_fits (first_of (codes "dst") (after s.rules rows)) to to_at in
+    let (by_text, by_is) = default_text s.rules (field Src) (codes "0.0.0.0") rows d i.1.1.0 h refl in
     let (by, by_at) = read_text address_of (first_of (codes "src") (after s.rules rows)) by_text by_is by_read in
-    let (p, p_is, p_low, p_high) = number_in 8 s.rules proto 0 255 (codes "0") rows d i.1.1.1.0 h refl refl refl (lit< tt) in
-    let (a, a_is, a_low, a_high) = number_in 16 s.rules sport 0 65535 (codes "0") rows d i.1.1.1.1.0 h refl refl refl (lit< tt) in
-    let (b, b_is, b_low, b_high) = number_in 16 s.rules dport 0 65535 (codes "0") rows d i.1.1.1.1.1.0 h refl refl refl (lit< tt) in (
-      record { dst = to; src = by; proto = p; sport = a; dport = b },
-      rw (to_at, by_at, p_is, a_is, b_is),
-      record { most_proto = p_high; most_sport = a_high; most_dport = b_high },
+    let by_fits = read_fits (first_of (codes "src") (after s.rules rows)) by by_at in
+    let (p, p_is, p_low, p_high) = number_in 32 s.rules (field Proto) 0 255 (codes "0") rows d i.1.1.1.0 h refl refl refl (lit< tt) in
+    let (a, a_is, a_low, a_high) = number_in 32 s.rules (field Sport) 0 65535 (codes "0") rows d i.1.1.1.1.0 h refl refl refl (lit< tt) in
+    let (b, b_is, b_low, b_high) = number_in 32 s.rules (field Dport) 0 65535 (codes "0") rows d i.1.1.1.1.1.0 h refl refl refl (lit< tt) in
+    header_read (field_at (after s.rules rows)) fields zeros zeros_fit (
+      (to, to_at, to_fits),
+      (
+        (by, by_at, by_fits),
+        (
+          (p, ap (at_most 255) p_is ∙ within 255 p p_high, lt_of_le_of_lt p_high (lit< tt)),
+          ((a, ap (at_most 65535) a_is ∙ within 65535 a a_high, lt_of_le_of_lt a_high (lit< tt)), ((b, ap (at_most 65535) b_is ∙ within 65535 b b_high, lt_of_le_of_lt b_high (lit< tt)), tt)),
+        ),
+      ),
     )
 
 -- ---- a command
 
 -- the request of what was found, where its texts are read, and none where they aren't
 pub record IsTold (found : Option (Text × List Row)) : Type 0 where
-  pub read : texts_are_read found ≡ true → (r : Request) × (request_at found ≡ Some r) × AreInRange r.limits × IsAskInRange r.ask
+  pub read : texts_are_read found ≡ true → (r : Request) × (request_at found ≡ Some r) × AreInRange r.limits × IsSourceInRange r.source × IsAskInRange r.ask
   pub unread : texts_are_read found ≡ false → request_at found ≡ None
 
 -- what has to be given is given
@@ -88,7 +107,7 @@ routes_told rows h given =
     let no_src : first_of (codes "src") (after routes_shape.rules rows) ≡ None = no_text routes_shape.rules (codes "src") rows d h refl refl in
     let no_end : first_of (codes "end") (after routes_shape.rules rows) ≡ None = no_text routes_shape.rules (codes "end") rows d h refl refl in
     record {
-      read = λ _. (record { ask = Routes dir (first_of (codes "router") (after routes_shape.rules rows)); limits = l }, rw (dir_is, l_is), l_in, tt);
+      read = λ _. (record { source = Folder dir; ask = Routes (first_of (codes "router") (after routes_shape.rules rows)); limits = l }, rw (dir_is, l_is), l_in, tt, tt);
       unread = λ e. let bad : true ≡ false = rw (no_from, no_dst, no_src, no_end) at e in absurd (true≢false bad);
     }
 
@@ -102,7 +121,7 @@ sample_told rows h given =
     let no_src : first_of (codes "src") (after sample_shape.rules rows) ≡ None = no_text sample_shape.rules (codes "src") rows d h refl refl in
     let no_end : first_of (codes "end") (after sample_shape.rules rows) ≡ None = no_text sample_shape.rules (codes "end") rows d h refl refl in
     record {
-      read = λ _. (record { ask = Sample n; limits = l }, rw (n_is, l_is), l_in, (n_low, n_high));
+      read = λ _. (record { source = Made n; ask = Summary; limits = l }, rw (n_is, l_is), l_in, (n_low, n_high), tt);
       unread = λ e. let bad : true ≡ false = rw (no_from, no_dst, no_src, no_end) at e in absurd (true≢false bad);
     }
 
@@ -132,15 +151,10 @@ no_src : (rows : List Row) → address_at (codes "src") rows ≡ None → header
 no_src rows e = rw e (then_none _ (address_at (codes "dst") rows) (λ x. refl))
 
 no_header : (rows : List Row) → header_at rows ≡ None → trace_at rows ≡ None
-no_header rows e = rw e (go (place_at (codes "from") rows) (first_of (codes "DIR") rows))
-  where
-    go : (p : Option PlaceName) (d : Option Text) → option_and_then (λ dir. option_and_then (λ place. option_map (λ header. Trace dir place header) None) p) d ≡ None
-    go p None = refl
-    go None (Some d) = refl
-    go (Some p) (Some d) = refl
+no_header rows e = rw e (then_none _ (place_at (codes "from") rows) (λ x. refl))
 
 no_place : (rows : List Row) → place_at (codes "from") rows ≡ None → trace_at rows ≡ None
-no_place rows e = rw e (then_none _ (first_of (codes "DIR") rows) (λ x. refl))
+no_place rows e = rw e
 
 trace_unread : (rows : List Row) → first_of (codes "end") rows ≡ None → texts_are_read (Some (codes "trace", rows)) ≡ false → trace_at rows ≡ None
 trace_unread rows no_end whole_unread = let e : (is_read place_of (first_of (codes "from") rows) && is_read address_of (first_of (codes "dst") rows) && is_read address_of (first_of (codes "src") rows)) ≡ false = last_read _ (is_read kind_named (first_of (codes "end") rows)) (ap (is_read kind_named) no_end) whole_unread in elim (and_split (is_read place_of (first_of (codes "from") rows) && is_read address_of (first_of (codes "dst") rows)) (is_read address_of (first_of (codes "src") rows)) e) [
@@ -164,16 +178,16 @@ trace_told rows h given =
           let inner = both _ _ outer.0 in
           let (place, place_at_is) = read_text place_of (first_of (codes "from") (after trace_shape.rules rows)) place_text place_is inner.0 in
           let (header, header_is, header_in) = header_asked trace_shape trace_is rows h given.1.1.0 inner.1 outer.1 in
-          (record { ask = Trace dir place header; limits = l }, rw (dir_is, place_at_is, header_is, l_is), l_in, header_in);
-      unread = λ e. ap (option_and_then (λ ask. option_map (λ limits. record { ask = ask; limits = limits }) (limits_at (after trace_shape.rules rows)))) (trace_unread (after trace_shape.rules rows) no_end e);
+          (record { source = Folder dir; ask = Trace place header; limits = l }, rw (dir_is, place_at_is, header_is, l_is), l_in, tt, header_in);
+      unread = λ e. without_ask (source_at (codes "trace") (after trace_shape.rules rows)) (trace_at (after trace_shape.rules rows)) (limits_at (after trace_shape.rules rows)) (trace_unread (after trace_shape.rules rows) no_end e);
     }
 
 -- without the endings, or without a place, nothing is asked
 no_place_to_reach : (rows : List Row) → place_at (codes "from") rows ≡ None → reach_at rows ≡ None
-no_place_to_reach rows e = rw e (then_none _ (first_of (codes "DIR") rows) (λ x. refl))
+no_place_to_reach rows e = rw e
 
 no_ends : (rows : List Row) → ends_at rows ≡ None → reach_at rows ≡ None
-no_ends rows e = rw e (then_none _ (first_of (codes "DIR") rows) (λ x. then_none _ (place_at (codes "from") rows) (λ y. refl)))
+no_ends rows e = rw e (then_none _ (place_at (codes "from") rows) (λ x. refl))
 
 ends_read : (o : Option Text) → is_read kind_named o ≡ true → (ends : Ends) × (endings_of o ≡ Some ends)
 ends_read None e = (_, refl)
@@ -209,8 +223,8 @@ reach_told rows h given =
           let inner = both _ _ (both _ _ outer.0).0 in
           let (place, place_at_is) = read_text place_of (first_of (codes "from") (after reach_shape.rules rows)) place_text place_is inner.0 in
           let (ends, ends_is) = ends_read (first_of (codes "end") (after reach_shape.rules rows)) outer.1 in
-          (record { ask = Reach dir place ends n; limits = l }, rw (dir_is, place_at_is, ends_is, n_is, l_is), l_in, n_high);
-      unread = λ e. ap (option_and_then (λ ask. option_map (λ limits. record { ask = ask; limits = limits }) (limits_at (after reach_shape.rules rows)))) (reach_unread (after reach_shape.rules rows) no_dst no_src e);
+          (record { source = Folder dir; ask = Reach place ends n; limits = l }, rw (dir_is, place_at_is, ends_is, n_is, l_is), l_in, tt, n_high);
+      unread = λ e. without_ask (source_at (codes "reach") (after reach_shape.rules rows)) (reach_at (after reach_shape.rules rows)) (limits_at (after reach_shape.rules rows)) (reach_unread (after reach_shape.rules rows) no_dst no_src e);
     }
 
 -- ---- the command that the words name

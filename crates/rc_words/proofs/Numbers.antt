@@ -1,7 +1,7 @@
 -- Numbers as the words write them.
 use Rattle.std.proofs.Common.{arith, refl, sym, ◌≡◌, ◌≢◌, ◌∙◌, ap, ℕ, ◌<◌, ◌≤◌, ◌^◌, ◌&&◌, Bool, true, false, List, [], ◌∷◌, length, Option, Some, None}
 use Rattle.std.proofs.Math.Nat.{lt_of_le_of_lt}
-use Rattle.std.proofs.lemmas.Bool.{lt-ltb, ltb-true}
+use Rattle.std.proofs.lemmas.Bool.{le-leb, lt-ltb, ltb-true}
 use Rattle.std.proofs.lemmas.Str.Parse.{digit_from_value, numerals_by_value, tells_all_ascii_digits, without_leading_plus_none}
 use Rattle.std.specs.Prelude.{Result, Ok, Err, nat_lt, option_and_then}
 use Rattle.std.specs.List.{list_all}
@@ -14,6 +14,7 @@ use Rattle.clap.specs.Walk.{Text}
 use Rattle.clap.specs.declared.builder.ValueParser.TheVariants as vp
 use Rattle.clap.proofs.ValueTestLemmas.{accepts-Accepts, Accepts-accepts}
 use Rattle.clap.proofs.WalkLemmas.{both}
+use Rattle.rc_openings.specs.Values.{at_most}
 use Rattle.rc_words.specs.Request.{number_read}
 
 digits_pass : (ds : List ℕ) → AllDigits 10 ds → list_all (λ d. nat_lt (digit_value d) 10) ds ≡ true
@@ -87,3 +88,8 @@ pub digits_accepted : (least most : ℕ) (text : Text) → IsDigits text → mos
 digits_accepted least most text h small low high =
     let same = h.whole in
     Accepts-accepts false (vp.Unsigned least most) text (rw same h.numeral, rw same (omega arith), rw same low, rw same high)
+
+-- ---- numbers up to a limit
+
+pub within : (limit n : ℕ) → n ≤ limit → at_most limit (Some n) ≡ Some n
+within limit n most = rw (le-leb n limit most)

@@ -1,5 +1,5 @@
 -- Plain words make the request that they say.
-use Rattle.std.proofs.Common.{ap, sym, subst, arith, ◌≡◌, ◌∙◌, ℕ, ◌<◌, ◌^◌, Bool, true, false, not, ◌||◌, ◌==◌, ne_eqb, true≢false, List, [], ◌∷◌, ◌++◌, append_assoc, refl, Option, Some, None, cond, codes, map, if◌then◌else◌, slice_get, lit<}
+use Rattle.std.proofs.Common.{ap, sym, subst, arith, ◌≡◌, ◌∙◌, ℕ, ◌<◌, ◌≤◌, ◌^◌, Bool, true, false, not, ◌||◌, ◌==◌, ne_eqb, true≢false, List, [], ◌∷◌, ◌++◌, append_assoc, refl, Option, Some, None, cond, codes, map, if◌then◌else◌, slice_get, lit<}
 use Rattle.std.proofs.Math.Nat.{lt_of_le_of_lt}
 use Rattle.std.specs.Prelude.{option_and_then, option_map}
 use Rattle.std.specs.List.{list_all}
@@ -17,15 +17,20 @@ use Rattle.clap.specs.Walk.{Row, Rule, Text, has_row, row_text}
 use Rattle.clap.specs.Words.{first_of}
 use Rattle.clap.proofs.WalkLemmas.{both}
 use Rattle.rc_base.specs.declared.ending.Ends.{Ends}
+use Rattle.rc_base.specs.Fields.{fields, zeros}
+use Rattle.rc_base.specs.declared.field.Field.TheVariants.{Dst, Src, Proto, Sport, Dport}
 use Rattle.rc_base.specs.declared.header.Header.{Header}
-use Rattle.rc_openings.specs.Values.{address_of}
-use Rattle.rc_words.specs.Plain.{CommandName, routes, trace, reach, sample, command_word, OptionName, router, from, dst, src, proto, sport, dport, end, examples, rounds, workers, nodes, option_name, same_option, ValueKind, number, text, kind_of, default, limit_options, options_of, required_of, has_option, Use, IsPlainNumber, IsPlainValue, is_plain_text, is_given, ArePlainUses, ArePlain, option_words, plain_words, text_for, number_for, plain_limits, plain_header, plain_request}
+use Rattle.rc_openings.specs.Values.{address_of, at_most}
+use Rattle.rc_words.specs.Plain.{CommandName, routes, trace, reach, sample, command_word, OptionName, router, from, field, end, examples, rounds, workers, nodes, option_name, same_option, ValueKind, number, text, kind_of, default, limit_options, options_of, required_of, has_option, Use, IsPlainNumber, IsPlainValue, is_plain_text, is_given, ArePlainUses, ArePlain, option_words, plain_words, text_for, number_for, plain_limits, plain_field, plain_request}
 use Rattle.rc_words.specs.Endings.{endings_of}
-use Rattle.rc_words.specs.Request.{number_read, number_at, address_at, place_of, place_at, limits_at, header_at, ends_at, request_at, request_of}
-use Rattle.rc_words.specs.declared.request.Ask.TheVariants.{Trace, Reach, Sample}
+use Rattle.rc_words.specs.HeaderOptions.{header_of}
+use Rattle.rc_words.specs.Request.{number_read, number_at, address_at, place_of, place_at, limits_at, field_at, header_at, ends_at, request_at, request_of}
+use Rattle.rc_words.specs.declared.request.Ask.TheVariants.{Trace, Reach, Summary}
 use Rattle.rc_words.specs.declared.request.Limits.{Limits}
 use Rattle.rc_words.specs.declared.request.PlaceName.{PlaceName}
-use Rattle.rc_words.proofs.Numbers.{IsDigits, digits_are, digits_read, digits_accepted}
+use Rattle.rc_words.specs.declared.request.Source.TheVariants.{Folder, Made}
+use Rattle.rc_words.proofs.HeaderRead.{same_header}
+use Rattle.rc_words.proofs.Numbers.{IsDigits, digits_are, digits_read, digits_accepted, within}
 use Rattle.rc_words.proofs.Commands.{IsCommand, IsOption, IsSmall, named, same_is, rule_for, dir_rule, count_rule, parser_by, wanted_ids, routes_shape, routes_is, trace_shape, trace_is, reach_shape, reach_is, sample_shape, sample_is}
 use Rattle.rc_words.proofs.Defaults.{look, look_all, or_default, default_row, defaults_by}
 use Rattle.rc_words.proofs.PlainWalk.{IsSingle, IsOptionWord, IsPlainText, OptionUse, words_of, given, AreUsed, row_for, same_text_eq}
@@ -166,6 +171,17 @@ number_found k bits o low high t (u ∷ us) kind small is read (own, plain, once
         let plain_number : IsPlainNumber low high u.value = subst (λ (x : ValueKind). IsPlainValue x u.value) this plain in
         digits_read bits u.value (digits_are u.value plain_number.some plain_number.digits) (lt_of_le_of_lt plain_number.most small)
 
+number_most : (k : CommandName) (o : OptionName) (low high : ℕ) (t : Text) (uses : List Use) → kind_of o ≡ number low high → default o ≡ Some t → digits_value 10 t ≤ high → ArePlainUses k uses → number_for o uses ≤ high
+number_most k o low high t [] kind is most p = rw is most
+number_most k o low high t (u ∷ us) kind is most (own, plain, once, rest) = go (number_most k o low high t us kind is most rest) (same_option u.option o) refl
+  where
+    go : number_for o us ≤ high → (b : Bool) → same_option u.option o ≡ b → option_map_or (digits_value 10) (if b then Some u.value else text_for o us) 0 ≤ high
+    go later false e = later
+    go later true e =
+        let this : kind_of u.option ≡ number low high = ap kind_of (same_option_is u.option o e) ∙ kind in
+        let plain_number : IsPlainNumber low high u.value = subst (λ (x : ValueKind). IsPlainValue x u.value) this plain in
+        plain_number.most
+
 abbrev source_given : Option Row → Bool
 source_given o = option_map_or (λ (r : Row). explicit_source r.source) o false
 
@@ -251,32 +267,33 @@ routes_taken d uses h =
 
 -- ---- trace
 
-header_from : (rows : List Row) (to by : Option ℕ) (p a b : ℕ) → address_at (codes "dst") rows ≡ to → address_at (codes "src") rows ≡ by
-    → number_at 8 (codes "proto") rows ≡ Some p → number_at 16 (codes "sport") rows ≡ Some a → number_at 16 (codes "dport") rows ≡ Some b
-    → header_at rows ≡ option_and_then (λ t. option_map (λ s. record { dst = t; src = s; proto = p; sport = a; dport = b }) by) to
-header_from rows None by p a b to_is by_is p_is a_is b_is = rw to_is
-header_from rows (Some t) None p a b to_is by_is p_is a_is b_is = rw (to_is, by_is)
-header_from rows (Some t) (Some s) p a b to_is by_is p_is a_is b_is = rw (to_is, by_is, p_is, a_is, b_is)
-
 trace_from : (rows : List Row) (d : Text) (place : Option PlaceName) (header : Option Header) (l : Limits) → first_of (codes "DIR") rows ≡ Some d → place_at (codes "from") rows ≡ place → header_at rows ≡ header → limits_at rows ≡ Some l
-    → request_at (Some (codes "trace", rows)) ≡ option_map (λ ask. record { ask = ask; limits = l }) (option_and_then (λ p. option_map (λ h. Trace d p h) header) place)
+    → request_at (Some (codes "trace", rows)) ≡ option_map (λ ask. record { source = Folder d; ask = ask; limits = l }) (option_and_then (λ p. option_map (λ h. Trace p h) header) place)
 trace_from rows d None header l dir_is place_is header_is l_is = rw (dir_is, place_is)
 trace_from rows d (Some p) None l dir_is place_is header_is l_is = rw (dir_is, place_is, header_is)
 trace_from rows d (Some p) (Some h) l dir_is place_is header_is l_is = rw (dir_is, place_is, header_is, l_is)
 
-trace_header : (d : Text) (uses : List Use) → ArePlainUses trace uses → header_at (after trace_shape.rules (plain_found dir_rule d uses)) ≡ plain_header uses
-trace_header d uses p =
-    header_from (after trace_shape.rules (plain_found dir_rule d uses)) (option_and_then address_of (text_for dst uses)) (option_and_then address_of (text_for src uses)) (number_for proto uses) (number_for sport uses) (number_for dport uses)
-    (ap (option_and_then address_of) (text_found trace dir_rule trace_shape trace_is d refl uses dst trace_is.options.1.0))
-    (ap (option_and_then address_of) (text_found trace dir_rule trace_shape trace_is d refl uses src trace_is.options.1.1.0))
-    (value_found trace dir_rule trace_shape trace_is d refl uses 8 proto 0 255 (codes "0") trace_is.options.1.1.1.0 refl (lit< tt) refl refl p)
-    (value_found trace dir_rule trace_shape trace_is d refl uses 16 sport 0 65535 (codes "0") trace_is.options.1.1.1.1.0 refl (lit< tt) refl refl p)
-    (value_found trace dir_rule trace_shape trace_is d refl uses 16 dport 0 65535 (codes "0") trace_is.options.1.1.1.1.1.0 refl (lit< tt) refl refl p)
+trace_header : (d : Text) (uses : List Use) → ArePlainUses trace uses → header_at (after trace_shape.rules (plain_found dir_rule d uses)) ≡ header_of (plain_field uses)
+trace_header d uses p = same_header (field_at (after trace_shape.rules (plain_found dir_rule d uses))) (plain_field uses) fields zeros (address (field Dst) trace_is.options.1.0, (address (field Src) trace_is.options.1.1.0, numbers))
+  where
+    address : (o : OptionName) → IsOption trace_shape.rules o → address_at (option_name o) (after trace_shape.rules (plain_found dir_rule d uses)) ≡ option_and_then address_of (text_for o uses)
+    address o i = ap (option_and_then address_of) (text_found trace dir_rule trace_shape trace_is d refl uses o i)
+
+    field_found : (o : OptionName) (high : ℕ) → IsOption trace_shape.rules o → kind_of o ≡ number 0 high → default o ≡ Some (codes "0") → high < 2 ^ 32
+        → at_most high (number_at 32 (option_name o) (after trace_shape.rules (plain_found dir_rule d uses))) ≡ Some (number_for o uses)
+    field_found o high i kind is small =
+        ap (at_most high) (value_found trace dir_rule trace_shape trace_is d refl uses 32 o 0 high (codes "0") i kind small is refl p)
+        ∙ within high (number_for o uses) (number_most trace o 0 high (codes "0") uses kind is (let e : 0 ≤ high = omega arith in e) p)
+
+    numbers : AllOf (λ f. field_at (after trace_shape.rules (plain_found dir_rule d uses)) f ≡ plain_field uses f) (Proto ∷ Sport ∷ Dport ∷ [])
+    numbers =
+        let i = trace_is.options.1.1.1 in
+        (field_found (field Proto) 255 i.0 refl refl (lit< tt), (field_found (field Sport) 65535 i.1.0 refl refl (lit< tt), (field_found (field Dport) 65535 i.1.1.0 refl refl (lit< tt), tt)))
 
 trace_taken : (d : Text) (uses : List Use) → ArePlain trace d uses → request_of (plain_words trace d uses) ≡ plain_request trace d uses
 trace_taken d uses h =
     words_ask trace dir_rule trace_shape trace_is d refl uses (text_plain d h.argument) h
-    ∙ trace_from (after trace_shape.rules (plain_found dir_rule d uses)) d (option_and_then place_of (text_for from uses)) (plain_header uses) (plain_limits uses)
+    ∙ trace_from (after trace_shape.rules (plain_found dir_rule d uses)) d (option_and_then place_of (text_for from uses)) (header_of (plain_field uses)) (plain_limits uses)
     (ap first_in (argument_found trace dir_rule trace_shape trace_is d refl uses))
     (ap (option_and_then place_of) (text_found trace dir_rule trace_shape trace_is d refl uses from trace_is.options.0))
     (trace_header d uses h.options)
@@ -286,7 +303,7 @@ trace_taken d uses h =
 
 reach_from : (rows : List Row) (d : Text) (place : Option PlaceName) (ends : Option Ends) (n : ℕ) (l : Limits) → first_of (codes "DIR") rows ≡ Some d → place_at (codes "from") rows ≡ place → ends_at rows ≡ ends
     → number_at 32 (codes "examples") rows ≡ Some n → limits_at rows ≡ Some l
-    → request_at (Some (codes "reach", rows)) ≡ option_map (λ ask. record { ask = ask; limits = l }) (option_and_then (λ p. option_map (λ e. Reach d p e n) ends) place)
+    → request_at (Some (codes "reach", rows)) ≡ option_map (λ ask. record { source = Folder d; ask = ask; limits = l }) (option_and_then (λ p. option_map (λ e. Reach p e n) ends) place)
 reach_from rows d None ends n l dir_is place_is ends_is n_is l_is = rw (dir_is, place_is)
 reach_from rows d (Some p) None n l dir_is place_is ends_is n_is l_is = rw (dir_is, place_is, ends_is)
 reach_from rows d (Some p) (Some e) n l dir_is place_is ends_is n_is l_is = rw (dir_is, place_is, ends_is, n_is, l_is)
@@ -303,7 +320,7 @@ reach_taken d uses h =
 
 -- ---- sample
 
-sample_from : (rows : List Row) (n : ℕ) (l : Limits) → number_at 32 (codes "N") rows ≡ Some n → limits_at rows ≡ Some l → request_at (Some (codes "sample", rows)) ≡ Some (record { ask = Sample n; limits = l })
+sample_from : (rows : List Row) (n : ℕ) (l : Limits) → number_at 32 (codes "N") rows ≡ Some n → limits_at rows ≡ Some l → request_at (Some (codes "sample", rows)) ≡ Some (record { source = Made n; ask = Summary; limits = l })
 sample_from rows n l n_is l_is = rw (n_is, l_is)
 
 sample_taken : (d : Text) (uses : List Use) → ArePlain sample d uses → request_of (plain_words sample d uses) ≡ plain_request sample d uses

@@ -1,5 +1,5 @@
 -- Plain words of a command have no fault, and clap finds their values.
-use Rattle.std.proofs.Common.{ap, ap₂, ◌≡◌, ◌∙◌, true, false, List, [], ◌∷◌, ◌++◌, refl, Option, Some, None, append_assoc, fold, is_some, not, ◌||◌, if◌then◌else◌, sym}
+use Rattle.std.proofs.Common.{ap, ap₂, ◌≡◌, ◌∙◌, true, false, List, [], ◌∷◌, ◌++◌, refl, Option, Some, None, fold, is_some, not, ◌||◌, if◌then◌else◌}
 use Rattle.std.specs.List.{list_any}
 use Rattle.clap.specs.Takes.{is_given, value_passes}
 use Rattle.clap.specs.Walk.{Held, Names, Row, Rule, Text, Walk, walked, walk, walk_from, nothing_held, finished, settled, with_default, has_row, is_empty}
@@ -9,6 +9,7 @@ use Rattle.clap.specs.Simple.{Shape, names_of, entered, rows_at}
 use Rattle.clap.specs.Words.{fault_of, subcommand_of}
 use Rattle.rc_words.specs.App.{netcheck_app}
 use Rattle.rc_words.specs.Plain.{CommandName, command_word}
+use Rattle.rc_words.proofs.ByCommand.{stop}
 use Rattle.rc_words.proofs.Commands.{IsCommand, whole, gone, wanted_ids}
 use Rattle.rc_words.proofs.PlainWalk.{IsPlainText, OptionUse, words_of, given, AreUsed, at_rest, walks, walks_well, ends_well, reads_first, first_fault}
 use Rattle.rc_words.proofs.Rules.{AllOf}
@@ -29,15 +30,6 @@ none_missing [] rows h = refl
 none_missing (id ∷ ids) rows h = rw h.0 (none_missing ids rows h.1)
 
 -- ---- the command's name
-
-all_texts : (ts : List Text) → ts ++ [] ≡ ts
-all_texts [] = refl
-all_texts (t ∷ ts) = ap (λ l. t ∷ l) (all_texts ts)
-
-stops : (c : List Rule) (names : Names) (h : Held) (name : Text) (acc ws : List Text) → fold (walked c names) (gone h name acc) ws ≡ gone h name (acc ++ ws)
-unfolding walked
-stops c names h name acc [] = ap (gone h name) (sym (all_texts acc))
-stops c names h name acc (w ∷ ws) = stops c names h name (acc ++ w ∷ []) ws ∙ ap (gone h name) (append_assoc acc (w ∷ []) ws)
 
 stopped_well : (s : Shape) (names : Names) (h : Held) (name : Text) (acc ws : List Text) → walk_fault s names (gone h name acc) ws ≡ []
 unfolding walk_fault walked
@@ -76,9 +68,6 @@ module _ (k : CommandName) (a : Rule) (s : Shape) (f : IsCommand k a s) (d : Tex
       ∙ ap (check_kinds false false) (none_missing (wanted_ids a k) (after s.rules (given [] a d us)) there) in
       ap₂ or_else walk_well (ap₂ or_else end_well (ap₂ or_else (defaults_well s.rules _ f.defaults_pass) check_well))
 
-  stop : (ws : List Text) → walk whole.top.rules (names_of whole) nothing_held (command_word k ∷ ws) ≡ gone nothing_held (command_word k) ws
-  stop ws = ap (λ z. fold (walked whole.top.rules (names_of whole)) z ws) f.enters ∙ stops whole.top.rules (names_of whole) nothing_held (command_word k) [] ws
-
   walks_top : (ws : List Text) → walk_fault whole.top (names_of whole) (walk_from nothing_held) (command_word k ∷ ws) ≡ []
   unfolding walk_fault
   walks_top ws = ap₂ or_else f.enters_well (ap (λ z. walk_fault whole.top (names_of whole) z ws) f.enters ∙ stopped_well whole.top (names_of whole) nothing_held (command_word k) [] ws)
@@ -94,13 +83,13 @@ module _ (k : CommandName) (a : Rule) (s : Shape) (f : IsCommand k a s) (d : Tex
   pub plain_well : (us : List OptionUse) → AreUsed s.rules [] a d us → AllOf (λ id. is_given id (after s.rules (given [] a d us)) ≡ true) (wanted_ids a k)
       → fault_of netcheck_app (command_word k ∷ d ∷ words_of us) ≡ []
   plain_well us u there =
-      ap (λ (z : Walk). fault_at z.held z.stopped (command_word k ∷ d ∷ words_of us)) (stop (d ∷ words_of us))
+      ap (λ (z : Walk). fault_at z.held z.stopped (command_word k ∷ d ∷ words_of us)) (stop k a s f (d ∷ words_of us))
       ∙ top_well (d ∷ words_of us) (level_well us u there)
 
   pub plain_rows : (us : List OptionUse) → AreUsed s.rules [] a d us
       → subcommand_of netcheck_app (command_word k ∷ d ∷ words_of us) ≡ Some (command_word k, after s.rules (given [] a d us))
   plain_rows us u =
       let here : entered whole (Some (command_word k, d ∷ words_of us)) ≡ Some (rows_at s (d ∷ words_of us)) = rw f.found in
-      ap (λ (z : Walk). entered whole z.stopped) (stop (d ∷ words_of us))
+      ap (λ (z : Walk). entered whole z.stopped) (stop k a s f (d ∷ words_of us))
       ∙ here
       ∙ ap₂ (λ (n : Text) (h : Held). Some (n, after s.rules h.rows)) f.name (rows_held us u)

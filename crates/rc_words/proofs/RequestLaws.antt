@@ -3,11 +3,14 @@ use Rattle.std.proofs.Common.{ap, sym, subst, ◌≡◌, ◌≢◌, ◌∙◌, �
 use Rattle.clap.specs.Kinds.{Kinds}
 use Rattle.clap.specs.Words.{Text, fault_of, subcommand_of}
 use Rattle.rc_words.specs.App.{netcheck_app}
+use Rattle.rc_words.specs.Laws.{is_sample}
 use Rattle.rc_words.specs.Plain.{CommandName, command_word}
-use Rattle.rc_words.specs.Request.{without_fault, request_at, request_of, texts_are_read, AreInRange, IsAskInRange}
+use Rattle.rc_words.specs.Request.{without_fault, request_at, request_of, texts_are_read, AreInRange, IsSourceInRange, IsAskInRange, is_made, is_summary}
 use Rattle.rc_words.specs.declared.request.Request.{Request}
-use Rattle.rc_words.proofs.Matched.{told}
+use Rattle.rc_words.proofs.ByCommand.{rows_of_command}
 use Rattle.rc_words.proofs.FirstWord.{first_word}
+use Rattle.rc_words.proofs.Matched.{told}
+use Rattle.rc_words.proofs.Parts.{made_found}
 
 abbrev found : List Text → Option Request
 found words = request_at (subcommand_of netcheck_app words)
@@ -43,7 +46,7 @@ none_only words none = elim (none_there (fault_of netcheck_app words)) [
     go : fault_of netcheck_app words ≡ [] → (b : Bool) → texts_are_read (subcommand_of netcheck_app words) ≡ b → b ≡ false
     go well false e = refl
     go well true e =
-        let (r, is, limits_in, ask_in) = (told words well).read e in
+        let (r, is, limits_in, source_in, ask_in) = (told words well).read e in
         let bad : Some r ≡ None = sym is ∙ sym (when_taken words well) ∙ none in
         absurd (cc)
 
@@ -58,13 +61,26 @@ some_taken words r some = elim (none_there (fault_of netcheck_app words)) [
     go true e = refl
     go false e = let bad : Some r ≡ None = sym some ∙ when_unread words e in absurd (cc)
 
-pub kept_in_range : (words : List Text) (r : Request) → request_of words ≡ Some r → AreInRange r.limits × IsAskInRange r.ask
+pub kept_in_range : (words : List Text) (r : Request) → request_of words ≡ Some r → AreInRange r.limits × IsSourceInRange r.source × IsAskInRange r.ask
 kept_in_range words r some =
     let (well, texts_read) = some_taken words r some in
-    let (q, is, limits_in, ask_in) = (told words well).read texts_read in
+    let (q, is, limits_in, source_in, ask_in) = (told words well).read texts_read in
     let same : Some q ≡ Some r = sym is ∙ sym (when_taken words well) ∙ some in
     let same_request : q ≡ r = cc in
-    subst (λ (x : Request). AreInRange x.limits × IsAskInRange x.ask) same_request (limits_in, ask_in)
+    subst (λ (x : Request). AreInRange x.limits × IsSourceInRange x.source × IsAskInRange x.ask) same_request (limits_in, source_in, ask_in)
 
 pub begins_with_command : (words : List Text) (r : Request) → request_of words ≡ Some r → (k : CommandName) × (rest : List Text) × (words ≡ command_word k ∷ rest)
 begins_with_command words r some = first_word words (some_taken words r some).0
+
+pub made_by_sample : (k : CommandName) (rest : List Text) (r : Request) → request_of (command_word k ∷ rest) ≡ Some r → (is_made r.source ≡ is_sample k) × (is_summary r.ask ≡ is_sample k)
+made_by_sample k rest r some =
+    let (well, texts_read) = some_taken (command_word k ∷ rest) r some in
+    let (rows, found_is) = rows_of_command k rest in
+    made_found k rows r (ap request_at (sym found_is) ∙ sym (when_taken (command_word k ∷ rest) well) ∙ some)
+
+-- a made network is asked for its summary, and a folder's for anything else
+pub made_asked : (words : List Text) (r : Request) → request_of words ≡ Some r → is_made r.source ≡ is_summary r.ask
+made_asked words r some =
+    let (k, rest, is) = begins_with_command words r some in
+    let (made, summary) = made_by_sample k rest r (ap request_of (sym is) ∙ some) in
+    made ∙ sym summary

@@ -1,7 +1,11 @@
 -- The command line as clap is told it, in clap's own words: the usage text as a term.
-use Rattle.std.specs.Prelude.{ℕ, [], ◌∷◌, codes, Some, true}
+use Rattle.std.specs.Prelude.{ℕ, [], ◌∷◌, codes, fold, map, Some, true}
 use Rattle.clap.specs.Words.{App, Rule, Text, new_app, new_rule, with_rule, with_subcommand}
 use Rattle.clap.specs.declared.builder.ValueParser.TheVariants as vp
+use Rattle.rc_base.specs.Fields.{fields, name}
+use Rattle.rc_base.specs.declared.field.Field.{Field}
+use Rattle.rc_base.specs.declared.field.Field.TheVariants.{Dst, Src}
+use Rattle.rc_words.specs.HeaderOptions.{greatest}
 
 -- `--NAME N`: a number from least to most, and what stands for it where it is not given
 abbrev pub number_option : Text → ℕ → ℕ → Text → Rule
@@ -33,18 +37,15 @@ with_limits a = with_rule (with_rule (with_rule a
     (number_option (codes "workers") 1 64 (codes "4")))
     (number_option (codes "nodes") 16 16777216 (codes "1048576"))
 
--- the addresses of a packet's header
-abbrev pub with_addresses : App → App
-with_addresses a = with_rule (with_rule a
-    (wanted_option (codes "dst")))
-    (default_option (codes "src") (codes "0.0.0.0"))
+-- a field of a packet's header: the destination has to be there, and every other one is 0 where it is not given
+abbrev pub field_option : Field → Rule
+field_option Dst = wanted_option (name Dst)
+field_option Src = default_option (name Src) (codes "0.0.0.0")
+field_option f = number_option (name f) 0 (greatest f) (codes "0")
 
--- its protocol and ports
-abbrev pub with_protocol : App → App
-with_protocol a = with_rule (with_rule (with_rule a
-    (number_option (codes "proto") 0 255 (codes "0")))
-    (number_option (codes "sport") 0 65535 (codes "0")))
-    (number_option (codes "dport") 0 65535 (codes "0"))
+-- all its fields
+abbrev pub with_header : App → App
+with_header a = fold with_rule a (map field_option fields)
 
 -- which packets are asked about: those from a place to an ending
 abbrev pub with_reach : App → App
@@ -63,7 +64,7 @@ routes_app = with_limits (with_rule (on_folder (codes "routes")) (text_option (c
 
 -- trace DIR --from PLACE --dst A [--src A] [--proto N] [--sport N] [--dport N]
 abbrev pub trace_app : App
-trace_app = with_limits (with_protocol (with_addresses (with_rule (on_folder (codes "trace")) (wanted_option (codes "from")))))
+trace_app = with_limits (with_header (with_rule (on_folder (codes "trace")) (wanted_option (codes "from"))))
 
 -- reach DIR --from PLACE [--end KIND] [--examples N]
 abbrev pub reach_app : App

@@ -1,3 +1,4 @@
+pub mod HeaderOptions
 pub mod App
 pub mod Arguments
 pub mod Request

@@ -4,11 +4,13 @@ use Rattle.std.specs.List.{list_all, slice_split}
 use Rattle.std.specs.Str.{chars}
 use Rattle.clap.specs.Faults.{defaults_fault, flags_fault, walk_fault}
 use Rattle.clap.specs.Walk.{bundle_met, walked}
+use Rattle.rc_base.specs.Fields.{zeros}
 use Rattle.rc_base.specs.declared.header.Header.{Header}
 use Rattle.rc_words.specs.Request.{request_of}
-use Rattle.rc_words.specs.declared.request.Ask.TheVariants.{Routes, Trace}
+use Rattle.rc_words.specs.declared.request.Ask.TheVariants.{Routes, Trace, Summary}
 use Rattle.rc_words.specs.declared.request.PlaceName.{PlaceName}
 use Rattle.rc_words.specs.declared.request.Request.{Request}
+use Rattle.rc_words.specs.declared.request.Source.TheVariants.{Folder, Made}
 
 -- the request of a line whose words are parted by single blanks (32): two blanks stand around an empty word
 abbrev asked : List ℕ → Option Request
@@ -16,10 +18,10 @@ asked line = request_of (slice_split (λ b. b == 32) line)
 
 -- what asks for the routes of all routers, or of one
 abbrev all_routes : List ℕ → ℕ → ℕ → ℕ → Option Request
-all_routes dir rounds workers nodes = Some (record { ask = Routes dir None; limits = record { rounds = rounds; workers = workers; nodes = nodes } })
+all_routes dir rounds workers nodes = Some (record { source = Folder dir; ask = Routes None; limits = record { rounds = rounds; workers = workers; nodes = nodes } })
 
 abbrev routes_of_one : List ℕ → List ℕ → ℕ → ℕ → ℕ → Option Request
-routes_of_one dir router rounds workers nodes = Some (record { ask = Routes dir (Some router); limits = record { rounds = rounds; workers = workers; nodes = nodes } })
+routes_of_one dir router rounds workers nodes = Some (record { source = Folder dir; ask = Routes (Some router); limits = record { rounds = rounds; workers = workers; nodes = nodes } })
 
 -- a place, and a header by its fields in the order of the option names `dst`, `src`, `proto`, `sport` and `dport`
 abbrev at_router : List ℕ → PlaceName
@@ -29,11 +31,11 @@ abbrev at_interface : List ℕ → List ℕ → PlaceName
 at_interface router interface = record { router = router; interface = Some interface }
 
 abbrev header : ℕ → ℕ → ℕ → ℕ → ℕ → Header
-header dst src proto sport dport = record { dst = dst; src = src; proto = proto; sport = sport; dport = dport }
+header dst src proto sport dport = record zeros { dst = dst; src = src; proto = proto; sport = sport; dport = dport }
 
 -- what asks for a walk of a packet of the folder `d`
 abbrev a_walk : PlaceName → Header → ℕ → ℕ → ℕ → Option Request
-a_walk place header rounds workers nodes = Some (record { ask = Trace (codes "d") place header; limits = record { rounds = rounds; workers = workers; nodes = nodes } })
+a_walk place header rounds workers nodes = Some (record { source = Folder (codes "d"); ask = Trace place header; limits = record { rounds = rounds; workers = workers; nodes = nodes } })
 
 -- ---- routes
 
@@ -173,6 +175,20 @@ fields_with_zeros = refl
 pub a_source_behind_equals : asked (codes "trace d --from R1 --dst 10.0.0.1 --src=0.0.0.7") ≡ a_walk (at_router (codes "R1")) (header 167772161 7 0 0 0) 1000 4 1048576
 unfolding request_of walk_fault flags_fault defaults_fault walked bundle_met chars
 a_source_behind_equals = refl
+
+-- ---- made networks
+
+-- what asks for the summary of a made network
+abbrev made : ℕ → ℕ → ℕ → ℕ → Option Request
+made routers rounds workers nodes = Some (record { source = Made routers; ask = Summary; limits = record { rounds = rounds; workers = workers; nodes = nodes } })
+
+pub least_network : asked (codes "sample 4") ≡ made 4 1000 4 1048576
+unfolding request_of walk_fault flags_fault defaults_fault walked bundle_met chars
+least_network = refl
+
+pub most_network : asked (codes "sample --nodes 16777216 0512") ≡ made 512 1000 4 16777216
+unfolding request_of walk_fault flags_fault defaults_fault walked bundle_met chars
+most_network = refl
 
 -- ---- lines that are refused
 

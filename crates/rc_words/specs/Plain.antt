@@ -1,17 +1,22 @@
 -- Plain words: a command and its DIR (or N), then options, each with its value as the next word. clap plays no part here.
-use Rattle.std.specs.Prelude.{◌≡◌, ℕ, ◌<◌, ◌≤◌, Bool, true, false, ◌==◌, not, if◌then◌else◌, List, [], ◌∷◌, ◌++◌, codes, length, Option, Some, None, option_and_then, option_map}
+use Rattle.std.specs.Prelude.{◌≡◌, ℕ, ◌<◌, ◌≤◌, Bool, true, false, ◌==◌, not, if◌then◌else◌, List, [], ◌∷◌, ◌++◌, codes, length, map, Option, Some, None, option_and_then, option_map}
 use Rattle.std.specs.List.{list_all, list_any}
 use Rattle.std.specs.Option.{option_map_or}
 use Rattle.std.specs.Str.{all_ascii_digits, bytes_eq}
 use Rattle.std.specs.Str.Parse.{digits_value}
-use Rattle.rc_base.specs.declared.header.Header.{Header}
+use Rattle.rc_base.specs.Fields.{fields, name}
+use Rattle.rc_base.specs.declared.field.Field.{Field}
+use Rattle.rc_base.specs.declared.field.Field.TheVariants.{Dst, Src}
 use Rattle.rc_openings.specs.Values.{address_of}
 use Rattle.rc_words.specs.Endings.{endings_of}
+use Rattle.rc_words.specs.HeaderOptions.{greatest, header_of}
 use Rattle.rc_words.specs.Request.{place_of}
 use Rattle.rc_words.specs.declared.request.Ask.{Ask}
-use Rattle.rc_words.specs.declared.request.Ask.TheVariants.{Routes, Trace, Reach, Sample}
+use Rattle.rc_words.specs.declared.request.Ask.TheVariants.{Routes, Trace, Reach, Summary}
 use Rattle.rc_words.specs.declared.request.Limits.{Limits}
 use Rattle.rc_words.specs.declared.request.Request.{Request}
+use Rattle.rc_words.specs.declared.request.Source.{Source}
+use Rattle.rc_words.specs.declared.request.Source.TheVariants.{Folder, Made}
 
 -- ---- commands and options
 
@@ -32,11 +37,7 @@ command_word sample = codes "sample"
 pub data OptionName : Type 0 where
   router : OptionName
   from : OptionName
-  dst : OptionName
-  src : OptionName
-  proto : OptionName
-  sport : OptionName
-  dport : OptionName
+  field : Field → OptionName
   end : OptionName
   examples : OptionName
   rounds : OptionName
@@ -47,11 +48,7 @@ pub data OptionName : Type 0 where
 abbrev pub option_name : OptionName → List ℕ
 option_name router = codes "router"
 option_name from = codes "from"
-option_name dst = codes "dst"
-option_name src = codes "src"
-option_name proto = codes "proto"
-option_name sport = codes "sport"
-option_name dport = codes "dport"
+option_name (field f) = name f
 option_name end = codes "end"
 option_name examples = codes "examples"
 option_name rounds = codes "rounds"
@@ -66,29 +63,33 @@ pub data ValueKind : Type 0 where
   number : ℕ → ℕ → ValueKind
   text : ValueKind
 
+-- an address is a text
+abbrev pub field_kind : Field → ValueKind
+field_kind Dst = text
+field_kind Src = text
+field_kind f = number 0 (greatest f)
+
 abbrev pub kind_of : OptionName → ValueKind
 kind_of router = text
 kind_of from = text
-kind_of dst = text
-kind_of src = text
-kind_of proto = number 0 255
-kind_of sport = number 0 65535
-kind_of dport = number 0 65535
+kind_of (field f) = field_kind f
 kind_of end = text
 kind_of examples = number 0 1000
 kind_of rounds = number 1 100000
 kind_of workers = number 1 64
 kind_of nodes = number 16 16777216
 
+-- what stands for a field that isn't given; the destination has to be
+abbrev pub field_default : Field → Option (List ℕ)
+field_default Dst = None
+field_default Src = Some (codes "0.0.0.0")
+field_default f = Some (codes "0")
+
 -- what stands for an option that isn't given
 abbrev pub default : OptionName → Option (List ℕ)
 default router = None
 default from = None
-default dst = None
-default src = Some (codes "0.0.0.0")
-default proto = Some (codes "0")
-default sport = Some (codes "0")
-default dport = Some (codes "0")
+default (field f) = field_default f
 default end = None
 default examples = Some (codes "0")
 default rounds = Some (codes "1000")
@@ -101,14 +102,14 @@ limit_options = rounds ∷ workers ∷ nodes ∷ []
 
 abbrev pub options_of : CommandName → List OptionName
 options_of routes = router ∷ limit_options
-options_of trace = from ∷ dst ∷ src ∷ proto ∷ sport ∷ dport ∷ limit_options
+options_of trace = from ∷ map field fields ++ limit_options
 options_of reach = from ∷ end ∷ examples ∷ limit_options
 options_of sample = limit_options
 
 -- those that have to be given
 abbrev pub required_of : CommandName → List OptionName
 required_of routes = []
-required_of trace = from ∷ dst ∷ []
+required_of trace = from ∷ field Dst ∷ []
 required_of reach = from ∷ []
 required_of sample = []
 
@@ -182,17 +183,23 @@ number_for o uses = option_map_or (digits_value 10) (text_for o uses) 0
 abbrev pub plain_limits : List Use → Limits
 plain_limits uses = record { rounds = number_for rounds uses; workers = number_for workers uses; nodes = number_for nodes uses }
 
--- the header, where both addresses are read
-abbrev pub plain_header : List Use → Option Header
-plain_header uses = option_and_then (λ to. option_map (λ by. record { dst = to; src = by; proto = number_for proto uses; sport = number_for sport uses; dport = number_for dport uses })
-    (option_and_then address_of (text_for src uses))) (option_and_then address_of (text_for dst uses))
+-- the number of a field: that of its address, where it is read, or else the number that it is given or its default
+abbrev pub plain_field : List Use → Field → Option ℕ
+plain_field uses Dst = option_and_then address_of (text_for (field Dst) uses)
+plain_field uses Src = option_and_then address_of (text_for (field Src) uses)
+plain_field uses f = Some (number_for (field f) uses)
 
-abbrev pub plain_ask : CommandName → List ℕ → List Use → Option Ask
-plain_ask routes dir uses = Some (Routes dir (text_for router uses))
-plain_ask trace dir uses = option_and_then (λ place. option_map (λ header. Trace dir place header) (plain_header uses)) (option_and_then place_of (text_for from uses))
-plain_ask reach dir uses = option_and_then (λ place. option_map (λ ends. Reach dir place ends (number_for examples uses)) (endings_of (text_for end uses))) (option_and_then place_of (text_for from uses))
-plain_ask sample dir uses = Some (Sample (digits_value 10 dir))
+-- the network: that of the folder, or for `sample` a made one of so many routers
+abbrev pub plain_source : CommandName → List ℕ → Source
+plain_source sample dir = Made (digits_value 10 dir)
+plain_source _ dir = Folder dir
+
+abbrev pub plain_ask : CommandName → List Use → Option Ask
+plain_ask routes uses = Some (Routes (text_for router uses))
+plain_ask trace uses = option_and_then (λ place. option_map (λ header. Trace place header) (header_of (plain_field uses))) (option_and_then place_of (text_for from uses))
+plain_ask reach uses = option_and_then (λ place. option_map (λ ends. Reach place ends (number_for examples uses)) (endings_of (text_for end uses))) (option_and_then place_of (text_for from uses))
+plain_ask sample uses = Some Summary
 
 -- what plain words ask for, and nothing where the text of a place, an address or an ending isn't read
 abbrev pub plain_request : CommandName → List ℕ → List Use → Option Request
-plain_request command dir uses = option_map (λ ask. record { ask = ask; limits = plain_limits uses }) (plain_ask command dir uses)
+plain_request command dir uses = option_map (λ ask. record { source = plain_source command dir; ask = ask; limits = plain_limits uses }) (plain_ask command uses)

@@ -1,23 +1,30 @@
 -- The request that the words of a command line make.
-use Rattle.std.specs.Prelude.{ℕ, ◌+◌, ◌≤◌, ◌^◌, ◌==◌, Bool, true, ◌&&◌, nat_lt, if◌then◌else◌, List, [], ◌∷◌, codes, take, drop, Option, Some, None, is_some, option_and_then, option_map}
+use Rattle.std.specs.Prelude.{ℕ, ◌+◌, ◌≤◌, ◌^◌, ◌==◌, Bool, true, false, ◌&&◌, nat_lt, if◌then◌else◌, List, [], ◌∷◌, codes, take, drop, Option, Some, None, is_some, option_and_then, option_map}
 use Rattle.std.specs.Option.{option_map_or}
 use Rattle.std.specs.List.{position}
 use Rattle.std.specs.Str.{bytes_eq}
 use Rattle.std.specs.Str.Parse.{digits_value, without_leading_plus}
 use Rattle.clap.specs.ValueTests.{is_numeral}
 use Rattle.clap.specs.Words.{Kinds, Row, Text, fault_of, subcommand_of, first_of, one_of}
+use Rattle.rc_base.specs.Fields.{name}
+use Rattle.rc_base.specs.Header.{IsHeader}
 use Rattle.rc_base.specs.Name.{name_of}
+use Rattle.rc_base.specs.declared.field.Field.{Field}
+use Rattle.rc_base.specs.declared.field.Field.TheVariants.{Dst, Src}
 use Rattle.rc_base.specs.declared.header.Header.{Header}
-use Rattle.rc_openings.specs.Values.{address_of}
+use Rattle.rc_openings.specs.Values.{address_of, at_most}
 use Rattle.rc_base.specs.declared.ending.Ends.{Ends}
 use Rattle.rc_words.specs.App.{netcheck_app}
 use Rattle.rc_base.specs.Endings.{kind_named}
 use Rattle.rc_words.specs.Endings.{endings_of}
+use Rattle.rc_words.specs.HeaderOptions.{greatest, header_of}
 use Rattle.rc_words.specs.declared.request.Ask.{Ask}
-use Rattle.rc_words.specs.declared.request.Ask.TheVariants.{Routes, Trace, Reach, Sample}
+use Rattle.rc_words.specs.declared.request.Ask.TheVariants.{Routes, Trace, Reach, Summary}
 use Rattle.rc_words.specs.declared.request.Limits.{Limits}
 use Rattle.rc_words.specs.declared.request.PlaceName.{PlaceName}
 use Rattle.rc_words.specs.declared.request.Request.{Request}
+use Rattle.rc_words.specs.declared.request.Source.{Source}
+use Rattle.rc_words.specs.declared.request.Source.TheVariants.{Folder, Made}
 
 -- ---- texts
 
@@ -53,45 +60,45 @@ abbrev pub limits_at : List Row → Option Limits
 limits_at rows = option_and_then (λ rounds. option_and_then (λ workers. option_map (λ nodes. record { rounds = rounds; workers = workers; nodes = nodes })
     (number_at 32 (codes "nodes") rows)) (number_at 32 (codes "workers") rows)) (number_at 32 (codes "rounds") rows)
 
-abbrev pub header_at : List Row → Option Header
-header_at rows = option_and_then (λ dst. option_and_then (λ src. option_and_then (λ proto. option_and_then (λ sport. option_map (λ dport.
-    record { dst = dst; src = src; proto = proto; sport = sport; dport = dport })
-    (number_at 16 (codes "dport") rows)) (number_at 16 (codes "sport") rows)) (number_at 8 (codes "proto") rows))
-    (address_at (codes "src") rows)) (address_at (codes "dst") rows)
+-- the number of a header's field: that of an address, and else one that isn't above the field's greatest
+abbrev pub field_at : List Row → Field → Option ℕ
+field_at rows Dst = address_at (name Dst) rows
+field_at rows Src = address_at (name Src) rows
+field_at rows f = at_most (greatest f) (number_at 32 (name f) rows)
 
--- what is asked by `routes`
-abbrev pub routes_at : List Row → Option Ask
-routes_at rows = option_map (λ dir. Routes dir (first_of (codes "router") rows)) (first_of (codes "DIR") rows)
+abbrev pub header_at : List Row → Option Header
+header_at rows = header_of (field_at rows)
+
+-- the network that is asked about: `sample` makes one of N routers, and every other command reads the folder DIR
+abbrev pub source_at : Text → List Row → Option Source
+source_at name rows = if bytes_eq name (codes "sample") then option_map Made (number_at 32 (codes "N") rows) else option_map Folder (first_of (codes "DIR") rows)
 
 -- what is asked by `trace`
 abbrev pub trace_at : List Row → Option Ask
-trace_at rows = option_and_then (λ dir. option_and_then (λ place. option_map (λ header. Trace dir place header) (header_at rows)) (place_at (codes "from") rows)) (first_of (codes "DIR") rows)
+trace_at rows = option_and_then (λ place. option_map (λ header. Trace place header) (header_at rows)) (place_at (codes "from") rows)
 
 abbrev pub ends_at : List Row → Option Ends
 ends_at rows = endings_of (first_of (codes "end") rows)
 
 -- what is asked by `reach`
 abbrev pub reach_at : List Row → Option Ask
-reach_at rows = option_and_then (λ dir. option_and_then (λ place. option_and_then (λ ends. option_map (λ examples. Reach dir place ends examples)
-    (number_at 32 (codes "examples") rows)) (ends_at rows)) (place_at (codes "from") rows)) (first_of (codes "DIR") rows)
-
--- what is asked by `sample`
-abbrev pub sample_at : List Row → Option Ask
-sample_at rows = option_map Sample (number_at 32 (codes "N") rows)
+reach_at rows = option_and_then (λ place. option_and_then (λ ends. option_map (λ examples. Reach place ends examples)
+    (number_at 32 (codes "examples") rows)) (ends_at rows)) (place_at (codes "from") rows)
 
 -- what is asked by the command of this name
 abbrev pub ask_at : Text → List Row → Option Ask
 ask_at name rows =
-    if bytes_eq name (codes "routes") then routes_at rows
+    if bytes_eq name (codes "routes") then Some (Routes (first_of (codes "router") rows))
     else if bytes_eq name (codes "trace") then trace_at rows
     else if bytes_eq name (codes "reach") then reach_at rows
-    else if bytes_eq name (codes "sample") then sample_at rows
+    else if bytes_eq name (codes "sample") then Some Summary
     else None
 
 -- the request of a command's name and what clap found for it
 abbrev pub request_at : Option (Text × List Row) → Option Request
 request_at None = None
-request_at (Some (name, rows)) = option_and_then (λ ask. option_map (λ limits. record { ask = ask; limits = limits }) (limits_at rows)) (ask_at name rows)
+request_at (Some (name, rows)) = option_and_then (λ source. option_and_then (λ ask. option_map (λ limits. record { source = source; ask = ask; limits = limits })
+    (limits_at rows)) (ask_at name rows)) (source_at name rows)
 
 -- what was found, where nothing is wrong
 abbrev pub without_fault : Kinds → Option Request → Option Request
@@ -123,15 +130,24 @@ pub record AreInRange (limits : Limits) : Type 0 where
   pub least_nodes : 16 ≤ limits.nodes
   pub most_nodes : limits.nodes ≤ 16777216
 
--- so are the numbers of a header
-pub record IsHeaderInRange (header : Header) : Type 0 where
-  pub most_proto : header.proto ≤ 255
-  pub most_sport : header.sport ≤ 65535
-  pub most_dport : header.dport ≤ 65535
+-- the number of routers of a made network is in its range
+abbrev pub IsSourceInRange : Source → Type 0
+IsSourceInRange (Folder dir) = Unit {0}
+IsSourceInRange (Made routers) = (4 ≤ routers) × (routers ≤ 512)
 
--- the numbers of what is asked are in their options' ranges
+-- the numbers of what is asked are in their options' ranges, and a header's fit their bits
 abbrev pub IsAskInRange : Ask → Type 0
-IsAskInRange (Routes dir router) = Unit {0}
-IsAskInRange (Trace dir place header) = IsHeaderInRange header
-IsAskInRange (Reach dir place ends examples) = examples ≤ 1000
-IsAskInRange (Sample routers) = (4 ≤ routers) × (routers ≤ 512)
+IsAskInRange (Routes router) = Unit {0}
+IsAskInRange (Trace place header) = IsHeader header
+IsAskInRange (Reach place ends examples) = examples ≤ 1000
+IsAskInRange Summary = Unit {0}
+
+-- whether the network is a made one
+abbrev pub is_made : Source → Bool
+is_made (Folder dir) = false
+is_made (Made routers) = true
+
+-- whether it is what `sample` asks
+abbrev pub is_summary : Ask → Bool
+is_summary Summary = true
+is_summary _ = false

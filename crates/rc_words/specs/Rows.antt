@@ -1,10 +1,13 @@
 -- Numbers, places and plain words worked out by hand.
-use Rattle.std.specs.Prelude.{◌≡◌, refl, true, false, List, [], ◌∷◌, codes, Some, None}
+use Rattle.std.specs.Prelude.{◌≡◌, refl, true, false, List, [], ◌∷◌, ◌++◌, codes, map, Some, None}
 use Rattle.std.specs.List.{list_all}
 use Rattle.std.proofs.Common.{lit<, lit≤}
-use Rattle.rc_words.specs.Plain.{routes, trace, router, from, dst, src, proto, sport, dport, rounds, workers, nodes, kind_of, required_of, has_option, options_of, Use, is_given, is_plain_text, IsPlainValue, ArePlain, plain_words, plain_request}
+use Rattle.rc_base.specs.Fields.{fields, zeros}
+use Rattle.rc_base.specs.declared.field.Field.TheVariants.{Dst, Src, Proto, Sport, Dport}
+use Rattle.rc_words.specs.Plain.{routes, trace, router, from, field, rounds, workers, nodes, kind_of, required_of, has_option, options_of, Use, is_given, is_plain_text, IsPlainValue, ArePlain, plain_words, plain_request}
 use Rattle.rc_words.specs.Request.{number_read, place_of}
 use Rattle.rc_words.specs.declared.request.Ask.TheVariants.{Routes, Trace}
+use Rattle.rc_words.specs.declared.request.Source.TheVariants.{Folder}
 
 -- ---- numbers
 
@@ -73,13 +76,13 @@ whole_routes = record {
 }
 
 -- the greatest numbers are plain, and the least ones
-pub protocols : IsPlainValue (kind_of proto) (codes "0") × IsPlainValue (kind_of proto) (codes "255")
+pub protocols : IsPlainValue (kind_of (field Proto)) (codes "0") × IsPlainValue (kind_of (field Proto)) (codes "255")
 protocols = (record { some = lit< tt; digits = refl; least = lit≤ tt; most = lit≤ tt }, record { some = lit< tt; digits = refl; least = lit≤ tt; most = lit≤ tt })
 
-pub sports : IsPlainValue (kind_of sport) (codes "0") × IsPlainValue (kind_of sport) (codes "65535")
+pub sports : IsPlainValue (kind_of (field Sport)) (codes "0") × IsPlainValue (kind_of (field Sport)) (codes "65535")
 sports = (record { some = lit< tt; digits = refl; least = lit≤ tt; most = lit≤ tt }, record { some = lit< tt; digits = refl; least = lit≤ tt; most = lit≤ tt })
 
-pub dports : IsPlainValue (kind_of dport) (codes "0") × IsPlainValue (kind_of dport) (codes "0065535")
+pub dports : IsPlainValue (kind_of (field Dport)) (codes "0") × IsPlainValue (kind_of (field Dport)) (codes "0065535")
 dports = (record { some = lit< tt; digits = refl; least = lit≤ tt; most = lit≤ tt }, record { some = lit< tt; digits = refl; least = lit≤ tt; most = lit≤ tt })
 
 pub most_rounds : IsPlainValue (kind_of rounds) (codes "100000")
@@ -93,12 +96,12 @@ most_nodes = record { some = lit< tt; digits = refl; least = lit≤ tt; most = l
 
 -- a trace with its source
 abbrev trace_uses : List Use
-trace_uses = record { option = src; value = codes "0.0.1.0" } ∷ record { option = dst; value = codes "0.0.0.9" } ∷ record { option = from; value = codes "R1:e0" } ∷ []
+trace_uses = record { option = field Src; value = codes "0.0.1.0" } ∷ record { option = field Dst; value = codes "0.0.0.9" } ∷ record { option = from; value = codes "R1:e0" } ∷ []
 
 pub some_trace : ArePlain trace (codes "d") trace_uses
 some_trace = record { argument = refl; options = (refl, refl, refl, (refl, refl, refl, (refl, refl, refl, tt))); required = refl }
 
-pub numbers_of_trace : list_all (λ o. has_option o (options_of trace)) (proto ∷ sport ∷ dport ∷ rounds ∷ workers ∷ nodes ∷ []) ≡ true
+pub numbers_of_trace : list_all (λ o. has_option o (options_of trace)) (map field fields ++ rounds ∷ workers ∷ nodes ∷ []) ≡ true
 numbers_of_trace = refl
 
 pub other_command : has_option from (options_of routes) ≡ false
@@ -107,7 +110,7 @@ other_command = refl
 pub no_router_in_trace : has_option router (options_of trace) ≡ false
 no_router_in_trace = refl
 
-pub from_wanted : list_all (λ o. is_given o (record { option = dst; value = codes "0.0.0.9" } ∷ [])) (required_of trace) ≡ false
+pub from_wanted : list_all (λ o. is_given o (record { option = field Dst; value = codes "0.0.0.9" } ∷ [])) (required_of trace) ≡ false
 from_wanted = refl
 
 pub dst_wanted : list_all (λ o. is_given o (record { option = from; value = codes "R1" } ∷ [])) (required_of trace) ≡ false
@@ -121,7 +124,7 @@ something = refl
 
 -- ---- what plain words ask for
 
-pub only_dir : plain_request routes (codes "d") [] ≡ Some (record { ask = Routes (codes "d") None; limits = record { rounds = 1000; workers = 4; nodes = 1048576 } })
+pub only_dir : plain_request routes (codes "d") [] ≡ Some (record { source = Folder (codes "d"); ask = Routes None; limits = record { rounds = 1000; workers = 4; nodes = 1048576 } })
 only_dir = refl
 
 pub two_options : plain_words routes (codes "d") (record { option = workers; value = codes "64" } ∷ record { option = rounds; value = codes "007" } ∷ [])
@@ -129,37 +132,39 @@ pub two_options : plain_words routes (codes "d") (record { option = workers; val
 two_options = refl
 
 pub their_numbers : plain_request routes (codes "d") (record { option = workers; value = codes "64" } ∷ record { option = rounds; value = codes "007" } ∷ [])
-    ≡ Some (record { ask = Routes (codes "d") None; limits = record { rounds = 7; workers = 64; nodes = 1048576 } })
+    ≡ Some (record { source = Folder (codes "d"); ask = Routes None; limits = record { rounds = 7; workers = 64; nodes = 1048576 } })
 their_numbers = refl
 
 pub one_router : plain_request routes (codes "../d") (record { option = router; value = codes "R 1" } ∷ record { option = nodes; value = codes "16" } ∷ [])
-    ≡ Some (record { ask = Routes (codes "../d") (Some (codes "R 1")); limits = record { rounds = 1000; workers = 4; nodes = 16 } })
+    ≡ Some (record { source = Folder (codes "../d"); ask = Routes (Some (codes "R 1")); limits = record { rounds = 1000; workers = 4; nodes = 16 } })
 one_router = refl
 
-pub least_trace : plain_request trace (codes "d") (record { option = dst; value = codes "10.0.0.1" } ∷ record { option = from; value = codes "R1" } ∷ [])
+pub least_trace : plain_request trace (codes "d") (record { option = field Dst; value = codes "10.0.0.1" } ∷ record { option = from; value = codes "R1" } ∷ [])
     ≡ Some (record {
-      ask = Trace (codes "d") (record { router = codes "R1"; interface = None }) (record { dst = 167772161; src = 0; proto = 0; sport = 0; dport = 0 });
+      source = Folder (codes "d");
+      ask = Trace (record { router = codes "R1"; interface = None }) (record zeros { dst = 167772161 });
       limits = record { rounds = 1000; workers = 4; nodes = 1048576 };
     })
 least_trace = refl
 
-pub its_words : plain_words trace (codes "d") (record { option = dst; value = codes "10.0.0.1" } ∷ record { option = from; value = codes "R1" } ∷ [])
+pub its_words : plain_words trace (codes "d") (record { option = field Dst; value = codes "10.0.0.1" } ∷ record { option = from; value = codes "R1" } ∷ [])
     ≡ codes "trace" ∷ codes "d" ∷ codes "--dst" ∷ codes "10.0.0.1" ∷ codes "--from" ∷ codes "R1" ∷ []
 its_words = refl
 
-pub whole_header : plain_request trace (codes "d") (record { option = from; value = codes "R1:e0" } ∷ record { option = src; value = codes "0.0.1.0" } ∷ record { option = dport; value = codes "80" }
-    ∷ record { option = dst; value = codes "0.0.0.9" } ∷ record { option = proto; value = codes "6" } ∷ record { option = sport; value = codes "65535" } ∷ [])
+pub whole_header : plain_request trace (codes "d") (record { option = from; value = codes "R1:e0" } ∷ record { option = field Src; value = codes "0.0.1.0" } ∷ record { option = field Dport; value = codes "80" }
+    ∷ record { option = field Dst; value = codes "0.0.0.9" } ∷ record { option = field Proto; value = codes "6" } ∷ record { option = field Sport; value = codes "65535" } ∷ [])
     ≡ Some (record {
-      ask = Trace (codes "d") (record { router = codes "R1"; interface = Some (codes "e0") }) (record { dst = 9; src = 256; proto = 6; sport = 65535; dport = 80 });
+      source = Folder (codes "d");
+      ask = Trace (record { router = codes "R1"; interface = Some (codes "e0") }) (record zeros { dst = 9; src = 256; proto = 6; sport = 65535; dport = 80 });
       limits = record { rounds = 1000; workers = 4; nodes = 1048576 };
     })
 whole_header = refl
 
-pub unread_place : plain_request trace (codes "d") (record { option = dst; value = codes "10.0.0.1" } ∷ record { option = from; value = codes "R1:" } ∷ []) ≡ None
+pub unread_place : plain_request trace (codes "d") (record { option = field Dst; value = codes "10.0.0.1" } ∷ record { option = from; value = codes "R1:" } ∷ []) ≡ None
 unread_place = refl
 
-pub unread_address : plain_request trace (codes "d") (record { option = dst; value = codes "10.0.0" } ∷ record { option = from; value = codes "R1" } ∷ []) ≡ None
+pub unread_address : plain_request trace (codes "d") (record { option = field Dst; value = codes "10.0.0" } ∷ record { option = from; value = codes "R1" } ∷ []) ≡ None
 unread_address = refl
 
-pub unread_source : plain_request trace (codes "d") (record { option = dst; value = codes "10.0.0.1" } ∷ record { option = from; value = codes "R1" } ∷ record { option = src; value = codes "me" } ∷ []) ≡ None
+pub unread_source : plain_request trace (codes "d") (record { option = field Dst; value = codes "10.0.0.1" } ∷ record { option = from; value = codes "R1" } ∷ record { option = field Src; value = codes "me" } ∷ []) ≡ None
 unread_source = refl

@@ -3,12 +3,15 @@
 //! Each command is a list of arguments, and one loop tells clap of them. A step takes what the one before it gave, want of
 //! memory too, so no function above the loop and the joining of two commands has a way on of its own.
 ghost use Rattle.std.specs.Prelude.{◌≡◌, false, codes, fold, map, IfOk};
+ghost use Rattle.rc_base.specs.Fields.{name};
 ghost use Rattle.clap.specs.Words.{App, rule_of, new_app, with_rule, with_subcommand};
 ghost use Rattle.rc_words.specs.App.{number_option, text_option, wanted_option, default_option, dir_argument, count_argument, routes_app, trace_app, reach_app, sample_app, with_settings, netcheck_app};
 ghost use Rattle.rc_words.specs.Arguments.{IsTold, rule_told};
+ghost use Rattle.rc_words.specs.HeaderOptions.{greatest};
 
 use clap::builder::ValueParser;
 use clap::{Arg, Command};
+use rc_base::Field;
 use std::alloc::{AllocError, Global};
 
 fn limit_option<'a>(
@@ -46,6 +49,30 @@ fn source_option<'a>(alloc: Global) -> Arg<'a>
     ensures local { result.global ≡ false }
 {
     Arg::new(alloc, "src").long("src").default_value("0.0.0.0")
+}
+
+/// The word of a field's option.
+pub(crate) fn word_of(field: Field) -> &'static str
+    ensures { result.now ≡ name field }
+{
+    match field {
+        Field::Dst => "dst",
+        Field::Src => "src",
+        Field::Proto => "proto",
+        Field::Sport => "sport",
+        Field::Dport => "dport",
+    }
+}
+
+/// The greatest number of a field.
+pub(crate) fn greatest_of(field: Field) -> u64
+    ensures { result ≡ greatest field }
+{
+    match field {
+        Field::Dst | Field::Src => 0xffff_ffff,
+        Field::Proto => 0xff,
+        Field::Sport | Field::Dport => 0xffff,
+    }
 }
 
 fn folder_argument<'a>(alloc: Global) -> Arg<'a>

@@ -1,5 +1,5 @@
 //! Laws of the request that words make.
-ghost use Rattle.rc_words.specs.Laws.{RefusesAsClap, BeginsWithCommand, KeepsRanges, TakesPlainWords};
+ghost use Rattle.rc_words.specs.Laws.{RefusesAsClap, BeginsWithCommand, MakesBySample, KeepsRanges, TakesPlainWords};
 
 /// Words make no request exactly where clap finds a fault in them, or the text of a place, an
 /// address or an ending that it finds isn't read.
@@ -10,6 +10,11 @@ pub fn refused_as_by_clap()
 /// Words that make a request begin with the name of a command.
 pub fn first_word_is_a_command()
     ensures { BeginsWithCommand }
+{}
+
+/// `sample` alone makes a network, and it alone asks for the summary.
+pub fn made_by_sample()
+    ensures { MakesBySample }
 {}
 
 /// Every number of a request is in its option's range.

@@ -14,7 +14,8 @@ mod request;
 
 pub use endings::arrivals;
 pub use laws::{
-    first_word_is_a_command, numbers_are_in_range, plain_words_are_taken, refused_as_by_clap,
+    first_word_is_a_command, made_by_sample, numbers_are_in_range, plain_words_are_taken,
+    refused_as_by_clap,
 };
 pub use reading::request_of_words;
-pub use request::{Ask, Limits, PlaceName, Request, WordText, WordsFault};
+pub use request::{Ask, Limits, PlaceName, Request, Source, WordText, WordsFault};

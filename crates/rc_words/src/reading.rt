@@ -1,17 +1,19 @@
 //! The request that words make.
-ghost use Rattle.std.specs.Prelude.{◌≡◌, ◌≢◌, ◌↔◌, ◌<◌, ◌==◌, [], length, map, codes, Some, None, Err, IfOk, IfSome, option_map};
+ghost use Rattle.std.specs.Prelude.{◌≡◌, ◌≢◌, ◌<◌, ◌≤◌, ◌^◌, ◌==◌, [], length, map, Some, None, Err, IfOk, IfSome, option_map};
 ghost use Rattle.std.specs.List.{position};
 ghost use Rattle.clap.specs.Words.{fault_of, kind_of, subcommand_of, subcommand_rows_of, found_of, rows_of, first_of};
+ghost use Rattle.rc_base.specs.Fields.{width};
+ghost use Rattle.rc_openings.specs.Values.{at_most};
 ghost use Rattle.rc_words.specs.App.{netcheck_app};
 ghost use Rattle.rc_words.specs.Faults.{fault_by};
-ghost use Rattle.rc_words.specs.Request.{place_cut, place_of, number_at, address_at, place_at, limits_at, header_at, ends_at, routes_at, trace_at, reach_at, sample_at, ask_at, request_at, request_of, AreInRange, IsAskInRange};
+ghost use Rattle.rc_words.specs.Request.{place_cut, place_of, number_at, address_at, place_at, limits_at, field_at, header_at, ends_at, trace_at, reach_at, source_at, ask_at, request_at, request_of, AreInRange, IsSourceInRange, IsAskInRange, is_made, is_summary};
 
-use crate::app::netcheck_command;
+use crate::app::{greatest_of, netcheck_command, word_of};
 use crate::endings::endings_in;
-use crate::request::{Ask, Limits, PlaceName, Request, WordText, WordsFault};
+use crate::request::{Ask, Limits, PlaceName, Request, Source, WordText, WordsFault};
 use clap::error::ErrorKind;
 use clap::{ArgMatches, Error};
-use rc_base::{Addr, Ends, Header, Name};
+use rc_base::{Addr, Ends, Field, Header, Name};
 use rc_openings::word_addr;
 use std::alloc::Global;
 
@@ -19,18 +21,6 @@ fn number_given(found: &ArgMatches, name: &str) -> Option<u32>
     ensures { result ≡ number_at 32 name.now (rows_of (found_of found.now)) }
 {
     found.get_one::<u32>(name)
-}
-
-fn port_given(found: &ArgMatches, name: &str) -> Option<u16>
-    ensures { result ≡ number_at 16 name.now (rows_of (found_of found.now)) }
-{
-    found.get_one::<u16>(name)
-}
-
-fn proto_given(found: &ArgMatches) -> Option<u8>
-    ensures { result ≡ number_at 8 (codes "proto") (rows_of (found_of found.now)) }
-{
-    found.get_one::<u8>("proto")
 }
 
 fn text_given<'a>(found: &ArgMatches<'a>, name: &str) -> Option<&'a str>
@@ -45,6 +35,30 @@ fn addr_given(found: &ArgMatches, name: &str) -> Option<Addr>
     match text_given(found, name) {
         Some(text) => word_addr(text.as_bytes()),
         None => None,
+    }
+}
+
+// The number of an option, where it isn't above the greatest.
+fn number_up_to(found: &ArgMatches, name: &str, greatest: u64) -> Option<u32>
+    ensures number { result ≡ at_most greatest (number_at 32 name.now (rows_of (found_of found.now))) }
+    ensures most { IfSome result (λ n. n ≤ greatest) }
+{
+    let number = number_given(found, name)?;
+    if u64::from(number) <= greatest {
+        Some(number)
+    } else {
+        None
+    }
+}
+
+// The number of a field of the header.
+fn field_given(found: &ArgMatches, field: Field) -> Option<u32>
+    ensures number { result ≡ field_at (rows_of (found_of found.now)) field }
+    ensures small { IfSome result (λ n. n < 2 ^ width field) }
+{
+    match field {
+        Field::Dst | Field::Src => Some(addr_given(found, word_of(field))?.bits()),
+        _ => number_up_to(found, word_of(field), greatest_of(field)),
     }
 }
 
@@ -119,18 +133,12 @@ fn limits_given(found: &ArgMatches) -> Option<Limits>
 fn header_given(found: &ArgMatches) -> Option<Header>
     ensures { result ≡ header_at (rows_of (found_of found.now)) }
 {
-    let dst = addr_given(found, "dst")?;
-    let src = addr_given(found, "src")?;
-    let proto = proto_given(found)?;
-    let sport = port_given(found, "sport")?;
-    let dport = port_given(found, "dport")?;
-    Some(Header {
-        dst,
-        src,
-        proto,
-        sport,
-        dport,
-    })
+    let mut header = Header::zeros();
+    for field in Field::all() {
+        let number = field_given(found, *field)?;
+        header = field.with(number, &header);
+    }
+    Some(header)
 }
 
 fn kept(alloc: Global, text: &str) -> Result<WordText, WordsFault>
@@ -157,92 +165,70 @@ fn text_kept(alloc: Global, found: &ArgMatches, name: &str) -> Result<Option<Wor
     }
 }
 
-fn routes_given(alloc: Global, found: &ArgMatches) -> Result<Ask, WordsFault>
-    ensures taken { IfOk result (λ ask. routes_at (rows_of (found_of found.now)) ≡ Some ask) }
-    ensures usage { (result ≡ Err WordsFault.Usage) ↔ (routes_at (rows_of (found_of found.now)) ≡ None) }
+// The network that the command of this name is about.
+fn source_given(alloc: Global, name: &str, found: &ArgMatches) -> Result<Source, WordsFault>
+    ensures taken { IfOk result (λ source. source_at name.now (rows_of (found_of found.now)) ≡ Some source) }
+    ensures usage { result ≡ Err WordsFault.Usage → source_at name.now (rows_of (found_of found.now)) ≡ None }
 {
+    if name == "sample" {
+        let Some(routers) = number_given(found, "N") else {
+            return Err(WordsFault::Usage);
+        };
+        return Ok(Source::Made(routers));
+    }
     let Some(dir) = text_given(found, "DIR") else {
         return Err(WordsFault::Usage);
     };
-    let router = text_kept(alloc, found, "router")?;
     let dir = kept(alloc, dir)?;
-    Ok(Ask::Routes { dir, router })
+    Ok(Source::Folder(dir))
 }
 
-fn trace_given(alloc: Global, found: &ArgMatches) -> Result<Ask, WordsFault>
-    ensures taken { IfOk result (λ ask. trace_at (rows_of (found_of found.now)) ≡ Some ask) }
-    ensures usage { (result ≡ Err WordsFault.Usage) ↔ (trace_at (rows_of (found_of found.now)) ≡ None) }
+fn trace_given(found: &ArgMatches) -> Option<Ask>
+    ensures { result ≡ trace_at (rows_of (found_of found.now)) }
 {
-    let Some(dir) = text_given(found, "DIR") else {
-        return Err(WordsFault::Usage);
-    };
-    let Some(place) = place_given(found, "from") else {
-        return Err(WordsFault::Usage);
-    };
-    let Some(header) = header_given(found) else {
-        return Err(WordsFault::Usage);
-    };
-    let dir = kept(alloc, dir)?;
-    Ok(Ask::Trace { dir, place, header })
+    let place = place_given(found, "from")?;
+    let header = header_given(found)?;
+    Some(Ask::Trace { place, header })
 }
 
-fn reach_given(alloc: Global, found: &ArgMatches) -> Result<Ask, WordsFault>
-    ensures taken { IfOk result (λ ask. reach_at (rows_of (found_of found.now)) ≡ Some ask) }
-    ensures usage { (result ≡ Err WordsFault.Usage) ↔ (reach_at (rows_of (found_of found.now)) ≡ None) }
+fn reach_given(found: &ArgMatches) -> Option<Ask>
+    ensures { result ≡ reach_at (rows_of (found_of found.now)) }
 {
-    let Some(dir) = text_given(found, "DIR") else {
-        return Err(WordsFault::Usage);
-    };
-    let Some(place) = place_given(found, "from") else {
-        return Err(WordsFault::Usage);
-    };
-    let Some(ends) = ends_given(found) else {
-        return Err(WordsFault::Usage);
-    };
-    let Some(examples) = number_given(found, "examples") else {
-        return Err(WordsFault::Usage);
-    };
-    let dir = kept(alloc, dir)?;
-    Ok(Ask::Reach {
-        dir,
+    let place = place_given(found, "from")?;
+    let ends = ends_given(found)?;
+    let examples = number_given(found, "examples")?;
+    Some(Ask::Reach {
         place,
         ends,
         examples,
     })
 }
 
-fn sample_given(found: &ArgMatches) -> Result<Ask, WordsFault>
-    ensures taken { IfOk result (λ ask. sample_at (rows_of (found_of found.now)) ≡ Some ask) }
-    ensures usage { (result ≡ Err WordsFault.Usage) ↔ (sample_at (rows_of (found_of found.now)) ≡ None) }
-{
-    let Some(routers) = number_given(found, "N") else {
-        return Err(WordsFault::Usage);
-    };
-    Ok(Ask::Sample { routers })
-}
-
 // What the command of this name asks.
 fn ask_given(alloc: Global, name: &str, found: &ArgMatches) -> Result<Ask, WordsFault>
     ensures taken { IfOk result (λ ask. ask_at name.now (rows_of (found_of found.now)) ≡ Some ask) }
-    ensures usage { (result ≡ Err WordsFault.Usage) ↔ (ask_at name.now (rows_of (found_of found.now)) ≡ None) }
+    ensures usage { result ≡ Err WordsFault.Usage → ask_at name.now (rows_of (found_of found.now)) ≡ None }
 {
     if name == "routes" {
-        routes_given(alloc, found)
-    } else if name == "trace" {
-        trace_given(alloc, found)
-    } else if name == "reach" {
-        reach_given(alloc, found)
-    } else if name == "sample" {
-        sample_given(found)
-    } else {
-        Err(WordsFault::Usage)
+        let router = text_kept(alloc, found, "router")?;
+        return Ok(Ask::Routes { router });
     }
+    let asked = if name == "trace" {
+        trace_given(found)
+    } else if name == "reach" {
+        reach_given(found)
+    } else if name == "sample" {
+        Some(Ask::Summary)
+    } else {
+        None
+    };
+    asked.ok_or(WordsFault::Usage)
 }
 
 // The request of what clap found: the command's name decides how its matches are read.
 fn request_given(alloc: Global, matches: &ArgMatches) -> Result<Request, WordsFault>
     ensures taken { IfOk result (λ r. request_at (subcommand_rows_of matches.now) ≡ Some r) }
-    ensures usage { (result ≡ Err WordsFault.Usage) ↔ (request_at (subcommand_rows_of matches.now) ≡ None) }
+    ensures usage { result ≡ Err WordsFault.Usage → request_at (subcommand_rows_of matches.now) ≡ None }
 {
     let Some((name, found)) = matches.subcommand() else {
         return Err(WordsFault::Usage);
@@ -250,8 +236,13 @@ fn request_given(alloc: Global, matches: &ArgMatches) -> Result<Request, WordsFa
     let Some(limits) = limits_given(found) else {
         return Err(WordsFault::Usage);
     };
+    let source = source_given(alloc, name, found)?;
     let ask = ask_given(alloc, name, found)?;
-    Ok(Request { ask, limits })
+    Ok(Request {
+        source,
+        ask,
+        limits,
+    })
 }
 
 // Why clap gave no matches.
@@ -281,12 +272,15 @@ fn matches_of_words<'a>(alloc: Global, words: &'a [&'a str]) -> Result<ArgMatche
 
 /// The request that the words after the program's name make.
 ///
-/// It errs with `Usage` where they make none, and with `Memory` where memory was short.
+/// It errs with `Usage` where they make none, and with `Memory` where memory was short. A made network is asked for its
+/// summary, and a folder's for anything else.
 pub fn request_of_words(alloc: Global, words: &[&str]) -> Result<Request, WordsFault>
     ensures taken { IfOk result (λ r. request_of (map (λ w. w.now) words.now) ≡ Some r) }
     ensures usage { result ≡ Err WordsFault.Usage → request_of (map (λ w. w.now) words.now) ≡ None }
     ensures in_range { IfOk result (λ r. AreInRange r.limits) }
+    ensures source { IfOk result (λ r. IsSourceInRange r.source) }
     ensures ask { IfOk result (λ r. IsAskInRange r.ask) }
+    ensures made { IfOk result (λ r. is_made r.source ≡ is_summary r.ask) }
 {
     match matches_of_words(alloc, words) {
         Ok(matches) => request_given(alloc, &matches),

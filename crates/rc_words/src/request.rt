@@ -57,29 +57,32 @@ pub struct Limits {
     pub nodes: u32,
 }
 
-/// What is to be answered.
+/// Where the network that is asked about comes from.
+#[derive(Drop)]
+pub enum Source {
+    /// The configurations of this folder.
+    Folder(WordText),
+    /// A made network of so many routers, from 4 to 512. No folder is asked.
+    Made(u32),
+}
+
+/// What is to be answered of a network.
 #[derive(Drop)]
 pub enum Ask {
-    /// The routes of every router of a folder, or of one.
+    /// The routes of every router, or of one.
     Routes {
-        /// Where the configurations stand.
-        dir: WordText,
         /// The router that is asked about, as it was typed; every router where nothing is said.
         router: Option<WordText>,
     },
-    /// The walk of a packet through the network of a folder.
+    /// The walk of a packet.
     Trace {
-        /// Where the configurations stand.
-        dir: WordText,
         /// Where the packet starts.
         place: PlaceName,
         /// What the packet's header says.
         header: Header,
     },
-    /// Which packets get from a place of a folder's network to an ending.
+    /// Which packets get from a place to an ending.
     Reach {
-        /// Where the configurations stand.
-        dir: WordText,
         /// Where the packets start.
         place: PlaceName,
         /// The endings that are asked for.
@@ -87,16 +90,16 @@ pub enum Ask {
         /// How many cubes get an example, from 0 to 1000; 0 where nothing is said.
         examples: u32,
     },
-    /// What a made network of so many routers gives. No folder is asked.
-    Sample {
-        /// How many routers it has, from 4 to 512.
-        routers: u32,
-    },
+    /// How many routes there are, and the first of the packets that get from outside to a router or a host: what
+    /// `sample` asks of a made network.
+    Summary,
 }
 
 /// What the words of a command line ask for.
 #[derive(Drop)]
 pub struct Request {
+    /// Of which network.
+    pub source: Source,
     /// What is to be answered.
     pub ask: Ask,
     /// Within which bounds.

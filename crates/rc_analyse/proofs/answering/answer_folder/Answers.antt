@@ -4,12 +4,12 @@ use Rattle.rc_analyse.proofs.answering.answer_folder.Goals as goal
 
 pub returns-in-Ok-clause-answer : goal.returns-in-Ok-clause-answer
 returns-in-Ok-clause-answer g c =
-    let told = files_asked c.args.request.now.ask (g.F.Folder.told c.args.folder.now) in
+    let told = files_asked c.args.request.now.source (g.F.Folder.told c.args.folder.now) in
     answered told c.args.request.now c.in-Ok.found c.answer_findings.result (g.S.Sink.told c.args.out.now) (g.S.Sink.told c.answer_findings.new.out) c.in-Ok.ensures.findings c.answer_findings.ensures.put
 
 pub returns-in-Ok-clause-complete : goal.returns-in-Ok-clause-complete
 returns-in-Ok-clause-complete g c =
-    let told = files_asked c.args.request.now.ask (g.F.Folder.told c.args.folder.now) in
+    let told = files_asked c.args.request.now.source (g.F.Folder.told c.args.folder.now) in
     complete_where_told told c.args.request.now c.answer_findings.result (g.S.Sink.told c.args.out.now) (g.S.Sink.told c.answer_findings.new.out)
     (answered told c.args.request.now c.in-Ok.found c.answer_findings.result (g.S.Sink.told c.args.out.now) (g.S.Sink.told c.answer_findings.new.out) c.in-Ok.ensures.findings c.answer_findings.ensures.put)
     (λ e. absurd (never_source c.args.request.now c.in-Ok.found c.answer_findings.ensures.put e))

@@ -1,5 +1,11 @@
-use Rattle.rc_answers.proofs.PutLaws.{walk_put}
+use Rattle.std.proofs.Common.{refl}
+use Rattle.rc_report.specs.WalkText.{walk_text}
+use Rattle.rc_answers.proofs.PutLaws.{put_at_fixed}
+use Rattle.rc_answers.specs.Given.{walk_of}
+use Rattle.rc_answers.specs.declared.subject.Subject.TheVariants.{Packet}
 use Rattle.rc_answers.proofs.answering.answer_walk.Goals as goal
 
 pub returns-clause-put : goal.returns-clause-put
-returns-clause-put g c = walk_put c.args.request.now c.args.net.now c.args.rounds c.new.result c.args.state c.args.position c.args.header.now c.in-Ok.walk c.in-Ok.ensures c.answer_fixed_lines.ensures.put
+returns-clause-put g c =
+    let walk = c.in-Ok.walk in
+    put_at_fixed c.args.request.now c.args.net.now c.args.end c.args.state (Packet c.args.position c.args.header.now) (walk_of walk) (walk, c.in-Ok.ensures, refl) (c.write_ended.ensures.put (walk_text c.args.net.now walk) refl)

@@ -7,8 +7,8 @@ use Rattle.rc_answers.proofs.reaching.example_walks.Goals as goal
 pub loop-preserved : goal.loop-preserved
 loop-preserved g c =
     let plane = c.args.plane.now in
-    let q = c.args.position.now in
-    let ends = c.args.ends.now in
+    let q = c.args.asked.now.place in
+    let ends = c.args.asked.now.ends in
     let before = c.loop.invariant in
     record {
       seat = c.next.ensures.seat;

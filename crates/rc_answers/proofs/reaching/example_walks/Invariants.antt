@@ -10,5 +10,5 @@ invariant-loop g l = record {
   seat : IsSeatOf l.nodes l.seat;
   keeps : Keeps l.fn.seat l.seat;
   set : l.cubes.set ≡ l.fn.set;
-  way : (t : Tree) → SeatKnows l.fn.seat l.fn.set.index t → AreUnderWay l.plane l.position l.ends (cubes t) l.counter (left l.cubes.last t) l.walks.items;
+  way : (t : Tree) → SeatKnows l.fn.seat l.fn.set.index t → AreUnderWay l.plane l.asked.place l.asked.ends (cubes t) l.counter (left l.cubes.last t) l.walks.items;
 }

@@ -7,14 +7,14 @@ use Rattle.rc_answers.proofs.writing.put_usage.Goals as goal
 abbrev nothing : Bor (List ℕ)
 nothing = record { ref_ptr = (0, 0); now = [] }
 
-pub returns-in_err-put_text : goal.returns-in_err-put_text
-returns-in_err-put_text g c =
+pub returns-in_err-put_piece : goal.returns-in_err-put_piece
+returns-in_err-put_piece g c =
     let lines = c.usage_lines-lines.result in
     let i = c.loop-text.text-index in
     let line = get_or lines i nothing in
     let long : length lines ≡ 5 = search rules in
     let less : i < length lines = omega (arith, long) in
-    rw (← c.usage_lines-lines.ensures) (each_stopped (λ t. t.now) lines i line c.from_residual.ensures.0 less (get_or_default lines i nothing line less) c.loop-text.invariant c.in_err-put_text.ensures)
+    rw (← c.usage_lines-lines.ensures) (each_stopped (λ t. t.now) lines i line c.from_residual.ensures.0 less (get_or_default lines i nothing line less) c.loop-text.invariant c.in_err-put_piece.ensures)
 
 pub loop-text-preserved : goal.loop-text-preserved
 loop-text-preserved g c =
@@ -23,4 +23,4 @@ loop-text-preserved g c =
     let line = get_or lines i nothing in
     let long : length lines ≡ 5 = search rules in
     let less : i < length lines = omega (arith, long) in
-    each_put (λ t. t.now) lines i line less (get_or_default lines i nothing line less) c.loop-text.invariant c.in_ok-put_text.ensures
+    each_put (λ t. t.now) lines i line less (get_or_default lines i nothing line less) c.loop-text.invariant c.in_ok-put_piece.ensures
