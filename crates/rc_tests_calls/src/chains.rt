@@ -157,13 +157,12 @@ fn two_callers<R: Threads + Sync>(
 
 /// A packet to 10.0.0.7.
 fn packet() -> Header {
-    Header {
-        dst: Addr::new((10 << 24) + 7),
-        src: Addr::new(0),
-        proto: 6,
-        sport: 1024,
-        dport: 80,
-    }
+    let mut packet = Header::zeros();
+    packet.dst = Addr::new((10 << 24) + 7);
+    packet.proto = 6;
+    packet.sport = 1024;
+    packet.dport = 80;
+    packet
 }
 
 /// Whether so many words stand in the table, each of another node.

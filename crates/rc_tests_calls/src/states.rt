@@ -4,25 +4,25 @@ ghost use Rattle.std.specs.Prelude.{◌≤◌};
 use rc_as_path::AsPath;
 use rc_base::{Addr, Communities, IfId, Items, Origin, Prefix, RouterId};
 use rc_route::{
-    BgpPath, Hop, Hops, PathSource, Route, RouterState, Source, State, Table, copy, equal,
-    same_table,
+    Best, BgpPath, FurtherHops, Hop, Hops, PathSource, Route, RouterState, Source, State, Table,
+    copy, equal, same_table,
 };
 use std::alloc::{AllocError, Global};
 use std::test::Fail;
 
-/// How many fields a route and a path have together.
-const FIELDS: usize = 18;
+/// How many fields a route and a best path have together.
+const FIELDS: usize = 19;
 
 /// Where no field is changed.
-const SAME: usize = 18;
+const SAME: usize = 19;
 
-const NO_ROUTE: usize = 19;
+const NO_ROUTE: usize = 20;
 
-const NO_PATH: usize = 20;
+const NO_PATH: usize = 21;
 
-const NO_ROUTER: usize = 21;
+const NO_ROUTER: usize = 22;
 
-const TWO_ROUTERS: usize = 22;
+const TWO_ROUTERS: usize = 23;
 
 /// 2 at the field that is changed, else 1.
 fn value_at(field: usize, changed: usize) -> u8
@@ -109,6 +109,20 @@ fn path_at(alloc: Global, changed: usize) -> Result<BgpPath, Fail> {
     })
 }
 
+/// One address, which is 1 where it isn't changed.
+fn further_at(alloc: Global, changed: usize) -> Result<FurtherHops, AllocError> {
+    let mut addresses = Items::new(alloc);
+    addresses.push(addr_at(18, changed))?;
+    FurtherHops::of(alloc, addresses)
+}
+
+/// A best path whose fields are all 1 but the one that is changed, from 5 to 18.
+fn best_at(alloc: Global, changed: usize) -> Result<Best, Fail> {
+    let path = path_at(alloc, changed)?;
+    let also = further_at(alloc, changed)?;
+    Ok(Best { path, also })
+}
+
 /// Puts that route, where it isn't what is lacking.
 fn put_route(table: &mut Table, alloc: Global, changed: usize) -> Result<(), Fail> {
     if changed != NO_ROUTE {
@@ -117,15 +131,15 @@ fn put_route(table: &mut Table, alloc: Global, changed: usize) -> Result<(), Fai
     Ok(())
 }
 
-/// Puts that path, where it isn't what is lacking.
-fn put_path(paths: &mut Items<BgpPath>, alloc: Global, changed: usize) -> Result<(), Fail> {
+/// Puts that best path, where it isn't what is lacking.
+fn put_path(paths: &mut Items<Best>, alloc: Global, changed: usize) -> Result<(), Fail> {
     if changed != NO_PATH {
-        paths.push(path_at(alloc, changed)?)?;
+        paths.push(best_at(alloc, changed)?)?;
     }
     Ok(())
 }
 
-/// What a router knows: one route and one path, all 1 but the field that is changed.
+/// What a router knows: one route and one best path, all 1 but the field that is changed.
 fn router_at(alloc: Global, changed: usize) -> Result<RouterState, Fail> {
     let mut router = RouterState {
         table: Items::new(alloc),
