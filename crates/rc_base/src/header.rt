@@ -5,8 +5,9 @@ ghost use Rattle.rc_base.specs.Header.{IsHeader};
 
 use crate::Addr;
 
-/// What access lists and routes read of a packet: the addresses and the protocol of RFC 791 s.3.1, and the ports of RFC 9293
-/// s.3.1 and RFC 768, which are 0 where the protocol has none. Its fields are told as a table by `Field`.
+/// What access lists and routes read of a packet: the addresses and the protocol of RFC 791 s.3.1, the ports of RFC 9293 s.3.1 and
+/// RFC 768, the type and code of an ICMP message (RFC 792), and the flags ACK and RST of TCP (RFC 9293 s.3.1). What the protocol
+/// doesn't have is 0. Its fields are told as a table by `Field`.
 #[derive(Clone, Copy)]
 pub struct Header {
     pub dst: Addr,
@@ -14,6 +15,10 @@ pub struct Header {
     pub proto: u8,
     pub sport: u16,
     pub dport: u16,
+    pub icmp_type: u8,
+    pub icmp_code: u8,
+    pub ack: bool,
+    pub rst: bool,
 }
 
 impl Header {
@@ -27,6 +32,10 @@ impl Header {
             proto: 0,
             sport: 0,
             dport: 0,
+            icmp_type: 0,
+            icmp_code: 0,
+            ack: false,
+            rst: false,
         }
     }
 }
@@ -40,4 +49,6 @@ pub fn header_ranges(header: &Header)
     let _proto = header.proto;
     let _sport = header.sport;
     let _dport = header.dport;
+    let _type = header.icmp_type;
+    let _code = header.icmp_code;
 }

@@ -25,7 +25,10 @@ pub use addr::{Addr, len_of, mask_of};
 pub use bits::{header_bit, header_is_free, header_laws, with_header_bit};
 pub use communities::Communities;
 pub use ending::{Ends, Kind};
-pub use field::{DPORT_LAST, DST_LAST, Field, HEADER_BITS, PROTO_LAST, SPORT_LAST, SRC_LAST};
+pub use field::{
+    ACK_LAST, DPORT_LAST, DST_LAST, Field, HEADER_BITS, ICMP_CODE_LAST, ICMP_TYPE_LAST, PROTO_LAST,
+    RST_LAST, SPORT_LAST, SRC_LAST,
+};
 pub use file_name::FileName;
 pub use header::{Header, header_ranges};
 pub use items::Items;

@@ -4,7 +4,7 @@ use Rattle.std.specs.List.{list_any}
 use Rattle.rc_base.specs.Fields.{zeros}
 use Rattle.rc_base.specs.Header.{bit, last_bit}
 use Rattle.rc_base.specs.Prefix.{Cidr}
-use Rattle.rc_base.specs.declared.field.Field.TheVariants.{Proto, Sport, Dport}
+use Rattle.rc_base.specs.declared.field.Field.TheVariants.{Proto, Sport, Dport, IcmpType, IcmpCode, Ack, Rst}
 use Rattle.rc_base.specs.declared.header.Header.{Header}
 use Rattle.rc_trees.specs.Trees.{Tree, never, always, node, holds, same_tree}
 use Rattle.rc_trees.specs.Combine.{and, or, minus}
@@ -104,6 +104,32 @@ source_port_below = refl
 source_port_at_most : holds (at_most (last_bit Sport) 16 1024) packet ≡ true
 unfolding under bit
 source_port_at_most = refl
+
+-- type 8 of ICMP with code 0, and the flag RST alone
+abbrev echo : Header
+echo = record zeros { proto = 1; icmp_type = 8 }
+
+abbrev reset : Header
+reset = record zeros { proto = 6; rst = true }
+
+abbrev of_echo : Tree
+of_echo = exact (last_bit IcmpType) 8 8
+
+abbrev of_code_zero : Tree
+of_code_zero = exact (last_bit IcmpCode) 8 0
+
+by_type_and_code : (holds of_echo echo ≡ true) × (holds of_echo reset ≡ false) × (holds of_code_zero echo ≡ true) × (holds of_code_zero (record echo { icmp_code = 255 }) ≡ false)
+unfolding masked bit
+by_type_and_code = (refl, refl, refl, refl)
+
+-- a flag is one bit, the last two of a header
+flags_last : (exact (last_bit Ack) 1 1 ≡ node 120 never always) × (exact (last_bit Rst) 1 0 ≡ node 121 always never)
+unfolding masked
+flags_last = (refl, refl)
+
+by_flag : (holds (exact (last_bit Ack) 1 1) reset ≡ false) × (holds (exact (last_bit Rst) 1 1) reset ≡ true)
+unfolding masked bit
+by_flag = (refl, refl)
 
 -- a number of more bits than the field has: none is it, all are below it
 none_is_more : exact (last_bit Dport) 16 65536 ≡ never
