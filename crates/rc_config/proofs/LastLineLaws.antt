@@ -1,7 +1,7 @@
 -- The model of a file by its lines: of each value the last line counts that says it, and no other line matters.
-use Rattle.std.proofs.Common.{◌≡◌, ◌∙◌, ap, refl, sym, subst, ℕ, ◌==◌, ◌&&◌, Bool, true, false, cond, filter, List, [], ◌++◌, Option, Some, None}
+use Rattle.std.proofs.Common.{◌≡◌, ◌∙◌, ap, refl, sym, subst, ℕ, ◌==◌, ◌&&◌, Bool, true, false, cond, List, [], ◌++◌, Option, Some, None}
 use Rattle.std.specs.Prelude.{option_and_then, unwrap_or}
-use Rattle.std.specs.List.{cons_option, fold}
+use Rattle.std.specs.List.{cons_option, filter_map, fold}
 use Rattle.std.specs.Option.{option_map, option_map_or, option_or}
 use Rattle.std.proofs.lemmas.Bool.{eqb-true}
 use Rattle.std.specs.Map.{keys_of}
@@ -9,12 +9,16 @@ use Rattle.indexmap.specs.IndexSet.{insert_key}
 use Rattle.indexmap.proofs.SetLemmas.{keys_insert_entry}
 use Rattle.rc_base.specs.Name.{same_name}
 use Rattle.rc_config.specs.LastLine as said
-use Rattle.rc_config.specs.LastLine.{entry_lines, first_said, from_first, is_of_entry, is_of_interface, is_of_neighbor, last_said, model_of, IsBgpByLines, IsEntryByLines, IsInterfaceByLines, IsModelByLines, IsNeighborByLines, IsProcessByLines, LastLineCounts}
+use Rattle.rc_config.specs.LastLine.{model_of, LastLineCounts}
+use Rattle.rc_config.specs.BgpLines.{IsBgpByLines}
+use Rattle.rc_config.specs.EntryLines.{IsEntryByLines}
+use Rattle.rc_config.specs.InterfaceLines.{IsInterfaceByLines}
+use Rattle.rc_config.specs.OspfLines.{IsProcessByLines}
 use Rattle.rc_config.specs.AccessList as access
 use Rattle.rc_config.specs.Bgp as bgp
 use Rattle.rc_config.specs.ByNumber.{placed, with_number}
 use Rattle.rc_config.specs.CommunityList as communities
-use Rattle.rc_config.specs.Interface.{fresh, group_of, with_address, with_group, with_ospf}
+use Rattle.rc_config.specs.Interface.{fresh, with_line}
 use Rattle.rc_config.specs.Lists.{community_list_named}
 use Rattle.rc_config.specs.Named.{named, with_value}
 use Rattle.rc_config.specs.Ospf as ospf
@@ -25,27 +29,27 @@ use Rattle.rc_config.specs.declared.access_list.AccessList.{AccessList}
 use Rattle.rc_config.specs.declared.access_list.AccessListKind.{AccessListKind}
 use Rattle.rc_config.specs.declared.access_list.AccessListLine.{AccessListLine}
 use Rattle.rc_config.specs.declared.access_list.Action.{Action}
+use Rattle.rc_config.specs.declared.access_list.Action.TheVariants.{Permit}
 use Rattle.rc_config.specs.declared.command.Command.{Command}
 use Rattle.rc_config.specs.declared.command.Command.TheVariants as command
 use Rattle.rc_config.specs.declared.community_list.CommunityLine.{CommunityLine}
 use Rattle.rc_config.specs.declared.community_list.CommunityList.{CommunityList}
-use Rattle.rc_config.specs.declared.interface.Direction.{Direction}
-use Rattle.rc_config.specs.declared.interface.Direction.TheVariants.{In, Out}
 use Rattle.rc_config.specs.declared.interface.Interface.{Interface}
 use Rattle.rc_config.specs.declared.map_line.MapLine.{MapLine}
 use Rattle.rc_config.specs.declared.map_line.MapLine.TheVariants as map_line
 use Rattle.rc_config.specs.declared.map_line.MatchKind.TheVariants as match_kind
-use Rattle.rc_config.specs.declared.map_line.SetLine.TheVariants as set_line
-use Rattle.rc_config.specs.declared.ospf.OspfSetting.TheVariants as setting
+use Rattle.rc_config.specs.declared.lists.ListLine.TheVariants as list_line
 use Rattle.rc_config.specs.declared.prefix_list.PrefixLine.{PrefixLine}
 use Rattle.rc_config.specs.declared.prefix_list.PrefixList.{PrefixList}
 use Rattle.rc_config.specs.declared.route_map.MapEntry.{MapEntry}
 use Rattle.rc_config.specs.declared.route_map.RouteMap.{RouteMap}
 use Rattle.rc_config.specs.declared.router_text.RouterText.{RouterText}
 use Rattle.rc_config.proofs.ByNumberLaws.{found_number}
+use Rattle.rc_config.proofs.EntryLineLaws.{any-action, entry-lines, line-unacted, unacted}
+use Rattle.rc_config.proofs.InterfaceLineLaws.{interface-lines}
 use Rattle.rc_config.proofs.PolicyLaws.{entry-number, opened-number}
 use Rattle.rc_config.proofs.ProcessLineLaws.{asn_at, asn-step, bgp_after, bgp-by-lines, bgp-step, process_after, process_at, process-by-lines, process-number-step, process-step}
-use Rattle.rc_config.proofs.SaidLaws.{all-in-order, all-in-turn, first-counts, found-placed, from-opening, kept, last-counts, last-or-default, named-change, nothing-more, number-said, opened, own-lines, several-in-order}
+use Rattle.rc_config.proofs.SaidLaws.{add-if, all-in-order, all-in-turn, either-way, first-counts, found-placed, from-opening, kept, last-counts, named-change, nothing-more, number-said, opened}
 
 -- ---- a file
 host-step : (r : RouterText) (c : Command) → (after r c).host ≡ option_or (said.host_said c) r.host
@@ -62,24 +66,20 @@ one_more names o = option_map_or (insert_key same_name names) o names
 
 interface_names-step : (r : RouterText) (c : Command) → keys_of (after r c).interfaces ≡ one_more (keys_of r.interfaces) (said.interface_of c)
 interface_names-step r (command.Interface n line) = keys_insert_entry same_name r.interfaces n _
-interface_names-step r (command.Address n a secondary) = keys_insert_entry same_name r.interfaces n _
-interface_names-step r (command.Shutdown n down) = keys_insert_entry same_name r.interfaces n _
-interface_names-step r (command.Bandwidth n kbits) = keys_insert_entry same_name r.interfaces n _
-interface_names-step r (command.AccessGroup n list direction) = keys_insert_entry same_name r.interfaces n _
-interface_names-step r (command.InterfaceOspf n setting) = keys_insert_entry same_name r.interfaces n _
+interface_names-step r (command.InterfaceLine n line) = keys_insert_entry same_name r.interfaces n _
 interface_names-step r c = refl
 
 access_list_names-step : (r : RouterText) (c : Command) → keys_of (after r c).lists.access_lists ≡ one_more (keys_of r.lists.access_lists) (said.access_list_of c)
-access_list_names-step r (command.AccessListOpened n kind) = keys_insert_entry same_name r.lists.access_lists n _
-access_list_names-step r (command.AccessListLine n kind line) = keys_insert_entry same_name r.lists.access_lists n _
+access_list_names-step r (command.ListLine n (list_line.AccessListOpened kind)) = keys_insert_entry same_name r.lists.access_lists n _
+access_list_names-step r (command.ListLine n (list_line.AccessListLine kind line)) = keys_insert_entry same_name r.lists.access_lists n _
 access_list_names-step r c = refl
 
 prefix_list_names-step : (r : RouterText) (c : Command) → keys_of (after r c).lists.prefix_lists ≡ one_more (keys_of r.lists.prefix_lists) (said.prefix_list_of c)
-prefix_list_names-step r (command.PrefixLine n line) = keys_insert_entry same_name r.lists.prefix_lists n _
+prefix_list_names-step r (command.ListLine n (list_line.PrefixLine line)) = keys_insert_entry same_name r.lists.prefix_lists n _
 prefix_list_names-step r c = refl
 
 community_list_names-step : (r : RouterText) (c : Command) → keys_of (after r c).lists.community_lists ≡ one_more (keys_of r.lists.community_lists) (said.community_list_of c)
-community_list_names-step r (command.CommunityLine n line) = keys_insert_entry same_name r.lists.community_lists n _
+community_list_names-step r (command.ListLine n (list_line.CommunityLine line)) = keys_insert_entry same_name r.lists.community_lists n _
 community_list_names-step r c = refl
 
 route_map_names-step : (r : RouterText) (c : Command) → keys_of (after r c).route_maps ≡ one_more (keys_of r.route_maps) (said.route_map_of c)
@@ -88,15 +88,6 @@ route_map_names-step r (command.MapLine n k line) = keys_insert_entry same_name 
 route_map_names-step r c = refl
 
 -- ---- interfaces
-
--- what the block says after one more of its lines
-abbrev block_after : Interface → Command → Interface
-block_after b (command.Address name a secondary) = with_address b a secondary
-block_after b (command.Shutdown name down) = record b { shutdown = down }
-block_after b (command.Bandwidth name kbits) = record b { bandwidth = Some kbits }
-block_after b (command.AccessGroup name list direction) = with_group b list direction
-block_after b (command.InterfaceOspf name setting) = with_ospf b setting
-block_after b _ = b
 
 block-put : (r : RouterText) (n name : List ℕ) (f : Interface → Interface)
     → block_of (with_value r.interfaces n (f (block_of r.interfaces n))) name ≡ cond (same_name name n) (f (interface_named r name)) (interface_named r name)
@@ -107,97 +98,15 @@ block-put r n name f = ap (λ o. unwrap_or o fresh) (named-change r.interfaces n
     by false o = refl
 
 block-step : (name : List ℕ) (r : RouterText) (c : Command)
-    → interface_named (after r c) name ≡ cond (is_of_interface name c) (block_after (interface_named r name) c) (interface_named r name)
-block-step name r (command.Interface n line) = block-put r n name (λ b. b)
-block-step name r (command.Address n a secondary) = block-put r n name (λ b. with_address b a secondary)
-block-step name r (command.Shutdown n down) = block-put r n name (λ b. record b { shutdown = down })
-block-step name r (command.Bandwidth n kbits) = block-put r n name (λ b. record b { bandwidth = Some kbits })
-block-step name r (command.AccessGroup n list direction) = block-put r n name (λ b. with_group b list direction)
-block-step name r (command.InterfaceOspf n setting) = block-put r n name (λ b. with_ospf b setting)
+    → interface_named (after r c) name ≡ option_map_or (with_line (interface_named r name)) (said.interface_line_said name c) (interface_named r name)
+block-step name r (command.Interface n line) = block-put r n name (λ b. b) ∙ either-way (same_name name n) (interface_named r name)
+block-step name r (command.InterfaceLine n line) = block-put r n name (λ b. with_line b line) ∙ add-if with_line (same_name name n) line (interface_named r name)
 block-step name r c = refl
 
-primary-step : (b : Interface) (c : Command) → (block_after b c).primary ≡ option_or (said.primary_said c) b.primary
-primary-step b (command.Address n a true) = refl
-primary-step b (command.AccessGroup n list In) = refl
-primary-step b c = refl
-
-secondary-step : (b : Interface) (c : Command) → (block_after b c).secondary ≡ b.secondary ++ cons_option (said.secondary_said c) []
-secondary-step b (command.Address n a true) = refl
-secondary-step b (command.AccessGroup n list In) = nothing-more b.secondary
-secondary-step b c = nothing-more b.secondary
-
-shutdown-step : (b : Interface) (c : Command) → (block_after b c).shutdown ≡ unwrap_or (said.shutdown_said c) b.shutdown
-shutdown-step b (command.Shutdown n down) = refl
-shutdown-step b (command.Address n a true) = refl
-shutdown-step b (command.AccessGroup n list In) = refl
-shutdown-step b c = refl
-
-bandwidth-step : (b : Interface) (c : Command) → (block_after b c).bandwidth ≡ option_or (said.bandwidth_said c) b.bandwidth
-bandwidth-step b (command.Bandwidth n kbits) = refl
-bandwidth-step b (command.Address n a true) = refl
-bandwidth-step b (command.AccessGroup n list In) = refl
-bandwidth-step b c = refl
-
-group-step : (direction : Direction) (b : Interface) (c : Command) → group_of (block_after b c) direction ≡ option_or (said.group_said direction c) (group_of b direction)
-group-step In b (command.AccessGroup n list In) = refl
-group-step Out b (command.AccessGroup n list Out) = refl
-group-step In b (command.Address n a true) = refl
-group-step Out b (command.Address n a true) = refl
-group-step _ b c = refl
-
-cost-step : (b : Interface) (c : Command) → (block_after b c).ospf.cost ≡ option_or (said.cost_said c) b.ospf.cost
-cost-step b (command.InterfaceOspf n (setting.Cost k)) = refl
-cost-step b (command.Address n a true) = refl
-cost-step b (command.AccessGroup n list In) = refl
-cost-step b c = refl
-
-hello-step : (b : Interface) (c : Command) → (block_after b c).ospf.hello ≡ option_or (said.hello_said c) b.ospf.hello
-hello-step b (command.InterfaceOspf n (setting.HelloInterval k)) = refl
-hello-step b (command.Address n a true) = refl
-hello-step b (command.AccessGroup n list In) = refl
-hello-step b c = refl
-
-dead-step : (b : Interface) (c : Command) → (block_after b c).ospf.dead ≡ option_or (said.dead_said c) b.ospf.dead
-dead-step b (command.InterfaceOspf n (setting.DeadInterval k)) = refl
-dead-step b (command.Address n a true) = refl
-dead-step b (command.AccessGroup n list In) = refl
-dead-step b c = refl
-
-network-step : (b : Interface) (c : Command) → (block_after b c).ospf.network ≡ option_or (said.network_type_said c) b.ospf.network
-network-step b (command.InterfaceOspf n (setting.NetworkType type)) = refl
-network-step b (command.Address n a true) = refl
-network-step b (command.AccessGroup n list In) = refl
-network-step b c = refl
-
-area-step : (process : ℕ) (b : Interface) (c : Command)
-    → with_number ospf.process_of process (block_after b c).ospf.areas ≡ option_or (said.area_said process c) (with_number ospf.process_of process b.ospf.areas)
-area-step process b (command.InterfaceOspf n (setting.Area area)) = number-said ospf.process_of process area b.ospf.areas
-area-step process b (command.Address n a true) = refl
-area-step process b (command.AccessGroup n list In) = refl
-area-step process b c = refl
-
-group-by-lines : (lines : List Command) (direction : Direction) → group_of (fold block_after fresh lines) direction ≡ last_said (said.group_said direction) lines
-group-by-lines lines In = last-counts block_after (λ b. group_of b In) (said.group_said In) (group-step In) lines fresh
-group-by-lines lines Out = last-counts block_after (λ b. group_of b Out) (said.group_said Out) (group-step Out) lines fresh
-
-block-by-lines : (lines : List Command) → IsInterfaceByLines (fold block_after fresh lines) lines
-block-by-lines lines = record {
-  primary = last-counts block_after (λ b. b.primary) said.primary_said primary-step lines fresh;
-  secondary = all-in-order block_after (λ b. b.secondary) said.secondary_said secondary-step lines fresh;
-  shutdown = last-or-default block_after (λ b. b.shutdown) said.shutdown_said shutdown-step lines fresh;
-  bandwidth = last-counts block_after (λ b. b.bandwidth) said.bandwidth_said bandwidth-step lines fresh;
-  group = group-by-lines lines;
-  cost = last-counts block_after (λ b. b.ospf.cost) said.cost_said cost-step lines fresh;
-  hello = last-counts block_after (λ b. b.ospf.hello) said.hello_said hello-step lines fresh;
-  dead = last-counts block_after (λ b. b.ospf.dead) said.dead_said dead-step lines fresh;
-  network = last-counts block_after (λ b. b.ospf.network) said.network_type_said network-step lines fresh;
-  area = λ process. last-counts block_after (λ b. with_number ospf.process_of process b.ospf.areas) (said.area_said process) (area-step process) lines fresh;
-}
-
-interface-by-lines : (lines : List Command) (name : List ℕ) → IsInterfaceByLines (interface_named (model_of lines) name) (filter (is_of_interface name) lines)
+interface-by-lines : (lines : List Command) (name : List ℕ) → IsInterfaceByLines (interface_named (model_of lines) name) (filter_map (said.interface_line_said name) lines)
 interface-by-lines lines name =
-    subst (λ i. IsInterfaceByLines i (filter (is_of_interface name) lines)) (sym (own-lines after (λ r. interface_named r name) (is_of_interface name) block_after (block-step name) lines empty))
-    (block-by-lines (filter (is_of_interface name) lines))
+    subst (λ i. IsInterfaceByLines i (filter_map (said.interface_line_said name) lines)) (sym (all-in-turn after (λ r. interface_named r name) (said.interface_line_said name) with_line (block-step name) lines empty))
+    (interface-lines (filter_map (said.interface_line_said name) lines))
 
 -- ---- lists
 abbrev kind_at : Option AccessList → Option AccessListKind
@@ -227,9 +136,9 @@ no-kind None = refl
 no-kind (Some kind) = refl
 
 kind-step : (name : List ℕ) (r : RouterText) (c : Command) → kind_at (named (after r c).lists.access_lists name) ≡ option_or (kind_at (named r.lists.access_lists name)) (said.kind_said name c)
-kind-step name r (command.AccessListOpened list kind) =
+kind-step name r (command.ListLine list (list_line.AccessListOpened kind)) =
     ap kind_at (named-change r.lists.access_lists list name (λ o. unwrap_or o (access.no_lines kind))) ∙ same-kind (same_name name list) (named r.lists.access_lists name) kind
-kind-step name r (command.AccessListLine list kind line) =
+kind-step name r (command.ListLine list (list_line.AccessListLine kind line)) =
     ap kind_at (named-change r.lists.access_lists list name (λ o. access.with_line (unwrap_or o (access.no_lines kind)) line)) ∙ lined-kind (same_name name list) (named r.lists.access_lists name) kind line
 kind-step name r c = no-kind (kind_at (named r.lists.access_lists name))
 
@@ -247,9 +156,9 @@ one-line n false o kind line = refl
 
 access-step : (name : List ℕ) (n : ℕ) (r : RouterText) (c : Command)
     → access_line_at n (named (after r c).lists.access_lists name) ≡ option_or (said.access_line_said name n c) (access_line_at n (named r.lists.access_lists name))
-access-step name n r (command.AccessListOpened list kind) =
+access-step name n r (command.ListLine list (list_line.AccessListOpened kind)) =
     ap (access_line_at n) (named-change r.lists.access_lists list name (λ o. unwrap_or o (access.no_lines kind))) ∙ same-lines n (same_name name list) (named r.lists.access_lists name) kind
-access-step name n r (command.AccessListLine list kind line) =
+access-step name n r (command.ListLine list (list_line.AccessListLine kind line)) =
     ap (access_line_at n) (named-change r.lists.access_lists list name (λ o. access.with_line (unwrap_or o (access.no_lines kind)) line))
     ∙ one-line n (same_name name list) (named r.lists.access_lists name) kind line
 access-step name n r c = refl
@@ -262,7 +171,7 @@ one-prefix-line n false o line = refl
 
 prefix-step : (name : List ℕ) (n : ℕ) (r : RouterText) (c : Command)
     → prefix_line_at n (named (after r c).lists.prefix_lists name) ≡ option_or (said.prefix_line_said name n c) (prefix_line_at n (named r.lists.prefix_lists name))
-prefix-step name n r (command.PrefixLine list line) =
+prefix-step name n r (command.ListLine list (list_line.PrefixLine line)) =
     ap (prefix_line_at n) (named-change r.lists.prefix_lists list name (λ o. prefixes.with_line (unwrap_or o prefixes.no_lines) line))
     ∙ one-prefix-line n (same_name name list) (named r.lists.prefix_lists name) line
 prefix-step name n r c = refl
@@ -277,7 +186,7 @@ one-community-line false o line = nothing-more (community_lines_at o)
 
 community-step : (name : List ℕ) (r : RouterText) (c : Command)
     → (community_list_named (after r c).lists name).lines ≡ (community_list_named r.lists name).lines ++ cons_option (said.community_line_said name c) []
-community-step name r (command.CommunityLine list line) =
+community-step name r (command.ListLine list (list_line.CommunityLine line)) =
     ap community_lines_at (named-change r.lists.community_lists list name (λ o. communities.with_line (unwrap_or o communities.no_lines) line))
     ∙ one-community-line (same_name name list) (named r.lists.community_lists name) line
 community-step name r c = nothing-more (community_list_named r.lists name).lines
@@ -289,14 +198,11 @@ entry_in n o = with_number maps.number_of n (unwrap_or o maps.no_entries).entrie
 abbrev entry_at : List ℕ → ℕ → RouterText → Option MapEntry
 entry_at name n r = with_number maps.number_of n (route_map_named r name).entries
 
--- what the entry says after one more of its lines
-abbrev entry_after : MapEntry → Command → MapEntry
-entry_after e (command.MapOpened map number action) = record e { action = action }
-entry_after e (command.MapLine map number line) = maps.entry_with e line
-entry_after e _ = e
-
+-- what the entry of a number says after one more line
 abbrev added : List ℕ → ℕ → MapEntry → Command → MapEntry
-added name n e c = cond (is_of_entry name n c) (entry_after e c) e
+added name n e (command.MapOpened map k action) = cond (same_name name map && (k == n)) (record e { action = action }) e
+added name n e (command.MapLine map k line) = cond (same_name name map && (k == n)) (maps.entry_with e line) e
+added name n e _ = e
 
 opened-entry : (es : List MapEntry) (k n : ℕ) (action : Action)
     → with_number maps.number_of n (placed maps.number_of (maps.entry_opened es k action) es)
@@ -384,74 +290,25 @@ action-step name n r (command.MapOpened map k action) = ap action_at (entry-step
 action-step name n r (command.MapLine map k line) = ap action_at (entry-step name n r (command.MapLine map k line)) ∙ lined-action n (same_name name map && (k == n)) (entry_at name n r) line
 action-step name n r c = refl
 
-access_lists-step : (e : MapEntry) (c : Command) → (entry_after e c).access_lists ≡ e.access_lists ++ said.access_lists_said c
-access_lists-step e (command.MapLine m k (map_line.Match match_kind.AccessList names line)) = refl
-access_lists-step e c = nothing-more e.access_lists
+own-step : (name : List ℕ) (n : ℕ) (e : MapEntry) (c : Command) → unacted (added name n e c) ≡ option_map_or (maps.entry_with (unacted e)) (said.entry_line_said name n c) (unacted e)
+own-step name n e (command.MapOpened map k action) = by (same_name name map && (k == n))
+  where
+    by : (b : Bool) → unacted (cond b (record e { action = action }) e) ≡ unacted e
+    by true = refl
+    by false = refl
+own-step name n e (command.MapLine map k line) = by (same_name name map && (k == n))
+  where
+    by : (b : Bool) → unacted (cond b (maps.entry_with e line) e) ≡ option_map_or (maps.entry_with (unacted e)) (cond b (Some line) None) (unacted e)
+    by true = line-unacted e line
+    by false = refl
+own-step name n e c = refl
 
-prefix_lists-step : (e : MapEntry) (c : Command) → (entry_after e c).prefix_lists ≡ e.prefix_lists ++ said.prefix_lists_said c
-prefix_lists-step e (command.MapLine m k (map_line.Match match_kind.PrefixList names line)) = refl
-prefix_lists-step e c = nothing-more e.prefix_lists
-
-community_lists-step : (e : MapEntry) (c : Command) → (entry_after e c).community_lists ≡ e.community_lists ++ said.community_lists_said c
-community_lists-step e (command.MapLine m k (map_line.Match match_kind.CommunityList names line)) = refl
-community_lists-step e c = nothing-more e.community_lists
-
-local_preference-step : (e : MapEntry) (c : Command) → (entry_after e c).sets.local_preference ≡ option_or (said.local_preference_said c) e.sets.local_preference
-local_preference-step e (command.MapLine m k (map_line.Set (set_line.LocalPreference v))) = refl
-local_preference-step e (command.MapLine m k (map_line.Match match_kind.AccessList names line)) = refl
-local_preference-step e c = refl
-
-metric-step : (e : MapEntry) (c : Command) → (entry_after e c).sets.metric ≡ option_or (said.metric_said c) e.sets.metric
-metric-step e (command.MapLine m k (map_line.Set (set_line.Metric v))) = refl
-metric-step e (command.MapLine m k (map_line.Match match_kind.AccessList names line)) = refl
-metric-step e c = refl
-
-metric_type-step : (e : MapEntry) (c : Command) → (entry_after e c).sets.metric_type ≡ option_or (said.metric_type_said c) e.sets.metric_type
-metric_type-step e (command.MapLine m k (map_line.Set (set_line.MetricType v))) = refl
-metric_type-step e (command.MapLine m k (map_line.Match match_kind.AccessList names line)) = refl
-metric_type-step e c = refl
-
-weight-step : (e : MapEntry) (c : Command) → (entry_after e c).sets.weight ≡ option_or (said.weight_said c) e.sets.weight
-weight-step e (command.MapLine m k (map_line.Set (set_line.Weight v))) = refl
-weight-step e (command.MapLine m k (map_line.Match match_kind.AccessList names line)) = refl
-weight-step e c = refl
-
-origin-step : (e : MapEntry) (c : Command) → (entry_after e c).sets.origin ≡ option_or (said.origin_said c) e.sets.origin
-origin-step e (command.MapLine m k (map_line.Set (set_line.Origin v))) = refl
-origin-step e (command.MapLine m k (map_line.Match match_kind.AccessList names line)) = refl
-origin-step e c = refl
-
-communities-step : (e : MapEntry) (c : Command) → (entry_after e c).sets.communities ≡ unwrap_or (said.communities_said c) e.sets.communities
-communities-step e (command.MapLine m k (map_line.Set (set_line.Communities numbers additive))) = refl
-communities-step e (command.MapLine m k (map_line.Match match_kind.AccessList names line)) = refl
-communities-step e c = refl
-
-prepended-step : (e : MapEntry) (c : Command) → (entry_after e c).sets.prepended ≡ unwrap_or (said.prepended_said c) e.sets.prepended
-prepended-step e (command.MapLine m k (map_line.Set (set_line.Prepend numbers))) = refl
-prepended-step e (command.MapLine m k (map_line.Match match_kind.AccessList names line)) = refl
-prepended-step e c = refl
-
-entry-by-lines : (n : ℕ) (action : Action) (lines : List Command) → IsEntryByLines (fold entry_after (maps.fresh_entry n action) lines) lines
-entry-by-lines n action lines =
-    let e = maps.fresh_entry n action in
-    record {
-      access_lists = several-in-order entry_after (λ x. x.access_lists) said.access_lists_said access_lists-step lines e;
-      prefix_lists = several-in-order entry_after (λ x. x.prefix_lists) said.prefix_lists_said prefix_lists-step lines e;
-      community_lists = several-in-order entry_after (λ x. x.community_lists) said.community_lists_said community_lists-step lines e;
-      local_preference = last-counts entry_after (λ x. x.sets.local_preference) said.local_preference_said local_preference-step lines e;
-      metric = last-counts entry_after (λ x. x.sets.metric) said.metric_said metric-step lines e;
-      metric_type = last-counts entry_after (λ x. x.sets.metric_type) said.metric_type_said metric_type-step lines e;
-      weight = last-counts entry_after (λ x. x.sets.weight) said.weight_said weight-step lines e;
-      origin = last-counts entry_after (λ x. x.sets.origin) said.origin_said origin-step lines e;
-      communities = last-or-default entry_after (λ x. x.sets.communities) said.communities_said communities-step lines e;
-      prepended = last-or-default entry_after (λ x. x.sets.prepended) said.prepended_said prepended-step lines e;
-    }
-
-own-entry : (name : List ℕ) (n : ℕ) (action : Action) (lines : List Command) → IsEntryByLines (fold (added name n) (maps.fresh_entry n action) lines) (filter (is_of_entry name n) lines)
+own-entry : (name : List ℕ) (n : ℕ) (action : Action) (lines : List Command) → IsEntryByLines (fold (added name n) (maps.fresh_entry n action) lines) (filter_map (said.entry_line_said name n) lines)
 own-entry name n action lines =
-    subst (λ e. IsEntryByLines e (filter (is_of_entry name n) lines))
-    (sym (own-lines (added name n) (λ e. e) (is_of_entry name n) entry_after (λ e c. refl) lines (maps.fresh_entry n action)))
-    (entry-by-lines n action (filter (is_of_entry name n) lines))
+    any-action (fold (added name n) (maps.fresh_entry n action) lines) (filter_map (said.entry_line_said name n) lines)
+    (subst (λ e. IsEntryByLines e (filter_map (said.entry_line_said name n) lines))
+    (sym (all-in-turn (added name n) unacted (said.entry_line_said name n) maps.entry_with (own-step name n) lines (maps.fresh_entry n action)))
+    (entry-lines n Permit (filter_map (said.entry_line_said name n) lines)))
 
 -- ---- all
 pub model-by-lines : LastLineCounts
@@ -470,9 +327,9 @@ model-by-lines lines = record {
   route_map_names = all-in-turn after (λ r. keys_of r.route_maps) said.route_map_of (insert_key same_name) route_map_names-step lines empty;
   entry_action = λ name n. last-counts after (λ r. action_at (entry_at name n r)) (said.action_said name n) (action-step name n) lines empty;
   entry = λ name n. from-opening after (entry_at name n) (said.action_said name n) (maps.fresh_entry n) (added name n) (entry-step name n)
-      (λ e own. IsEntryByLines e (filter (is_of_entry name n) own)) (own-entry name n) lines empty refl;
+      (λ e own. IsEntryByLines e (filter_map (said.entry_line_said name n) own)) (own-entry name n) lines empty refl;
   ospf_process = first-counts after (λ r. process_at r.ospf) said.process_said process-number-step lines empty;
-  ospf = from-opening after (λ r. r.ospf) said.process_said ospf.no_lines process_after process-step IsProcessByLines process-by-lines lines empty refl;
+  ospf = from-opening after (λ r. r.ospf) said.process_said ospf.no_lines process_after process-step (λ p own. IsProcessByLines p (filter_map said.ospf_line_said own)) process-by-lines lines empty refl;
   bgp_asn = first-counts after (λ r. asn_at r.bgp) said.asn_said asn-step lines empty;
-  bgp = from-opening after (λ r. r.bgp) said.asn_said bgp.no_lines bgp_after bgp-step IsBgpByLines bgp-by-lines lines empty refl;
+  bgp = from-opening after (λ r. r.bgp) said.asn_said bgp.no_lines bgp_after bgp-step (λ p own. IsBgpByLines p (filter_map said.bgp_line_said own)) bgp-by-lines lines empty refl;
 }

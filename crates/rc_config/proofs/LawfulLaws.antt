@@ -7,7 +7,7 @@ use Rattle.std.proofs.lemmas.List.Elements.{All-nil, All-cons, All-filter, All-h
 use Rattle.std.specs.Cmp.Lexicographic.{bytes_decides}
 use Rattle.rc_base.specs.Name.{same_name}
 use Rattle.rc_config.specs.declared.command.Command.{Command}
-use Rattle.rc_config.specs.declared.command.Command.TheVariants.{Passed, Remark, Hostname, Interface, Address, Shutdown, Bandwidth, StaticRoute, AccessListOpened, AccessListLine, AccessGroup, PrefixLine, CommunityLine, MapOpened, MapLine, InterfaceOspf, OspfOpened, OspfLine, BgpOpened, BgpLine}
+use Rattle.rc_config.specs.declared.command.Command.TheVariants.{Interface, InterfaceLine, StaticRoute, ListLine, MapOpened, MapLine, OspfOpened, OspfLine, BgpOpened, BgpLine}
 use Rattle.rc_config.specs.declared.access_list.AccessListKind.{AccessListKind}
 use Rattle.rc_config.specs.declared.bgp.BgpLine.{BgpLine as BgpRow}
 use Rattle.rc_config.specs.declared.bgp.BgpLine.TheVariants as bgp_line
@@ -16,6 +16,10 @@ use Rattle.rc_config.specs.declared.interface.Direction.{Direction}
 use Rattle.rc_config.specs.declared.interface.Direction.TheVariants.{In, Out}
 use Rattle.rc_config.specs.declared.interface.IfAddr.{IfAddr}
 use Rattle.rc_config.specs.declared.interface.Interface.{Interface as Block}
+use Rattle.rc_config.specs.declared.interface.InterfaceLine.{InterfaceLine as InterfaceRow}
+use Rattle.rc_config.specs.declared.interface.InterfaceLine.TheVariants as interface_line
+use Rattle.rc_config.specs.declared.lists.ListLine.{ListLine as ListRow}
+use Rattle.rc_config.specs.declared.lists.ListLine.TheVariants as list_line
 use Rattle.rc_config.specs.declared.ospf.OspfArea.{OspfArea}
 use Rattle.rc_config.specs.declared.ospf.OspfLine.{OspfLine as OspfRow}
 use Rattle.rc_config.specs.declared.ospf.OspfLine.TheVariants.{RouterId, Network, PassiveDefault, Passive, ReferenceBandwidth, Stub, Redistribute, DefaultInformation}
@@ -27,11 +31,12 @@ use Rattle.rc_config.specs.declared.ospf.Redistribution.{Redistribution}
 use Rattle.rc_config.specs.declared.router_text.RouterText.{RouterText}
 use Rattle.rc_config.specs.declared.static_route.StaticRoute.{StaticRoute as Route}
 use Rattle.rc_config.specs.IfType.{type_of}
-use Rattle.rc_config.specs.Bgp.{address_of as neighbor_address, with_line as with_bgp_line, IsAsn, IsLawfulBgp}
+use Rattle.rc_config.specs.Bgp.{address_of as neighbor_address, with_line as with_bgp_line, IsAsn, IsLawfulBgp, IsLawfulBgpLine}
 use Rattle.rc_config.specs.AccessList.{IsLawfulAccessList, IsLawfulLine}
-use Rattle.rc_config.specs.Interface.{fresh, with_address, with_group}
-use Rattle.rc_config.specs.Lawful.{IsLawfulInterface, HasLawfulInterfaces, HasLawfulRoutes, HasLawfulLists, HasLawfulOspf, HasLawfulBgp, IsDistance, IsInRange, FitsFile}
-use Rattle.rc_config.specs.Lists.{access_list_named, prefix_list_named, with_access_list_line, with_prefix_line}
+use Rattle.rc_config.specs.Interface.{fresh, with_address, with_group, with_line as with_block_line}
+use Rattle.rc_config.specs.LawfulInterface.{IsLawfulInterface, IsLawfulInterfaceLine}
+use Rattle.rc_config.specs.Lawful.{HasLawfulInterfaces, HasLawfulRoutes, HasLawfulLists, HasLawfulOspf, HasLawfulBgp, IsDistance, IsInRange, FitsFile}
+use Rattle.rc_config.specs.Lists.{access_list_named, prefix_list_named, with_access_list_line, with_line as with_list_line, with_prefix_line, FitsLists, IsLawfulListLine}
 use Rattle.rc_config.specs.Ospf.{area_of, is_same_source, no_settings, process_of, with_redistribution, with_setting, with_line as with_ospf_line, IsLawfulOspf, IsLawfulOspfLine, IsLawfulProcess, IsLawfulSetting, IsOspfNumber, IsRedistribution, IsStubArea}
 use Rattle.rc_config.specs.PrefixList.{IsLawfulLine as IsLawfulPrefixLine, IsLawfulList as IsLawfulPrefixList}
 use Rattle.rc_config.specs.RouteMap.{IsLawfulMap}
@@ -113,56 +118,22 @@ set-lawful s (Area area) h k = record {
   areas = placed-All process_of (λ (a : OspfArea). IsOspfNumber a.process) area s.areas k h.areas;
 }
 
+interface_line-lawful : (name : List ℕ) (i : Block) (line : InterfaceRow) → IsLawfulInterface name i → IsLawfulInterfaceLine name line → IsLawfulInterface name (with_block_line i line)
+interface_line-lawful name i (interface_line.Address a secondary) h k = address-lawful name i a secondary k.0 k.1 h
+interface_line-lawful name i (interface_line.Shutdown down) h k = record { has_type = h.has_type; masks = h.masks; bandwidth = h.bandwidth; ospf = h.ospf }
+interface_line-lawful name i (interface_line.Bandwidth kbits) h k = record { has_type = h.has_type; masks = h.masks; bandwidth = k; ospf = h.ospf }
+interface_line-lawful name i (interface_line.AccessGroup list direction) h k = group-lawful name i list direction h
+interface_line-lawful name i (interface_line.Ospf setting) h k = record { has_type = h.has_type; masks = h.masks; bandwidth = h.bandwidth; ospf = set-lawful _ setting h.ospf k }
+
 after-lawful : (r : RouterText) (c : Command) → HasLawfulInterfaces r → IsInRange c → HasLawfulInterfaces (after r c)
-after-lawful r Passed h k = h
-after-lawful r Remark h k = h
-after-lawful r (Hostname name line) h k = h
 after-lawful r (Interface name line) h k = All-with_value IsLawfulInterface r.interfaces name _ h (block-lawful r name h)
-after-lawful r (Address name a secondary) h k = All-with_value IsLawfulInterface r.interfaces name _ h (address-lawful name (interface_named r name) a secondary k.0 k.1 (block-lawful r name h))
-after-lawful r (Shutdown name down) h k =
-    let was = block-lawful r name h in
-    All-with_value IsLawfulInterface r.interfaces name _ h (record { has_type = was.has_type; masks = was.masks; bandwidth = was.bandwidth; ospf = was.ospf })
-after-lawful r (Bandwidth name kbits) h k =
-    let was = block-lawful r name h in
-    All-with_value IsLawfulInterface r.interfaces name _ h (record { has_type = was.has_type; masks = was.masks; bandwidth = k; ospf = was.ospf })
-after-lawful r (StaticRoute route) h k = h
-after-lawful r (AccessListOpened name kind) h k = h
-after-lawful r (AccessListLine name kind line) h k = h
-after-lawful r (PrefixLine name line) h k = h
-after-lawful r (CommunityLine name line) h k = h
-after-lawful r (MapOpened name n action) h k = h
-after-lawful r (MapLine name n line) h k = h
-after-lawful r (OspfOpened process) h k = h
-after-lawful r (OspfLine line) h k = h
-after-lawful r (BgpOpened asn) h k = h
-after-lawful r (BgpLine line) h k = h
-after-lawful r (InterfaceOspf name setting) h k =
-    let was = block-lawful r name h in
-    All-with_value IsLawfulInterface r.interfaces name _ h (record { has_type = was.has_type; masks = was.masks; bandwidth = was.bandwidth; ospf = set-lawful _ setting was.ospf k })
-after-lawful r (AccessGroup name list direction) h k = All-with_value IsLawfulInterface r.interfaces name _ h (group-lawful name (interface_named r name) list direction (block-lawful r name h))
+after-lawful r (InterfaceLine name line) h k = All-with_value IsLawfulInterface r.interfaces name _ h (interface_line-lawful name (interface_named r name) line (block-lawful r name h) k)
+after-lawful r c h k = h
 
 -- and its static routes
 after-routes : (r : RouterText) (c : Command) → HasLawfulRoutes r → IsInRange c → HasLawfulRoutes (after r c)
-after-routes r Passed h k = h
-after-routes r Remark h k = h
-after-routes r (Hostname name line) h k = h
-after-routes r (Interface name line) h k = h
-after-routes r (Address name a secondary) h k = h
-after-routes r (Shutdown name down) h k = h
-after-routes r (Bandwidth name kbits) h k = h
 after-routes r (StaticRoute route) h k = All-push (λ (s : Route). IsDistance s.distance) r.static_routes route h k
-after-routes r (AccessListOpened name kind) h k = h
-after-routes r (AccessListLine name kind line) h k = h
-after-routes r (AccessGroup name list direction) h k = h
-after-routes r (PrefixLine name line) h k = h
-after-routes r (CommunityLine name line) h k = h
-after-routes r (MapOpened name n action) h k = h
-after-routes r (MapLine name n line) h k = h
-after-routes r (InterfaceOspf name setting) h k = h
-after-routes r (OspfOpened process) h k = h
-after-routes r (OspfLine line) h k = h
-after-routes r (BgpOpened asn) h k = h
-after-routes r (BgpLine line) h k = h
+after-routes r c h k = h
 
 -- and its OSPF process
 redistributed-lawful : (known : List Redistribution) (line : Redistribution) → All IsRedistribution known → IsRedistribution line → All IsRedistribution (with_redistribution known line)
@@ -199,65 +170,38 @@ lined-lawful None line h k = tt
 lined-lawful (Some p) line h k = process-lawful p line h k
 
 after-ospf : (r : RouterText) (c : Command) → HasLawfulOspf r → IsInRange c → HasLawfulOspf (after r c)
-after-ospf r Passed h k = h
-after-ospf r Remark h k = h
-after-ospf r (Hostname name line) h k = h
-after-ospf r (Interface name line) h k = h
-after-ospf r (Address name a secondary) h k = h
-after-ospf r (Shutdown name down) h k = h
-after-ospf r (Bandwidth name kbits) h k = h
-after-ospf r (StaticRoute route) h k = h
-after-ospf r (AccessListOpened name kind) h k = h
-after-ospf r (AccessListLine name kind line) h k = h
-after-ospf r (AccessGroup name list direction) h k = h
-after-ospf r (PrefixLine name line) h k = h
-after-ospf r (CommunityLine name line) h k = h
-after-ospf r (MapOpened name n action) h k = h
-after-ospf r (MapLine name n line) h k = h
-after-ospf r (InterfaceOspf name setting) h k = h
 after-ospf r (OspfOpened process) h k = opened-lawful r.ospf process h k
 after-ospf r (OspfLine line) h k = lined-lawful r.ospf line h k
-after-ospf r (BgpOpened asn) h k = h
-after-ospf r (BgpLine line) h k = h
+after-ospf r c h k = h
 
 -- and its BGP process
-bgp_line-lawful : (p : BgpProcess) (line : BgpRow) → IsLawfulBgp p → IsLawfulBgp (with_bgp_line p line)
-bgp_line-lawful p (bgp_line.RouterId id) h = record { asn = h.asn; in_order = h.in_order }
-bgp_line-lawful p (bgp_line.Network prefix) h = record { asn = h.asn; in_order = h.in_order }
-bgp_line-lawful p (bgp_line.Neighbor address setting) h = record { asn = h.asn; in_order = placed_in_order neighbor_address _ p.neighbors h.in_order }
-bgp_line-lawful p (bgp_line.RedistributeConnected r) h = record { asn = h.asn; in_order = h.in_order }
-bgp_line-lawful p (bgp_line.RedistributeStatic r) h = record { asn = h.asn; in_order = h.in_order }
-bgp_line-lawful p (bgp_line.RedistributeOspf r) h = record { asn = h.asn; in_order = h.in_order }
+bgp_line-lawful : (p : BgpProcess) (line : BgpRow) → IsLawfulBgp p → IsLawfulBgpLine line → IsLawfulBgp (with_bgp_line p line)
+bgp_line-lawful p (bgp_line.RouterId id) h k = record { asn = h.asn; external_paths = h.external_paths; internal_paths = h.internal_paths; in_order = h.in_order }
+bgp_line-lawful p (bgp_line.MaximumExternalPaths number) h k = record { asn = h.asn; external_paths = k; internal_paths = h.internal_paths; in_order = h.in_order }
+bgp_line-lawful p (bgp_line.MaximumInternalPaths number) h k = record { asn = h.asn; external_paths = h.external_paths; internal_paths = k; in_order = h.in_order }
+bgp_line-lawful p (bgp_line.Network prefix) h k = record { asn = h.asn; external_paths = h.external_paths; internal_paths = h.internal_paths; in_order = h.in_order }
+bgp_line-lawful p (bgp_line.Neighbor address setting) h k = record {
+  asn = h.asn;
+  external_paths = h.external_paths;
+  internal_paths = h.internal_paths;
+  in_order = placed_in_order neighbor_address _ p.neighbors h.in_order;
+}
+bgp_line-lawful p (bgp_line.RedistributeConnected r) h k = record { asn = h.asn; external_paths = h.external_paths; internal_paths = h.internal_paths; in_order = h.in_order }
+bgp_line-lawful p (bgp_line.RedistributeStatic r) h k = record { asn = h.asn; external_paths = h.external_paths; internal_paths = h.internal_paths; in_order = h.in_order }
+bgp_line-lawful p (bgp_line.RedistributeOspf r) h k = record { asn = h.asn; external_paths = h.external_paths; internal_paths = h.internal_paths; in_order = h.in_order }
 
 bgp_opened-lawful : (bgp : Option BgpProcess) (asn : ℕ) → IfSome bgp IsLawfulBgp → IsAsn asn → IsLawfulBgp (bgp_opened bgp asn)
-bgp_opened-lawful None asn h k = record { asn = k; in_order = λ i j d less within. absurd (omega arith) }
+bgp_opened-lawful None asn h k = record { asn = k; external_paths = (omega arith, omega arith); internal_paths = (omega arith, omega arith); in_order = λ i j d less within. absurd (omega arith) }
 bgp_opened-lawful (Some p) asn h k = h
 
-bgp_lined-lawful : (bgp : Option BgpProcess) (line : BgpRow) → IfSome bgp IsLawfulBgp → IfSome (option_map (λ p. with_bgp_line p line) bgp) IsLawfulBgp
-bgp_lined-lawful None line h = tt
-bgp_lined-lawful (Some p) line h = bgp_line-lawful p line h
+bgp_lined-lawful : (bgp : Option BgpProcess) (line : BgpRow) → IfSome bgp IsLawfulBgp → IsLawfulBgpLine line → IfSome (option_map (λ p. with_bgp_line p line) bgp) IsLawfulBgp
+bgp_lined-lawful None line h k = tt
+bgp_lined-lawful (Some p) line h k = bgp_line-lawful p line h k
 
 after-bgp : (r : RouterText) (c : Command) → HasLawfulBgp r → IsInRange c → HasLawfulBgp (after r c)
-after-bgp r Passed h k = h
-after-bgp r Remark h k = h
-after-bgp r (Hostname name line) h k = h
-after-bgp r (Interface name line) h k = h
-after-bgp r (Address name a secondary) h k = h
-after-bgp r (Shutdown name down) h k = h
-after-bgp r (Bandwidth name kbits) h k = h
-after-bgp r (StaticRoute route) h k = h
-after-bgp r (AccessListOpened name kind) h k = h
-after-bgp r (AccessListLine name kind line) h k = h
-after-bgp r (AccessGroup name list direction) h k = h
-after-bgp r (PrefixLine name line) h k = h
-after-bgp r (CommunityLine name line) h k = h
-after-bgp r (MapOpened name n action) h k = h
-after-bgp r (MapLine name n line) h k = h
-after-bgp r (InterfaceOspf name setting) h k = h
-after-bgp r (OspfOpened process) h k = h
-after-bgp r (OspfLine line) h k = h
 after-bgp r (BgpOpened asn) h k = bgp_opened-lawful r.bgp asn h k
-after-bgp r (BgpLine line) h k = bgp_lined-lawful r.bgp line h
+after-bgp r (BgpLine line) h k = bgp_lined-lawful r.bgp line h k
+after-bgp r c h k = h
 
 -- and its lists and route maps, where the command fits the file
 abbrev AreLawfulAccessLists : Lists → Type 0
@@ -280,37 +224,27 @@ prefix_line-lawful l name line h k =
 map-lawful : (r : RouterText) (name : List ℕ) → HasLawfulLists r → IsLawfulMap (route_map_named r name)
 map-lawful r name h = named-or (λ n m. IsLawfulMap m) r.route_maps name _ h.route_maps no_entries_lawful
 
-after-lists : (r : RouterText) (c : Command) → HasLawfulLists r → IsInRange c → FitsFile r c → HasLawfulLists (after r c)
-after-lists r Passed h k f = h
-after-lists r Remark h k f = h
-after-lists r (Hostname name line) h k f = record { access_lists = h.access_lists; prefix_lists = h.prefix_lists; route_maps = h.route_maps }
-after-lists r (Interface name line) h k f = record { access_lists = h.access_lists; prefix_lists = h.prefix_lists; route_maps = h.route_maps }
-after-lists r (Address name a secondary) h k f = record { access_lists = h.access_lists; prefix_lists = h.prefix_lists; route_maps = h.route_maps }
-after-lists r (Shutdown name down) h k f = record { access_lists = h.access_lists; prefix_lists = h.prefix_lists; route_maps = h.route_maps }
-after-lists r (Bandwidth name kbits) h k f = record { access_lists = h.access_lists; prefix_lists = h.prefix_lists; route_maps = h.route_maps }
-after-lists r (StaticRoute route) h k f = record { access_lists = h.access_lists; prefix_lists = h.prefix_lists; route_maps = h.route_maps }
-after-lists r (AccessGroup name list direction) h k f = record { access_lists = h.access_lists; prefix_lists = h.prefix_lists; route_maps = h.route_maps }
-after-lists r (InterfaceOspf name setting) h k f = record { access_lists = h.access_lists; prefix_lists = h.prefix_lists; route_maps = h.route_maps }
-after-lists r (OspfOpened process) h k f = record { access_lists = h.access_lists; prefix_lists = h.prefix_lists; route_maps = h.route_maps }
-after-lists r (OspfLine line) h k f = record { access_lists = h.access_lists; prefix_lists = h.prefix_lists; route_maps = h.route_maps }
-after-lists r (BgpOpened asn) h k f = record { access_lists = h.access_lists; prefix_lists = h.prefix_lists; route_maps = h.route_maps }
-after-lists r (BgpLine line) h k f = record { access_lists = h.access_lists; prefix_lists = h.prefix_lists; route_maps = h.route_maps }
-after-lists r (AccessListOpened name kind) h k f = record {
+list_line-lawful : (r : RouterText) (name : List ℕ) (line : ListRow) → HasLawfulLists r → IsLawfulListLine line → FitsLists r.lists name line
+    → HasLawfulLists (record r { lists = with_list_line r.lists name line })
+list_line-lawful r name (list_line.AccessListOpened kind) h k f = record {
   access_lists = All-with_value (λ n g. IsLawfulAccessList g) r.lists.access_lists name _ h.access_lists (access_list-lawful r.lists name kind h.access_lists);
   prefix_lists = h.prefix_lists;
   route_maps = h.route_maps;
 }
-after-lists r (AccessListLine name kind line) h k f = record {
+list_line-lawful r name (list_line.AccessListLine kind line) h k f = record {
   access_lists = access_list_line-lawful r.lists name kind line h.access_lists k f.0;
   prefix_lists = h.prefix_lists;
   route_maps = h.route_maps;
 }
-after-lists r (PrefixLine name line) h k f = record {
+list_line-lawful r name (list_line.PrefixLine line) h k f = record {
   access_lists = h.access_lists;
   prefix_lists = prefix_line-lawful r.lists name line h.prefix_lists k;
   route_maps = h.route_maps;
 }
-after-lists r (CommunityLine name line) h k f = record { access_lists = h.access_lists; prefix_lists = h.prefix_lists; route_maps = h.route_maps }
+list_line-lawful r name (list_line.CommunityLine line) h k f = record { access_lists = h.access_lists; prefix_lists = h.prefix_lists; route_maps = h.route_maps }
+
+after-lists : (r : RouterText) (c : Command) → HasLawfulLists r → IsInRange c → FitsFile r c → HasLawfulLists (after r c)
+after-lists r (ListLine name line) h k f = list_line-lawful r name line h k f
 after-lists r (MapOpened name n action) h k f = record {
   access_lists = h.access_lists;
   prefix_lists = h.prefix_lists;
@@ -321,6 +255,7 @@ after-lists r (MapLine name n line) h k f = record {
   prefix_lists = h.prefix_lists;
   route_maps = All-with_value (λ s m. IsLawfulMap m) r.route_maps name _ h.route_maps (map_line_lawful (route_map_named r name) n line (map-lawful r name h) k);
 }
+after-lists r c h k f = record { access_lists = h.access_lists; prefix_lists = h.prefix_lists; route_maps = h.route_maps }
 
 -- what a call leaves that makes just this model, or runs out of memory
 pub put-lawful : {T : Type 0} (result : Result T AllocError) (r n : RouterText) (c : Command) → OnOk result (n ≡ after r c)

@@ -8,5 +8,7 @@ pub mod ByNumberLaws
 pub mod AccessListLaws
 pub mod PolicyLaws
 mod SaidLaws
+mod InterfaceLineLaws
+mod EntryLineLaws
 mod ProcessLineLaws
 pub mod LastLineLaws

@@ -1,16 +1,20 @@
 -- What the lines of a process say of it, in OSPF and in BGP: of each value the last line counts that says it, and no other line matters.
 use Rattle.std.proofs.Common.{◌≡◌, ◌∙◌, ap, refl, sym, subst, ℕ, ◌==◌, not, Bool, true, false, cond, filter, List, [], ◌∷◌, ◌++◌, Option, Some, None}
 use Rattle.std.specs.Prelude.{unwrap_or}
-use Rattle.std.specs.List.{cons_option, fold}
+use Rattle.std.specs.List.{cons_option, filter_map, fold}
 use Rattle.std.specs.Option.{option_map, option_map_or, option_or}
 use Rattle.std.proofs.lemmas.Bool.{eqb-true}
 use Rattle.rc_config.specs.LastLine as said
-use Rattle.rc_config.specs.LastLine.{entry_lines, first_said, from_first, is_of_entry, is_of_interface, is_of_neighbor, last_said, model_of, redistributions_from, IsBgpByLines, IsEntryByLines, IsInterfaceByLines, IsModelByLines, IsNeighborByLines, IsProcessByLines, LastLineCounts}
+use Rattle.rc_config.specs.BgpLines as said_of_bgp
+use Rattle.rc_config.specs.BgpLines.{IsBgpByLines, IsNeighborByLines}
+use Rattle.rc_config.specs.OspfLines as said_of_ospf
+use Rattle.rc_config.specs.OspfLines.{redistributions_from, IsProcessByLines}
 use Rattle.rc_config.specs.Bgp as bgp
 use Rattle.rc_config.specs.ByNumber.{with_number}
 use Rattle.rc_config.specs.Named.{named}
 use Rattle.rc_config.specs.Ospf as ospf
 use Rattle.rc_config.specs.Update.{after}
+use Rattle.rc_config.specs.declared.bgp.BgpLine.{BgpLine}
 use Rattle.rc_config.specs.declared.bgp.BgpLine.TheVariants as bgp_line
 use Rattle.rc_config.specs.declared.bgp.BgpProcess.{BgpProcess}
 use Rattle.rc_config.specs.declared.bgp.Neighbor.{Neighbor}
@@ -19,6 +23,7 @@ use Rattle.rc_config.specs.declared.bgp.NeighborSetting.TheVariants as peer
 use Rattle.rc_config.specs.declared.command.Command.{Command}
 use Rattle.rc_config.specs.declared.command.Command.TheVariants as command
 use Rattle.rc_config.specs.declared.interface.Direction.TheVariants.{In, Out}
+use Rattle.rc_config.specs.declared.ospf.OspfLine.{OspfLine}
 use Rattle.rc_config.specs.declared.ospf.OspfLine.TheVariants as ospf_line
 use Rattle.rc_config.specs.declared.ospf.OspfProcess.{OspfProcess}
 use Rattle.rc_config.specs.declared.ospf.RedistributedSource.{RedistributedSource}
@@ -26,7 +31,7 @@ use Rattle.rc_config.specs.declared.ospf.RedistributedSource.TheVariants.{Connec
 use Rattle.rc_config.specs.declared.ospf.Redistribution.{Redistribution}
 use Rattle.rc_config.specs.declared.router_text.RouterText.{RouterText}
 use Rattle.rc_config.proofs.ByNumberLaws.{found_number}
-use Rattle.rc_config.proofs.SaidLaws.{all-in-order, found-placed, kept, last-alone, last-counts, last-or-default, named-said, nothing-more, number-said, opened, own-lines}
+use Rattle.rc_config.proofs.SaidLaws.{add-if, all-in-order, all-in-turn, found-placed, kept, last-alone, last-counts, last-or-default, named-said, nothing-more, number-said, opened}
 
 -- ---- the OSPF process
 abbrev pub process_after : OspfProcess → Command → OspfProcess
@@ -61,29 +66,29 @@ process-number-step r c = ap process_at (process-step r c) ∙ by r.ospf (said.p
     by None (Some n) = ap Some (line-process (ospf.no_lines n) c)
     by (Some p) o = ap Some (line-process p c)
 
-router_id-step : (p : OspfProcess) (c : Command) → (process_after p c).router_id ≡ option_or (said.router_id_said c) p.router_id
-router_id-step p (command.OspfLine (ospf_line.RouterId id)) = refl
-router_id-step p c = refl
+router_id-step : (p : OspfProcess) (l : OspfLine) → (ospf.with_line p l).router_id ≡ option_or (said_of_ospf.router_id_said l) p.router_id
+router_id-step p (ospf_line.RouterId id) = refl
+router_id-step p l = refl
 
-networks-step : (p : OspfProcess) (c : Command) → (process_after p c).networks ≡ p.networks ++ cons_option (said.network_said c) []
-networks-step p (command.OspfLine (ospf_line.Network network)) = refl
-networks-step p c = nothing-more p.networks
+networks-step : (p : OspfProcess) (l : OspfLine) → (ospf.with_line p l).networks ≡ p.networks ++ cons_option (said_of_ospf.network_said l) []
+networks-step p (ospf_line.Network network) = refl
+networks-step p l = nothing-more p.networks
 
-passive_default-step : (p : OspfProcess) (c : Command) → (process_after p c).passive_default ≡ unwrap_or (said.passive_default_said c) p.passive_default
-passive_default-step p (command.OspfLine ospf_line.PassiveDefault) = refl
-passive_default-step p c = refl
+passive_default-step : (p : OspfProcess) (l : OspfLine) → (ospf.with_line p l).passive_default ≡ unwrap_or (said_of_ospf.passive_default_said l) p.passive_default
+passive_default-step p ospf_line.PassiveDefault = refl
+passive_default-step p l = refl
 
-passive-step : (name : List ℕ) (p : OspfProcess) (c : Command) → named (process_after p c).passive name ≡ option_or (said.passive_said name c) (named p.passive name)
-passive-step name p (command.OspfLine (ospf_line.Passive interface passive)) = named-said p.passive interface name passive
-passive-step name p c = refl
+passive-step : (name : List ℕ) (p : OspfProcess) (l : OspfLine) → named (ospf.with_line p l).passive name ≡ option_or (said_of_ospf.passive_said name l) (named p.passive name)
+passive-step name p (ospf_line.Passive interface passive) = named-said p.passive interface name passive
+passive-step name p l = refl
 
-reference_bandwidth-step : (p : OspfProcess) (c : Command) → (process_after p c).reference_bandwidth ≡ unwrap_or (said.reference_bandwidth_said c) p.reference_bandwidth
-reference_bandwidth-step p (command.OspfLine (ospf_line.ReferenceBandwidth mbits)) = refl
-reference_bandwidth-step p c = refl
+reference_bandwidth-step : (p : OspfProcess) (l : OspfLine) → (ospf.with_line p l).reference_bandwidth ≡ unwrap_or (said_of_ospf.reference_bandwidth_said l) p.reference_bandwidth
+reference_bandwidth-step p (ospf_line.ReferenceBandwidth mbits) = refl
+reference_bandwidth-step p l = refl
 
-stub-step : (area : ℕ) (p : OspfProcess) (c : Command) → with_number ospf.area_of area (process_after p c).stub_areas ≡ option_or (said.stub_said area c) (with_number ospf.area_of area p.stub_areas)
-stub-step area p (command.OspfLine (ospf_line.Stub stub)) = number-said ospf.area_of area stub p.stub_areas
-stub-step area p c = refl
+stub-step : (area : ℕ) (p : OspfProcess) (l : OspfLine) → with_number ospf.area_of area (ospf.with_line p l).stub_areas ≡ option_or (said_of_ospf.stub_said area l) (with_number ospf.area_of area p.stub_areas)
+stub-step area p (ospf_line.Stub stub) = number-said ospf.area_of area stub p.stub_areas
+stub-step area p l = refl
 
 -- two sources that are one are the same as any third
 same-as : (a b c : RedistributedSource) → ospf.is_same_source a b ≡ true → ospf.is_same_source a c ≡ ospf.is_same_source b c
@@ -138,27 +143,36 @@ from-source source line (r ∷ known) = by (ospf.is_same_source r.source line.so
         ∙ beside (ospf.is_same_source r.source source) (ospf.is_same_source line.source source) (redistributions_from source known)
         (λ here there. sym other ∙ same-as r.source source line.source here ∙ same-back source line.source ∙ there)
 
-redistribution-step : (source : RedistributedSource) (p : OspfProcess) (c : Command) → redistributions_from source (process_after p c).redistributions ≡ alone (said.redistribution_said source c) (redistributions_from source p.redistributions)
-redistribution-step source p (command.OspfLine (ospf_line.Redistribute line)) = from-source source line p.redistributions
-redistribution-step source p c = refl
+redistribution-step : (source : RedistributedSource) (p : OspfProcess) (l : OspfLine) → redistributions_from source (ospf.with_line p l).redistributions ≡ alone (said_of_ospf.redistribution_said source l) (redistributions_from source p.redistributions)
+redistribution-step source p (ospf_line.Redistribute line) = from-source source line p.redistributions
+redistribution-step source p l = refl
 
-default_information-step : (p : OspfProcess) (c : Command) → (process_after p c).default_information ≡ option_or (said.default_information_said c) p.default_information
-default_information-step p (command.OspfLine (ospf_line.DefaultInformation line)) = refl
-default_information-step p c = refl
+default_information-step : (p : OspfProcess) (l : OspfLine) → (ospf.with_line p l).default_information ≡ option_or (said_of_ospf.default_information_said l) p.default_information
+default_information-step p (ospf_line.DefaultInformation line) = refl
+default_information-step p l = refl
 
-pub process-by-lines : (n : ℕ) (lines : List Command) → IsProcessByLines (fold process_after (ospf.no_lines n) lines) lines
-process-by-lines n lines =
+process-lines : (n : ℕ) (lines : List OspfLine) → IsProcessByLines (fold ospf.with_line (ospf.no_lines n) lines) lines
+process-lines n lines =
     let p = ospf.no_lines n in
     record {
-      router_id = last-counts process_after (λ x. x.router_id) said.router_id_said router_id-step lines p;
-      networks = all-in-order process_after (λ x. x.networks) said.network_said networks-step lines p;
-      passive_default = last-or-default process_after (λ x. x.passive_default) said.passive_default_said passive_default-step lines p;
-      passive = λ name. ap (λ o. unwrap_or o (fold process_after p lines).passive_default) (last-counts process_after (λ x. named x.passive name) (said.passive_said name) (passive-step name) lines p);
-      reference_bandwidth = last-or-default process_after (λ x. x.reference_bandwidth) said.reference_bandwidth_said reference_bandwidth-step lines p;
-      stub = λ area. last-counts process_after (λ x. with_number ospf.area_of area x.stub_areas) (said.stub_said area) (stub-step area) lines p;
-      redistribution = λ source. last-alone process_after (λ x. redistributions_from source x.redistributions) (said.redistribution_said source) (redistribution-step source) lines p refl;
-      default_information = last-counts process_after (λ x. x.default_information) said.default_information_said default_information-step lines p;
+      router_id = last-counts ospf.with_line (λ x. x.router_id) said_of_ospf.router_id_said router_id-step lines p;
+      networks = all-in-order ospf.with_line (λ x. x.networks) said_of_ospf.network_said networks-step lines p;
+      passive_default = last-or-default ospf.with_line (λ x. x.passive_default) said_of_ospf.passive_default_said passive_default-step lines p;
+      passive = λ name. ap (λ o. unwrap_or o (fold ospf.with_line p lines).passive_default) (last-counts ospf.with_line (λ x. named x.passive name) (said_of_ospf.passive_said name) (passive-step name) lines p);
+      reference_bandwidth = last-or-default ospf.with_line (λ x. x.reference_bandwidth) said_of_ospf.reference_bandwidth_said reference_bandwidth-step lines p;
+      stub = λ area. last-counts ospf.with_line (λ x. with_number ospf.area_of area x.stub_areas) (said_of_ospf.stub_said area) (stub-step area) lines p;
+      redistribution = λ source. last-alone ospf.with_line (λ x. redistributions_from source x.redistributions) (said_of_ospf.redistribution_said source) (redistribution-step source) lines p refl;
+      default_information = last-counts ospf.with_line (λ x. x.default_information) said_of_ospf.default_information_said default_information-step lines p;
     }
+
+process_after-step : (p : OspfProcess) (c : Command) → process_after p c ≡ option_map_or (ospf.with_line p) (said.ospf_line_said c) p
+process_after-step p (command.OspfLine line) = refl
+process_after-step p c = refl
+
+pub process-by-lines : (n : ℕ) (lines : List Command) → IsProcessByLines (fold process_after (ospf.no_lines n) lines) (filter_map said.ospf_line_said lines)
+process-by-lines n lines =
+    subst (λ p. IsProcessByLines p (filter_map said.ospf_line_said lines)) (sym (all-in-turn process_after (λ p. p) said.ospf_line_said ospf.with_line process_after-step lines (ospf.no_lines n)))
+    (process-lines n (filter_map said.ospf_line_said lines))
 
 -- ---- the BGP process
 abbrev pub bgp_after : BgpProcess → Command → BgpProcess
@@ -193,30 +207,35 @@ asn-step r c = ap asn_at (bgp-step r c) ∙ by r.bgp (said.asn_said c)
     by None (Some n) = ap Some (line-asn (bgp.no_lines n) c)
     by (Some p) o = ap Some (line-asn p c)
 
-bgp_router_id-step : (p : BgpProcess) (c : Command) → (bgp_after p c).router_id ≡ option_or (said.bgp_router_id_said c) p.router_id
-bgp_router_id-step p (command.BgpLine (bgp_line.RouterId id)) = refl
-bgp_router_id-step p c = refl
+bgp_router_id-step : (p : BgpProcess) (l : BgpLine) → (bgp.with_line p l).router_id ≡ option_or (said_of_bgp.bgp_router_id_said l) p.router_id
+bgp_router_id-step p (bgp_line.RouterId id) = refl
+bgp_router_id-step p l = refl
 
-bgp_networks-step : (p : BgpProcess) (c : Command) → (bgp_after p c).networks ≡ p.networks ++ cons_option (said.bgp_network_said c) []
-bgp_networks-step p (command.BgpLine (bgp_line.Network prefix)) = refl
-bgp_networks-step p c = nothing-more p.networks
+external_paths-step : (p : BgpProcess) (l : BgpLine) → (bgp.with_line p l).maximum_paths.external ≡ unwrap_or (said_of_bgp.external_paths_said l) p.maximum_paths.external
+external_paths-step p (bgp_line.MaximumExternalPaths number) = refl
+external_paths-step p (bgp_line.MaximumInternalPaths number) = refl
+external_paths-step p l = refl
 
-connected-step : (p : BgpProcess) (c : Command) → (bgp_after p c).redistributions.connected ≡ option_or (said.redistributed_connected_said c) p.redistributions.connected
-connected-step p (command.BgpLine (bgp_line.RedistributeConnected line)) = refl
-connected-step p c = refl
+internal_paths-step : (p : BgpProcess) (l : BgpLine) → (bgp.with_line p l).maximum_paths.internal ≡ unwrap_or (said_of_bgp.internal_paths_said l) p.maximum_paths.internal
+internal_paths-step p (bgp_line.MaximumExternalPaths number) = refl
+internal_paths-step p (bgp_line.MaximumInternalPaths number) = refl
+internal_paths-step p l = refl
 
-static_routes-step : (p : BgpProcess) (c : Command) → (bgp_after p c).redistributions.static_routes ≡ option_or (said.redistributed_static_said c) p.redistributions.static_routes
-static_routes-step p (command.BgpLine (bgp_line.RedistributeStatic line)) = refl
-static_routes-step p c = refl
+bgp_networks-step : (p : BgpProcess) (l : BgpLine) → (bgp.with_line p l).networks ≡ p.networks ++ cons_option (said_of_bgp.bgp_network_said l) []
+bgp_networks-step p (bgp_line.Network prefix) = refl
+bgp_networks-step p l = nothing-more p.networks
 
-redistributed_ospf-step : (process : ℕ) (p : BgpProcess) (c : Command) → with_number bgp.process_of process (bgp_after p c).redistributions.ospf ≡ option_or (said.redistributed_ospf_said process c) (with_number bgp.process_of process p.redistributions.ospf)
-redistributed_ospf-step process p (command.BgpLine (bgp_line.RedistributeOspf line)) = number-said bgp.process_of process line p.redistributions.ospf
-redistributed_ospf-step process p c = refl
+connected-step : (p : BgpProcess) (l : BgpLine) → (bgp.with_line p l).redistributions.connected ≡ option_or (said_of_bgp.redistributed_connected_said l) p.redistributions.connected
+connected-step p (bgp_line.RedistributeConnected line) = refl
+connected-step p l = refl
 
--- what is set of a neighbour after one more line about it
-abbrev neighbor_after : Neighbor → Command → Neighbor
-neighbor_after n (command.BgpLine (bgp_line.Neighbor a setting)) = bgp.with_setting n setting
-neighbor_after n _ = n
+static_routes-step : (p : BgpProcess) (l : BgpLine) → (bgp.with_line p l).redistributions.static_routes ≡ option_or (said_of_bgp.redistributed_static_said l) p.redistributions.static_routes
+static_routes-step p (bgp_line.RedistributeStatic line) = refl
+static_routes-step p l = refl
+
+redistributed_ospf-step : (process : ℕ) (p : BgpProcess) (l : BgpLine) → with_number bgp.process_of process (bgp.with_line p l).redistributions.ospf ≡ option_or (said_of_bgp.redistributed_ospf_said process l) (with_number bgp.process_of process p.redistributions.ospf)
+redistributed_ospf-step process p (bgp_line.RedistributeOspf line) = number-said bgp.process_of process line p.redistributions.ospf
+redistributed_ospf-step process p l = refl
 
 setting-address : (n : Neighbor) (s : NeighborSetting) → (bgp.with_setting n s).address ≡ n.address
 setting-address n (peer.RouteMap map In) = refl
@@ -240,109 +259,120 @@ put-neighbor address a s ns =
     by true is = ap (λ m. bgp.with_setting (bgp.neighbor_at ns m) s) (eqb-true a address is)
     by false other = refl
 
-neighbor-step : (address : ℕ) (p : BgpProcess) (c : Command)
-    → bgp.neighbor_at (bgp_after p c).neighbors address ≡ cond (is_of_neighbor address c) (neighbor_after (bgp.neighbor_at p.neighbors address) c) (bgp.neighbor_at p.neighbors address)
-neighbor-step address p (command.BgpLine (bgp_line.Neighbor a s)) = put-neighbor address a s p.neighbors
-neighbor-step address p c = refl
+neighbor-step : (address : ℕ) (p : BgpProcess) (l : BgpLine)
+    → bgp.neighbor_at (bgp.with_line p l).neighbors address ≡ option_map_or (bgp.with_setting (bgp.neighbor_at p.neighbors address)) (said_of_bgp.setting_said address l) (bgp.neighbor_at p.neighbors address)
+neighbor-step address p (bgp_line.Neighbor a s) = put-neighbor address a s p.neighbors ∙ add-if bgp.with_setting (a == address) s (bgp.neighbor_at p.neighbors address)
+neighbor-step address p l = refl
 
-neighbor_remote_as-step : (n : Neighbor) (c : Command) → (neighbor_after n c).remote_as ≡ option_or (said.remote_as_said c) n.remote_as
-neighbor_remote_as-step n (command.BgpLine (bgp_line.Neighbor a (peer.RemoteAs asn))) = refl
-neighbor_remote_as-step n (command.BgpLine (bgp_line.Neighbor a (peer.RouteMap m In))) = refl
-neighbor_remote_as-step n (command.BgpLine (bgp_line.Neighbor a (peer.PrefixList m In))) = refl
-neighbor_remote_as-step n c = refl
+neighbor_remote_as-step : (n : Neighbor) (s : NeighborSetting) → (bgp.with_setting n s).remote_as ≡ option_or (said_of_bgp.remote_as_said s) n.remote_as
+neighbor_remote_as-step n (peer.RemoteAs asn) = refl
+neighbor_remote_as-step n (peer.RouteMap m In) = refl
+neighbor_remote_as-step n (peer.PrefixList m In) = refl
+neighbor_remote_as-step n s = refl
 
-neighbor_update_source-step : (n : Neighbor) (c : Command) → (neighbor_after n c).update_source ≡ option_or (said.update_source_said c) n.update_source
-neighbor_update_source-step n (command.BgpLine (bgp_line.Neighbor a (peer.UpdateSource interface))) = refl
-neighbor_update_source-step n (command.BgpLine (bgp_line.Neighbor a (peer.RouteMap m In))) = refl
-neighbor_update_source-step n (command.BgpLine (bgp_line.Neighbor a (peer.PrefixList m In))) = refl
-neighbor_update_source-step n c = refl
+neighbor_update_source-step : (n : Neighbor) (s : NeighborSetting) → (bgp.with_setting n s).update_source ≡ option_or (said_of_bgp.update_source_said s) n.update_source
+neighbor_update_source-step n (peer.UpdateSource interface) = refl
+neighbor_update_source-step n (peer.RouteMap m In) = refl
+neighbor_update_source-step n (peer.PrefixList m In) = refl
+neighbor_update_source-step n s = refl
 
-neighbor_is_multihop-step : (n : Neighbor) (c : Command) → (neighbor_after n c).is_multihop ≡ unwrap_or (said.multihop_said c) n.is_multihop
-neighbor_is_multihop-step n (command.BgpLine (bgp_line.Neighbor a peer.EbgpMultihop)) = refl
-neighbor_is_multihop-step n (command.BgpLine (bgp_line.Neighbor a (peer.RouteMap m In))) = refl
-neighbor_is_multihop-step n (command.BgpLine (bgp_line.Neighbor a (peer.PrefixList m In))) = refl
-neighbor_is_multihop-step n c = refl
+neighbor_is_multihop-step : (n : Neighbor) (s : NeighborSetting) → (bgp.with_setting n s).is_multihop ≡ unwrap_or (said_of_bgp.multihop_said s) n.is_multihop
+neighbor_is_multihop-step n peer.EbgpMultihop = refl
+neighbor_is_multihop-step n (peer.RouteMap m In) = refl
+neighbor_is_multihop-step n (peer.PrefixList m In) = refl
+neighbor_is_multihop-step n s = refl
 
-neighbor_is_shutdown-step : (n : Neighbor) (c : Command) → (neighbor_after n c).is_shutdown ≡ unwrap_or (said.neighbor_shutdown_said c) n.is_shutdown
-neighbor_is_shutdown-step n (command.BgpLine (bgp_line.Neighbor a peer.Shutdown)) = refl
-neighbor_is_shutdown-step n (command.BgpLine (bgp_line.Neighbor a (peer.RouteMap m In))) = refl
-neighbor_is_shutdown-step n (command.BgpLine (bgp_line.Neighbor a (peer.PrefixList m In))) = refl
-neighbor_is_shutdown-step n c = refl
+neighbor_is_shutdown-step : (n : Neighbor) (s : NeighborSetting) → (bgp.with_setting n s).is_shutdown ≡ unwrap_or (said_of_bgp.neighbor_shutdown_said s) n.is_shutdown
+neighbor_is_shutdown-step n peer.Shutdown = refl
+neighbor_is_shutdown-step n (peer.RouteMap m In) = refl
+neighbor_is_shutdown-step n (peer.PrefixList m In) = refl
+neighbor_is_shutdown-step n s = refl
 
-neighbor_next_hop_self-step : (n : Neighbor) (c : Command) → (neighbor_after n c).next_hop_self ≡ unwrap_or (said.next_hop_self_said c) n.next_hop_self
-neighbor_next_hop_self-step n (command.BgpLine (bgp_line.Neighbor a peer.NextHopSelf)) = refl
-neighbor_next_hop_self-step n (command.BgpLine (bgp_line.Neighbor a (peer.RouteMap m In))) = refl
-neighbor_next_hop_self-step n (command.BgpLine (bgp_line.Neighbor a (peer.PrefixList m In))) = refl
-neighbor_next_hop_self-step n c = refl
+neighbor_next_hop_self-step : (n : Neighbor) (s : NeighborSetting) → (bgp.with_setting n s).next_hop_self ≡ unwrap_or (said_of_bgp.next_hop_self_said s) n.next_hop_self
+neighbor_next_hop_self-step n peer.NextHopSelf = refl
+neighbor_next_hop_self-step n (peer.RouteMap m In) = refl
+neighbor_next_hop_self-step n (peer.PrefixList m In) = refl
+neighbor_next_hop_self-step n s = refl
 
-neighbor_default_originate-step : (n : Neighbor) (c : Command) → (neighbor_after n c).default_originate ≡ unwrap_or (said.default_originate_said c) n.default_originate
-neighbor_default_originate-step n (command.BgpLine (bgp_line.Neighbor a peer.DefaultOriginate)) = refl
-neighbor_default_originate-step n (command.BgpLine (bgp_line.Neighbor a (peer.RouteMap m In))) = refl
-neighbor_default_originate-step n (command.BgpLine (bgp_line.Neighbor a (peer.PrefixList m In))) = refl
-neighbor_default_originate-step n c = refl
+neighbor_default_originate-step : (n : Neighbor) (s : NeighborSetting) → (bgp.with_setting n s).default_originate ≡ unwrap_or (said_of_bgp.default_originate_said s) n.default_originate
+neighbor_default_originate-step n peer.DefaultOriginate = refl
+neighbor_default_originate-step n (peer.RouteMap m In) = refl
+neighbor_default_originate-step n (peer.PrefixList m In) = refl
+neighbor_default_originate-step n s = refl
 
-neighbor_send_community-step : (n : Neighbor) (c : Command) → (neighbor_after n c).send_community ≡ unwrap_or (said.send_community_said c) n.send_community
-neighbor_send_community-step n (command.BgpLine (bgp_line.Neighbor a peer.SendCommunity)) = refl
-neighbor_send_community-step n (command.BgpLine (bgp_line.Neighbor a (peer.RouteMap m In))) = refl
-neighbor_send_community-step n (command.BgpLine (bgp_line.Neighbor a (peer.PrefixList m In))) = refl
-neighbor_send_community-step n c = refl
+neighbor_send_community-step : (n : Neighbor) (s : NeighborSetting) → (bgp.with_setting n s).send_community ≡ unwrap_or (said_of_bgp.send_community_said s) n.send_community
+neighbor_send_community-step n peer.SendCommunity = refl
+neighbor_send_community-step n (peer.RouteMap m In) = refl
+neighbor_send_community-step n (peer.PrefixList m In) = refl
+neighbor_send_community-step n s = refl
 
-neighbor_weight-step : (n : Neighbor) (c : Command) → (neighbor_after n c).weight ≡ unwrap_or (said.neighbor_weight_said c) n.weight
-neighbor_weight-step n (command.BgpLine (bgp_line.Neighbor a (peer.Weight weight))) = refl
-neighbor_weight-step n (command.BgpLine (bgp_line.Neighbor a (peer.RouteMap m In))) = refl
-neighbor_weight-step n (command.BgpLine (bgp_line.Neighbor a (peer.PrefixList m In))) = refl
-neighbor_weight-step n c = refl
+neighbor_weight-step : (n : Neighbor) (s : NeighborSetting) → (bgp.with_setting n s).weight ≡ unwrap_or (said_of_bgp.neighbor_weight_said s) n.weight
+neighbor_weight-step n (peer.Weight weight) = refl
+neighbor_weight-step n (peer.RouteMap m In) = refl
+neighbor_weight-step n (peer.PrefixList m In) = refl
+neighbor_weight-step n s = refl
 
-neighbor_map_in-step : (n : Neighbor) (c : Command) → (neighbor_after n c).map_in ≡ option_or (said.map_in_said c) n.map_in
-neighbor_map_in-step n (command.BgpLine (bgp_line.Neighbor a (peer.RouteMap m In))) = refl
-neighbor_map_in-step n (command.BgpLine (bgp_line.Neighbor a (peer.PrefixList m In))) = refl
-neighbor_map_in-step n c = refl
+neighbor_map_in-step : (n : Neighbor) (s : NeighborSetting) → (bgp.with_setting n s).map_in ≡ option_or (said_of_bgp.map_in_said s) n.map_in
+neighbor_map_in-step n (peer.RouteMap m In) = refl
+neighbor_map_in-step n (peer.PrefixList m In) = refl
+neighbor_map_in-step n s = refl
 
-neighbor_map_out-step : (n : Neighbor) (c : Command) → (neighbor_after n c).map_out ≡ option_or (said.map_out_said c) n.map_out
-neighbor_map_out-step n (command.BgpLine (bgp_line.Neighbor a (peer.RouteMap m Out))) = refl
-neighbor_map_out-step n (command.BgpLine (bgp_line.Neighbor a (peer.RouteMap m In))) = refl
-neighbor_map_out-step n (command.BgpLine (bgp_line.Neighbor a (peer.PrefixList m In))) = refl
-neighbor_map_out-step n c = refl
+neighbor_map_out-step : (n : Neighbor) (s : NeighborSetting) → (bgp.with_setting n s).map_out ≡ option_or (said_of_bgp.map_out_said s) n.map_out
+neighbor_map_out-step n (peer.RouteMap m Out) = refl
+neighbor_map_out-step n (peer.RouteMap m In) = refl
+neighbor_map_out-step n (peer.PrefixList m In) = refl
+neighbor_map_out-step n s = refl
 
-neighbor_list_in-step : (n : Neighbor) (c : Command) → (neighbor_after n c).list_in ≡ option_or (said.list_in_said c) n.list_in
-neighbor_list_in-step n (command.BgpLine (bgp_line.Neighbor a (peer.PrefixList m In))) = refl
-neighbor_list_in-step n (command.BgpLine (bgp_line.Neighbor a (peer.RouteMap m In))) = refl
-neighbor_list_in-step n c = refl
+neighbor_list_in-step : (n : Neighbor) (s : NeighborSetting) → (bgp.with_setting n s).list_in ≡ option_or (said_of_bgp.list_in_said s) n.list_in
+neighbor_list_in-step n (peer.PrefixList m In) = refl
+neighbor_list_in-step n (peer.RouteMap m In) = refl
+neighbor_list_in-step n s = refl
 
-neighbor_list_out-step : (n : Neighbor) (c : Command) → (neighbor_after n c).list_out ≡ option_or (said.list_out_said c) n.list_out
-neighbor_list_out-step n (command.BgpLine (bgp_line.Neighbor a (peer.PrefixList m Out))) = refl
-neighbor_list_out-step n (command.BgpLine (bgp_line.Neighbor a (peer.RouteMap m In))) = refl
-neighbor_list_out-step n (command.BgpLine (bgp_line.Neighbor a (peer.PrefixList m In))) = refl
-neighbor_list_out-step n c = refl
+neighbor_list_out-step : (n : Neighbor) (s : NeighborSetting) → (bgp.with_setting n s).list_out ≡ option_or (said_of_bgp.list_out_said s) n.list_out
+neighbor_list_out-step n (peer.PrefixList m Out) = refl
+neighbor_list_out-step n (peer.RouteMap m In) = refl
+neighbor_list_out-step n (peer.PrefixList m In) = refl
+neighbor_list_out-step n s = refl
 
-neighbor-by-lines : (address : ℕ) (lines : List Command) → IsNeighborByLines (fold neighbor_after (bgp.no_settings address) lines) lines
+neighbor-by-lines : (address : ℕ) (lines : List NeighborSetting) → IsNeighborByLines (fold bgp.with_setting (bgp.no_settings address) lines) lines
 neighbor-by-lines address lines =
     let n = bgp.no_settings address in
     record {
-      remote_as = last-counts neighbor_after (λ x. x.remote_as) said.remote_as_said neighbor_remote_as-step lines n;
-      update_source = last-counts neighbor_after (λ x. x.update_source) said.update_source_said neighbor_update_source-step lines n;
-      is_multihop = last-or-default neighbor_after (λ x. x.is_multihop) said.multihop_said neighbor_is_multihop-step lines n;
-      is_shutdown = last-or-default neighbor_after (λ x. x.is_shutdown) said.neighbor_shutdown_said neighbor_is_shutdown-step lines n;
-      next_hop_self = last-or-default neighbor_after (λ x. x.next_hop_self) said.next_hop_self_said neighbor_next_hop_self-step lines n;
-      default_originate = last-or-default neighbor_after (λ x. x.default_originate) said.default_originate_said neighbor_default_originate-step lines n;
-      send_community = last-or-default neighbor_after (λ x. x.send_community) said.send_community_said neighbor_send_community-step lines n;
-      weight = last-or-default neighbor_after (λ x. x.weight) said.neighbor_weight_said neighbor_weight-step lines n;
-      map_in = last-counts neighbor_after (λ x. x.map_in) said.map_in_said neighbor_map_in-step lines n;
-      map_out = last-counts neighbor_after (λ x. x.map_out) said.map_out_said neighbor_map_out-step lines n;
-      list_in = last-counts neighbor_after (λ x. x.list_in) said.list_in_said neighbor_list_in-step lines n;
-      list_out = last-counts neighbor_after (λ x. x.list_out) said.list_out_said neighbor_list_out-step lines n;
+      remote_as = last-counts bgp.with_setting (λ x. x.remote_as) said_of_bgp.remote_as_said neighbor_remote_as-step lines n;
+      update_source = last-counts bgp.with_setting (λ x. x.update_source) said_of_bgp.update_source_said neighbor_update_source-step lines n;
+      is_multihop = last-or-default bgp.with_setting (λ x. x.is_multihop) said_of_bgp.multihop_said neighbor_is_multihop-step lines n;
+      is_shutdown = last-or-default bgp.with_setting (λ x. x.is_shutdown) said_of_bgp.neighbor_shutdown_said neighbor_is_shutdown-step lines n;
+      next_hop_self = last-or-default bgp.with_setting (λ x. x.next_hop_self) said_of_bgp.next_hop_self_said neighbor_next_hop_self-step lines n;
+      default_originate = last-or-default bgp.with_setting (λ x. x.default_originate) said_of_bgp.default_originate_said neighbor_default_originate-step lines n;
+      send_community = last-or-default bgp.with_setting (λ x. x.send_community) said_of_bgp.send_community_said neighbor_send_community-step lines n;
+      weight = last-or-default bgp.with_setting (λ x. x.weight) said_of_bgp.neighbor_weight_said neighbor_weight-step lines n;
+      map_in = last-counts bgp.with_setting (λ x. x.map_in) said_of_bgp.map_in_said neighbor_map_in-step lines n;
+      map_out = last-counts bgp.with_setting (λ x. x.map_out) said_of_bgp.map_out_said neighbor_map_out-step lines n;
+      list_in = last-counts bgp.with_setting (λ x. x.list_in) said_of_bgp.list_in_said neighbor_list_in-step lines n;
+      list_out = last-counts bgp.with_setting (λ x. x.list_out) said_of_bgp.list_out_said neighbor_list_out-step lines n;
     }
 
-pub bgp-by-lines : (n : ℕ) (lines : List Command) → IsBgpByLines (fold bgp_after (bgp.no_lines n) lines) lines
-bgp-by-lines n lines =
+bgp-lines : (n : ℕ) (lines : List BgpLine) → IsBgpByLines (fold bgp.with_line (bgp.no_lines n) lines) lines
+bgp-lines n lines =
     let p = bgp.no_lines n in
     record {
-      router_id = last-counts bgp_after (λ x. x.router_id) said.bgp_router_id_said bgp_router_id-step lines p;
-      networks = all-in-order bgp_after (λ x. x.networks) said.bgp_network_said bgp_networks-step lines p;
-      neighbor = λ address. subst (λ x. IsNeighborByLines x (filter (is_of_neighbor address) lines))
-          (sym (own-lines bgp_after (λ x. bgp.neighbor_at x.neighbors address) (is_of_neighbor address) neighbor_after (neighbor-step address) lines p))
-          (neighbor-by-lines address (filter (is_of_neighbor address) lines));
-      connected = last-counts bgp_after (λ x. x.redistributions.connected) said.redistributed_connected_said connected-step lines p;
-      static_routes = last-counts bgp_after (λ x. x.redistributions.static_routes) said.redistributed_static_said static_routes-step lines p;
-      ospf = λ process. last-counts bgp_after (λ x. with_number bgp.process_of process x.redistributions.ospf) (said.redistributed_ospf_said process) (redistributed_ospf-step process) lines p;
+      router_id = last-counts bgp.with_line (λ x. x.router_id) said_of_bgp.bgp_router_id_said bgp_router_id-step lines p;
+      external_paths = last-or-default bgp.with_line (λ x. x.maximum_paths.external) said_of_bgp.external_paths_said external_paths-step lines p;
+      internal_paths = last-or-default bgp.with_line (λ x. x.maximum_paths.internal) said_of_bgp.internal_paths_said internal_paths-step lines p;
+      networks = all-in-order bgp.with_line (λ x. x.networks) said_of_bgp.bgp_network_said bgp_networks-step lines p;
+      neighbor = λ address. subst (λ x. IsNeighborByLines x (filter_map (said_of_bgp.setting_said address) lines))
+          (sym (all-in-turn bgp.with_line (λ x. bgp.neighbor_at x.neighbors address) (said_of_bgp.setting_said address) bgp.with_setting (neighbor-step address) lines p))
+          (neighbor-by-lines address (filter_map (said_of_bgp.setting_said address) lines));
+      connected = last-counts bgp.with_line (λ x. x.redistributions.connected) said_of_bgp.redistributed_connected_said connected-step lines p;
+      static_routes = last-counts bgp.with_line (λ x. x.redistributions.static_routes) said_of_bgp.redistributed_static_said static_routes-step lines p;
+      ospf = λ process. last-counts bgp.with_line (λ x. with_number bgp.process_of process x.redistributions.ospf) (said_of_bgp.redistributed_ospf_said process) (redistributed_ospf-step process) lines p;
     }
+
+bgp_after-step : (p : BgpProcess) (c : Command) → bgp_after p c ≡ option_map_or (bgp.with_line p) (said.bgp_line_said c) p
+bgp_after-step p (command.BgpLine line) = refl
+bgp_after-step p c = refl
+
+pub bgp-by-lines : (n : ℕ) (lines : List Command) → IsBgpByLines (fold bgp_after (bgp.no_lines n) lines) (filter_map said.bgp_line_said lines)
+bgp-by-lines n lines =
+    subst (λ p. IsBgpByLines p (filter_map said.bgp_line_said lines)) (sym (all-in-turn bgp_after (λ p. p) said.bgp_line_said bgp.with_line bgp_after-step lines (bgp.no_lines n)))
+    (bgp-lines n (filter_map said.bgp_line_said lines))

@@ -1,5 +1,5 @@
 -- What a fold over lines leaves of a value, by what one line does to it.
-use Rattle.std.proofs.Common.{◌≡◌, ◌∙◌, ap, refl, sym, subst, ℕ, ◌==◌, Bool, true, false, cond, filter, List, [], ◌∷◌, ◌++◌, append-nil, append_assoc, nat_lt, Option, Some, None, arith}
+use Rattle.std.proofs.Common.{◌≡◌, ◌∙◌, ap, refl, sym, subst, ℕ, ◌==◌, Bool, true, false, cond, List, [], ◌∷◌, ◌++◌, append-nil, append_assoc, nat_lt, Option, Some, None, arith}
 use Rattle.std.specs.Prelude.{IfSome, is_some, unwrap_or}
 use Rattle.std.specs.List.{cons_option, filter_map, flat_map, fold, last_or}
 use Rattle.std.specs.Option.{option_map, option_map_or, option_or}
@@ -8,7 +8,7 @@ use Rattle.std.proofs.lemmas.Bool.{eqb-true}
 use Rattle.std.proofs.lemmas.Bool.Decides.{nat_tests}
 use Rattle.rc_base.specs.Name.{same_name}
 use Rattle.rc_config.specs.ByNumber.{placed, with_number}
-use Rattle.rc_config.specs.LastLine.{first_said, from_first, last_said}
+use Rattle.rc_config.specs.Said.{first_said, from_first, last_said}
 use Rattle.rc_config.specs.Named.{named, with_value}
 
 same_some : {V : Type 0} (v d e : V) (vs : List V) → unwrap_or (last_or (Some v) vs) d ≡ unwrap_or (last_or (Some v) vs) e
@@ -103,16 +103,14 @@ module _ {R L : Type 0} (step : R → L → R) where
   last-alone {V} get says h lines r none =
       all-in-turn get says (λ p v. v ∷ []) h lines r ∙ ap (λ vs. fold (λ (p : List V) v. v ∷ []) vs (filter_map says lines)) none ∙ one-alone None (filter_map says lines)
 
-  -- where only its own lines change a part, it is what these make of it
-  own-step : {P : Type 0} (add : P → L → P) (own : Bool) (l : L) (p : P) (lines : List L) → fold add (cond own (add p l) p) lines ≡ fold add p (cond own (l ∷ lines) lines)
-  own-step add true l p lines = refl
-  own-step add false l p lines = refl
+-- what is added where a test passes
+pub add-if : {P V : Type 0} (add : P → V → P) (b : Bool) (v : V) (p : P) → cond b (add p v) p ≡ option_map_or (add p) (cond b (Some v) None) p
+add-if add true v p = refl
+add-if add false v p = refl
 
-  pub own-lines : {P : Type 0} (part : R → P) (own : L → Bool) (add : P → L → P) → ((r : R) (l : L) → part (step r l) ≡ cond (own l) (add (part r) l) (part r))
-      → (lines : List L) (r : R) → part (fold step r lines) ≡ fold add (part r) (filter own lines)
-  own-lines part own add h [] r = refl
-  own-lines part own add h (l ∷ lines) r =
-      own-lines part own add h lines (step r l) ∙ ap (λ p. fold add p (filter own lines)) (h r l) ∙ own-step add (own l) l (part r) (filter own lines)
+pub either-way : {P : Type 0} (b : Bool) (p : P) → cond b p p ≡ p
+either-way true p = refl
+either-way false p = refl
 
 -- a block that is opened: one that is there stays
 abbrev pub opened : {O P : Type 0} → (O → P) → Option P → Option O → Option P

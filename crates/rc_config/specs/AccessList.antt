@@ -7,6 +7,8 @@ use Rattle.rc_config.specs.declared.access_list.AccessList.{AccessList}
 use Rattle.rc_config.specs.declared.access_list.AccessListKind.{AccessListKind}
 use Rattle.rc_config.specs.declared.access_list.AccessListKind.TheVariants.{Standard, Extended}
 use Rattle.rc_config.specs.declared.access_list.AccessListLine.{AccessListLine}
+use Rattle.rc_config.specs.declared.access_list.FurtherTest.{FurtherTest}
+use Rattle.rc_config.specs.declared.access_list.FurtherTest.TheVariants as further
 use Rattle.rc_config.specs.declared.access_list.PortTest.{PortTest}
 use Rattle.rc_config.specs.declared.access_list.PortTest.TheVariants as port
 use Rattle.rc_config.specs.declared.access_list.ProtocolTest.{ProtocolTest}
@@ -22,7 +24,7 @@ host_address a = record { addr = a; wildcard = 0 }
 
 -- a line of a standard list tests the source alone
 abbrev pub standard_line : ℕ → Action → AddressTest → AccessListLine
-standard_line n a source = record { sequence = n; action = a; protocol = protocol.Any; source = source; source_port = port.Any; destination = any_address; destination_port = port.Any }
+standard_line n a source = record { sequence = n; action = a; protocol = protocol.Any; source = source; source_port = port.Any; destination = any_address; destination_port = port.Any; further = further.Any }
 
 -- a list without lines
 abbrev pub no_lines : AccessListKind → AccessList
@@ -66,18 +68,26 @@ IsPortTest (port.NotEqual ports) = Unit {0}
 IsPortTest (port.Below n) = Unit {0}
 IsPortTest (port.Above n) = Unit {0}
 
+-- tcp (6) has the bits ACK and RST (RFC 9293 s.3.1), icmp (1) has types and codes (RFC 792)
+abbrev pub IsFurtherTestOf : ProtocolTest → FurtherTest → Type 0
+IsFurtherTestOf p further.Any = Unit {0}
+IsFurtherTestOf p further.Established = p ≡ protocol.Is 6
+IsFurtherTestOf p (further.Icmp icmp_type code) = p ≡ protocol.Is 1
+
 -- a line of a standard list tests its source alone
 abbrev pub IsOfKind : AccessListKind → AccessListLine → Type 0
 IsOfKind Standard l = l ≡ standard_line l.sequence l.action l.source
 IsOfKind Extended l = Unit {0}
 
--- a line of a list of this kind: ports are tested only where the protocol is tcp or udp
+-- a line of a list of this kind: ports are tested only where the protocol is tcp or udp, `established` only where it is
+-- tcp, an ICMP type only where it is icmp
 pub record IsLawfulLine (kind : AccessListKind) (l : AccessListLine) : Type 0 where
   pub sequence : IsSequence l.sequence
   pub of_kind : IsOfKind kind l
   pub source_port : IsPortTest l.source_port
   pub destination_port : IsPortTest l.destination_port
   pub no_ports : has_ports l.protocol ≡ false → (l.source_port ≡ port.Any) × (l.destination_port ≡ port.Any)
+  pub further : IsFurtherTestOf l.protocol l.further
 
 -- lines by rising number, each lawful for the list's kind
 pub record IsLawfulAccessList (f : AccessList) : Type 0 where

@@ -1,20 +1,23 @@
 -- Worked cases of access lists, each by computation.
 use Rattle.std.specs.Prelude.{◌≡◌, ℕ, ◌+◌, ◌*◌, true, false, List, [], ◌∷◌, fold, map, replicate, Some, None, codes, refl}
 use Rattle.rc_config.specs.declared.command.Command.{Command}
-use Rattle.rc_config.specs.declared.command.Command.TheVariants.{Remark, Hostname, Interface, Shutdown, AccessListOpened, AccessGroup}
+use Rattle.rc_config.specs.declared.command.Command.TheVariants.{Remark, Hostname, Interface, InterfaceLine, ListLine}
 use Rattle.rc_config.specs.declared.command.Command.TheVariants as command
+use Rattle.rc_config.specs.declared.lists.ListLine.TheVariants as list_line
+use Rattle.rc_config.specs.declared.interface.InterfaceLine.TheVariants as interface_line
 use Rattle.rc_config.specs.declared.interface.Direction.TheVariants.{In, Out}
 use Rattle.rc_config.specs.declared.access_list.AccessList.{AccessList}
 use Rattle.rc_config.specs.declared.access_list.Action.TheVariants.{Permit, Deny}
 use Rattle.rc_config.specs.declared.access_list.AccessListKind.TheVariants.{Standard, Extended}
 use Rattle.rc_config.specs.declared.access_list.AccessListLine.{AccessListLine}
+use Rattle.rc_config.specs.declared.access_list.FurtherTest.TheVariants as further
 use Rattle.rc_config.specs.declared.access_list.ProtocolTest.TheVariants.{Any, Is}
 use Rattle.rc_config.specs.declared.router_text.RouterText.{RouterText}
 use Rattle.rc_config.specs.PortLists.{ports_of}
 use Rattle.rc_config.specs.Interface.{fresh}
 use Rattle.rc_config.specs.Named.{named}
 use Rattle.rc_config.specs.Update.{after, empty, interface_named}
-use Rattle.rc_config.specs.AccessList.{any_address, host_address, standard_line, no_lines, with_line, has_sequence, last_sequence, has_ports}
+use Rattle.rc_config.specs.AccessList.{any_address, host_address, standard_line, no_lines, with_line, has_sequence, last_sequence, has_ports, IsFurtherTestOf}
 
 -- a line of this number for the address 10.0.0.n
 abbrev line : ℕ → AccessListLine
@@ -77,6 +80,16 @@ icmp_has_none = refl
 pub ip_has_none : has_ports Any ≡ false
 ip_has_none = refl
 
+-- a line of a standard list tests nothing further, `established` stands in a line of tcp, and a type in one of icmp
+pub no_further_test : (line 10).further ≡ further.Any
+no_further_test = refl
+
+pub established_in_tcp : IsFurtherTestOf (Is 6) further.Established
+established_in_tcp = refl
+
+pub type_in_icmp : IsFurtherTestOf (Is 1) (further.Icmp 3 (Some 255))
+type_in_icmp = refl
+
 -- `any` is 0.0.0.0 255.255.255.255
 pub any_by_hand : any_address ≡ record { addr = 0; wildcard = 4294967295 }
 any_by_hand = refl
@@ -93,14 +106,14 @@ port = codes "Ethernet0"
 
 -- a line of this number of the list WEB
 abbrev add : ℕ → Command
-add n = command.AccessListLine web Standard (line n)
+add n = command.ListLine web (list_line.AccessListLine Standard (line n))
 
 -- a list that is opened is there, without lines
-pub opened : (file (AccessListOpened web Extended ∷ [])).lists.access_lists ≡ (web, no_lines Extended) ∷ []
+pub opened : (file (ListLine web (list_line.AccessListOpened Extended) ∷ [])).lists.access_lists ≡ (web, no_lines Extended) ∷ []
 opened = refl
 
 -- opened again it keeps its lines
-pub opened_twice : (file (AccessListOpened web Standard ∷ add 10 ∷ AccessListOpened web Standard ∷ add 20 ∷ [])).lists.access_lists ≡ (web, list_of (line 10 ∷ line 20 ∷ [])) ∷ []
+pub opened_twice : (file (ListLine web (list_line.AccessListOpened Standard) ∷ add 10 ∷ ListLine web (list_line.AccessListOpened Standard) ∷ add 20 ∷ [])).lists.access_lists ≡ (web, list_of (line 10 ∷ line 20 ∷ [])) ∷ []
 opened_twice = refl
 
 -- a line makes a list that isn't there, and lines stand by number
@@ -108,22 +121,22 @@ pub made_by_a_line : (file (add 20 ∷ add 10 ∷ [])).lists.access_lists ≡ (w
 made_by_a_line = refl
 
 -- lists stand in the order of first mention, and a line of one leaves the others
-pub first_mention : (file (add 10 ∷ AccessListOpened (codes "5") Extended ∷ add 20 ∷ [])).lists.access_lists ≡ (web, list_of (line 10 ∷ line 20 ∷ [])) ∷ (codes "5", no_lines Extended) ∷ []
+pub first_mention : (file (add 10 ∷ ListLine (codes "5") (list_line.AccessListOpened Extended) ∷ add 20 ∷ [])).lists.access_lists ≡ (web, list_of (line 10 ∷ line 20 ∷ [])) ∷ (codes "5", no_lines Extended) ∷ []
 first_mention = refl
 
 -- a list is there by its own lines alone: none is that an interface names, and none of which there is only a remark
-pub named_alone : (file (Interface port 1 ∷ AccessGroup port web In ∷ Remark ∷ [])).lists.access_lists ≡ []
+pub named_alone : (file (Interface port 1 ∷ InterfaceLine port (interface_line.AccessGroup web In) ∷ Remark ∷ [])).lists.access_lists ≡ []
 named_alone = refl
 
 -- no other command takes a list away
-pub lists_left : named (file (add 10 ∷ Hostname web 1 ∷ Interface port 2 ∷ AccessGroup port web In ∷ Shutdown port true ∷ Remark ∷ [])).lists.access_lists web ≡ Some (list_of (line 10 ∷ []))
+pub lists_left : named (file (add 10 ∷ Hostname web 1 ∷ Interface port 2 ∷ InterfaceLine port (interface_line.AccessGroup web In) ∷ InterfaceLine port (interface_line.Shutdown true) ∷ Remark ∷ [])).lists.access_lists web ≡ Some (list_of (line 10 ∷ []))
 lists_left = refl
 
 -- the later line of a direction counts, and each direction has a list of its own
-pub later_group : interface_named (file (Interface port 1 ∷ AccessGroup port (codes "5") In ∷ AccessGroup port (codes "6") Out ∷ AccessGroup port web In ∷ [])) port
+pub later_group : interface_named (file (Interface port 1 ∷ InterfaceLine port (interface_line.AccessGroup (codes "5") In) ∷ InterfaceLine port (interface_line.AccessGroup (codes "6") Out) ∷ InterfaceLine port (interface_line.AccessGroup web In) ∷ [])) port
     ≡ record fresh { access_group_in = Some web; access_group_out = Some (codes "6") }
 later_group = refl
 
 -- an interface that is opened again keeps its lists
-pub group_left : interface_named (file (Interface port 1 ∷ AccessGroup port web Out ∷ Interface port 3 ∷ [])) port ≡ record fresh { access_group_out = Some web }
+pub group_left : interface_named (file (Interface port 1 ∷ InterfaceLine port (interface_line.AccessGroup web Out) ∷ Interface port 3 ∷ [])) port ≡ record fresh { access_group_out = Some web }
 group_left = refl

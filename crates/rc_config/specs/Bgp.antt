@@ -5,6 +5,7 @@ use Rattle.rc_config.specs.declared.bgp.BgpLine.{BgpLine}
 use Rattle.rc_config.specs.declared.bgp.BgpLine.TheVariants as line
 use Rattle.rc_config.specs.declared.bgp.BgpProcess.{BgpProcess}
 use Rattle.rc_config.specs.declared.bgp.BgpRedistributions.{BgpRedistributions}
+use Rattle.rc_config.specs.declared.bgp.MaximumPaths.{MaximumPaths}
 use Rattle.rc_config.specs.declared.bgp.Neighbor.{Neighbor}
 use Rattle.rc_config.specs.declared.bgp.NeighborSetting.{NeighborSetting}
 use Rattle.rc_config.specs.declared.bgp.NeighborSetting.TheVariants.{RemoteAs, UpdateSource, EbgpMultihop, Shutdown, NextHopSelf, DefaultOriginate, SendCommunity, Weight, RouteMap, PrefixList}
@@ -72,14 +73,20 @@ process_of o = o.process
 abbrev pub no_redistributions : BgpRedistributions
 no_redistributions = record { connected = None; static_routes = None; ospf = [] }
 
+-- one path of a prefix, external or internal
+abbrev pub one_path : MaximumPaths
+one_path = record { external = 1; internal = 1 }
+
 -- a process with no line in its block
 abbrev pub no_lines : ℕ → BgpProcess
-no_lines asn = record { asn = asn; router_id = None; networks = []; neighbors = []; redistributions = no_redistributions }
+no_lines asn = record { asn = asn; router_id = None; maximum_paths = one_path; networks = []; neighbors = []; redistributions = no_redistributions }
 
 -- The process with one more line. A `network` line goes behind the others, and any other counts in place of an earlier one; so do a
 -- `neighbor` line in place of one about the same neighbour, and a `redistribute` line in place of one of the same source.
 abbrev pub with_line : BgpProcess → BgpLine → BgpProcess
 with_line p (line.RouterId id) = record p { router_id = Some id }
+with_line p (line.MaximumExternalPaths number) = record p { maximum_paths = record p.maximum_paths { external = number } }
+with_line p (line.MaximumInternalPaths number) = record p { maximum_paths = record p.maximum_paths { internal = number } }
 with_line p (line.Network prefix) = record p { networks = p.networks ++ prefix ∷ [] }
 with_line p (line.Neighbor address setting) = record p { neighbors = with_neighbor p.neighbors address setting }
 with_line p (line.RedistributeConnected r) = record p { redistributions = record p.redistributions { connected = Some r } }
@@ -90,7 +97,19 @@ with_line p (line.RedistributeOspf r) = record p { redistributions = record p.re
 abbrev pub IsAsn : ℕ → Type 0
 IsAsn asn = 1 ≤ asn
 
--- the number of the AS is in range, and neighbours stand by address, each once
+-- how many paths of a prefix a line may allow
+abbrev pub IsPathNumber : ℕ → Type 0
+IsPathNumber number = (1 ≤ number) × (number ≤ 32)
+
+-- a line whose values are in range
+abbrev pub IsLawfulBgpLine : BgpLine → Type 0
+IsLawfulBgpLine (line.MaximumExternalPaths number) = IsPathNumber number
+IsLawfulBgpLine (line.MaximumInternalPaths number) = IsPathNumber number
+IsLawfulBgpLine _ = Unit {0}
+
+-- the number of the AS and those of paths are in range, and neighbours stand by address, each once
 pub record IsLawfulBgp (p : BgpProcess) : Type 0 where
   pub asn : IsAsn p.asn
+  pub external_paths : IsPathNumber p.maximum_paths.external
+  pub internal_paths : IsPathNumber p.maximum_paths.internal
   pub in_order : IsByNumber address_of p.neighbors

@@ -13,8 +13,9 @@ use Rattle.rc_config.specs.declared.bgp.NeighborSetting.{NeighborSetting}
 use Rattle.rc_config.specs.declared.bgp.NeighborSetting.TheVariants.{RemoteAs, UpdateSource, EbgpMultihop, Shutdown, NextHopSelf, DefaultOriginate, SendCommunity, Weight, RouteMap, PrefixList}
 use Rattle.rc_config.specs.declared.bgp.OspfRedistribution.{OspfRedistribution}
 use Rattle.rc_config.specs.declared.command.Command.{Command}
-use Rattle.rc_config.specs.declared.command.Command.TheVariants.{Hostname, Interface, Shutdown as ShutInterface, OspfOpened, BgpOpened}
+use Rattle.rc_config.specs.declared.command.Command.TheVariants.{Hostname, Interface, InterfaceLine, OspfOpened, BgpOpened}
 use Rattle.rc_config.specs.declared.command.Command.TheVariants as command
+use Rattle.rc_config.specs.declared.interface.InterfaceLine.TheVariants as interface_line
 use Rattle.rc_config.specs.declared.interface.Direction.TheVariants.{In, Out}
 use Rattle.rc_config.specs.declared.route_map.Mention.{Mention}
 use Rattle.rc_config.specs.declared.router_text.RouterText.{RouterText}
@@ -34,10 +35,11 @@ neighbors lines = option_map (λ p. p.neighbors) (process lines)
 abbrev about : ℕ → NeighborSetting → BgpLine
 about address setting = line.Neighbor address setting
 
--- a process without lines has no router id, no network and no neighbour, and redistributes nothing
+-- a process without lines has no router id, one path a prefix, no network and no neighbour, and redistributes nothing
 pub opened : process [] ≡ Some (record {
   asn = 65001;
   router_id = None;
+  maximum_paths = record { external = 1; internal = 1 };
   networks = [];
   neighbors = [];
   redistributions = record { connected = None; static_routes = None; ospf = [] };
@@ -47,6 +49,12 @@ opened = refl
 -- of the router id the last line counts
 pub last_id : process (line.RouterId 1 ∷ line.RouterId 2 ∷ []) ≡ Some (record (no_lines 65001) { router_id = Some 2 })
 last_id = refl
+
+-- of each number of paths the last line counts, and a line of the other kind leaves it as it is
+pub paths_of_each_kind : (option_map (λ p. p.maximum_paths) (process (line.MaximumExternalPaths 4 ∷ line.MaximumInternalPaths 32 ∷ line.MaximumExternalPaths 2 ∷ [])) ≡ Some (record { external = 2; internal = 32 }))
+    × (option_map (λ p. p.maximum_paths) (process (line.MaximumInternalPaths 3 ∷ [])) ≡ Some (record { external = 1; internal = 3 }))
+    × (option_map (λ p. p.maximum_paths) (process (line.MaximumExternalPaths 3 ∷ line.MaximumExternalPaths 1 ∷ [])) ≡ Some (record { external = 1; internal = 1 }))
+paths_of_each_kind = (refl, refl, refl)
 
 abbrev ten : ℕ → Cidr
 ten n = prefix_at (0x0a000000 + n) 24
@@ -112,7 +120,7 @@ pub opened_again : (file (BgpOpened 1 ∷ command.BgpLine (line.RouterId 7) ∷ 
 opened_again = refl
 
 -- other lines leave the process as it is, and its lines leave all else as it is
-pub left_by_others : (file (BgpOpened 9 ∷ Interface (codes "Lo0") 2 ∷ ShutInterface (codes "Lo0") true ∷ OspfOpened 1 ∷ [])).bgp ≡ Some (no_lines 9)
+pub left_by_others : (file (BgpOpened 9 ∷ Interface (codes "Lo0") 2 ∷ InterfaceLine (codes "Lo0") (interface_line.Shutdown true) ∷ OspfOpened 1 ∷ [])).bgp ≡ Some (no_lines 9)
 left_by_others = refl
 
 pub leaves_others : file (BgpOpened 9 ∷ command.BgpLine (about 7 (UpdateSource (codes "Lo0"))) ∷ []) ≡ record empty { bgp = Some (record (no_lines 9) { neighbors = record (no_settings 7) { update_source = Some (codes "Lo0") } ∷ [] }) }

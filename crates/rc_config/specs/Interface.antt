@@ -5,7 +5,8 @@ use Rattle.rc_config.specs.declared.interface.Direction.{Direction}
 use Rattle.rc_config.specs.declared.interface.Direction.TheVariants.{In, Out}
 use Rattle.rc_config.specs.declared.interface.IfAddr.{IfAddr}
 use Rattle.rc_config.specs.declared.interface.Interface.{Interface}
-use Rattle.rc_config.specs.declared.ospf.OspfSetting.{OspfSetting}
+use Rattle.rc_config.specs.declared.interface.InterfaceLine.{InterfaceLine}
+use Rattle.rc_config.specs.declared.interface.InterfaceLine.TheVariants.{Address, Shutdown, Bandwidth, AccessGroup, Ospf}
 use Rattle.rc_config.specs.Ospf.{no_settings, with_setting}
 
 -- an interface with no line in its block
@@ -21,9 +22,14 @@ abbrev pub with_group : Interface → List ℕ → Direction → Interface
 with_group i list In = record i { access_group_in = Some list }
 with_group i list Out = record i { access_group_out = Some list }
 
--- one more `ip ospf` line
-abbrev pub with_ospf : Interface → OspfSetting → Interface
-with_ospf i setting = record i { ospf = with_setting i.ospf setting }
+-- The interface with one more line of its block: a secondary address is one more, and any other line counts in place of an earlier one of its
+-- kind.
+abbrev pub with_line : Interface → InterfaceLine → Interface
+with_line i (Address a secondary) = with_address i a secondary
+with_line i (Shutdown down) = record i { shutdown = down }
+with_line i (Bandwidth kbits) = record i { bandwidth = Some kbits }
+with_line i (AccessGroup list direction) = with_group i list direction
+with_line i (Ospf setting) = record i { ospf = with_setting i.ospf setting }
 
 -- the access list of an interface in a direction, where a line names one
 abbrev pub group_of : Interface → Direction → Option (List ℕ)

@@ -1,7 +1,7 @@
 -- Files and networks as configurations give them: what every call that is given a network relies on.
 --
 -- What a type says by itself (a name its bytes, a number its width) is not said again.
-use Rattle.std.specs.Prelude.{◌≡◌, ℕ, ◌≤◌, ◌<◌, false, List, [], All, length, IsSome, IfSome, Some}
+use Rattle.std.specs.Prelude.{◌≡◌, ℕ, ◌≤◌, ◌<◌, List, All, length, IsSome, IfSome, Some}
 use Rattle.std.specs.Ordering.{nat_cmp}
 use Rattle.std.specs.Cmp.Lexicographic.{slice_cmp}
 use Rattle.std.specs.List.Sorted.{IsStrictlySortedBy}
@@ -11,33 +11,18 @@ use Rattle.rc_base.specs.declared.position.IfId.{IfId}
 use Rattle.rc_base.specs.declared.position.Pos.{Pos}
 use Rattle.rc_base.specs.declared.position.Pos.TheVariants.{Own, Entering}
 use Rattle.rc_config.specs.declared.command.Command.{Command}
-use Rattle.rc_config.specs.declared.command.Command.TheVariants.{Passed, Remark, Hostname, Interface, Address, Shutdown, Bandwidth, StaticRoute, AccessListOpened, AccessListLine, AccessGroup, PrefixLine, CommunityLine, MapOpened, MapLine, InterfaceOspf, OspfOpened, OspfLine, BgpOpened, BgpLine}
-use Rattle.rc_config.specs.declared.interface.IfAddr.{IfAddr}
-use Rattle.rc_config.specs.declared.interface.Interface.{Interface as Block}
+use Rattle.rc_config.specs.declared.command.Command.TheVariants.{Passed, Remark, Hostname, Interface, InterfaceLine, StaticRoute, ListLine, MapOpened, MapLine, OspfOpened, OspfLine, BgpOpened, BgpLine}
 use Rattle.rc_config.specs.declared.network.Network.{Network}
 use Rattle.rc_config.specs.declared.router_text.RouterText.{RouterText}
 use Rattle.rc_config.specs.declared.static_route.StaticRoute.{StaticRoute as Route}
-use Rattle.rc_config.specs.Bgp.{IsAsn, IsLawfulBgp}
-use Rattle.rc_config.specs.AccessList.{has_sequence, IsLawfulAccessList, IsLawfulLine}
-use Rattle.rc_config.specs.IfType.{type_of}
-use Rattle.rc_config.specs.Interface.{declared_addresses}
-use Rattle.rc_config.specs.MaskedAddr.{IsMaskLen}
+use Rattle.rc_config.specs.Bgp.{IsAsn, IsLawfulBgp, IsLawfulBgpLine}
+use Rattle.rc_config.specs.AccessList.{IsLawfulAccessList}
+use Rattle.rc_config.specs.LawfulInterface.{IsLawfulInterface, IsLawfulInterfaceLine}
+use Rattle.rc_config.specs.Lists.{FitsLists, IsLawfulListLine}
 use Rattle.rc_config.specs.Members.{interfaces_of}
-use Rattle.rc_config.specs.Lists.{access_list_named}
-use Rattle.rc_config.specs.Ospf.{IsLawfulOspf, IsLawfulOspfLine, IsLawfulProcess, IsLawfulSetting, IsOspfNumber}
-use Rattle.rc_config.specs.PrefixList.{IsLawfulLine as IsLawfulPrefixLine, IsLawfulList as IsLawfulPrefixList}
+use Rattle.rc_config.specs.Ospf.{IsLawfulOspfLine, IsLawfulProcess, IsOspfNumber}
+use Rattle.rc_config.specs.PrefixList.{IsLawfulList as IsLawfulPrefixList}
 use Rattle.rc_config.specs.RouteMap.{IsLawfulMap, IsLawfulMapLine}
-
--- from 1 to 10,000,000 kbit/s
-abbrev pub IsBandwidth : ℕ → Type 0
-IsBandwidth kbits = (1 ≤ kbits) × (kbits ≤ 10000000)
-
--- only an interface of a named type has addresses, and its values are in range
-pub record IsLawfulInterface (name : List ℕ) (i : Block) : Type 0 where
-  pub has_type : ¬ (declared_addresses i ≡ []) → IsSome (type_of name)
-  pub masks : All (λ (a : IfAddr). IsMaskLen a.len) (declared_addresses i)
-  pub bandwidth : IfSome i.bandwidth IsBandwidth
-  pub ospf : IsLawfulOspf i.ospf
 
 -- each interface is lawful under its name
 abbrev pub HasLawfulInterfaces : RouterText → Type 0
@@ -61,7 +46,7 @@ pub record HasLawfulLists (r : RouterText) : Type 0 where
 abbrev pub HasLawfulOspf : RouterText → Type 0
 HasLawfulOspf r = IfSome r.ospf IsLawfulProcess
 
--- the number of the AS of a BGP process is in range, and its neighbours stand by address
+-- the values of a BGP process are in range, and its neighbours stand by address
 abbrev pub HasLawfulBgp : RouterText → Type 0
 HasLawfulBgp r = IfSome r.bgp IsLawfulBgp
 
@@ -83,42 +68,27 @@ IsInRange Passed = Unit {0}
 IsInRange Remark = Unit {0}
 IsInRange (Hostname name line) = Unit {0}
 IsInRange (Interface name line) = Unit {0}
-IsInRange (Address name a secondary) = IsSome (type_of name) × IsMaskLen a.len
-IsInRange (Shutdown name down) = Unit {0}
-IsInRange (Bandwidth name kbits) = IsBandwidth kbits
+IsInRange (InterfaceLine name line) = IsLawfulInterfaceLine name line
 IsInRange (StaticRoute route) = IsDistance route.distance
-IsInRange (AccessListOpened name kind) = Unit {0}
-IsInRange (AccessListLine name kind line) = IsLawfulLine kind line
-IsInRange (AccessGroup name list direction) = Unit {0}
-IsInRange (PrefixLine name line) = IsLawfulPrefixLine line
-IsInRange (CommunityLine name line) = Unit {0}
+IsInRange (ListLine name line) = IsLawfulListLine line
 IsInRange (MapOpened name n action) = n ≤ 65535
 IsInRange (MapLine name n line) = IsLawfulMapLine line
-IsInRange (InterfaceOspf name setting) = IsLawfulSetting setting
 IsInRange (OspfOpened process) = IsOspfNumber process
 IsInRange (OspfLine line) = IsLawfulOspfLine line
 IsInRange (BgpOpened asn) = IsAsn asn
-IsInRange (BgpLine line) = Unit {0}
+IsInRange (BgpLine line) = IsLawfulBgpLine line
 
--- A command that the access lists of a file have room for: the list that it opens or adds a line to is of the kind that it says,
--- where it is there, and none of its lines has the number of the new one.
+-- a command that the lists of a file have room for
 abbrev pub FitsFile : RouterText → Command → Type 0
-FitsFile r (AccessListOpened name kind) = (access_list_named r.lists name kind).kind ≡ kind
-FitsFile r (AccessListLine name kind line) = ((access_list_named r.lists name kind).kind ≡ kind) × (has_sequence (access_list_named r.lists name kind).lines line.sequence ≡ false)
+FitsFile r (ListLine name line) = FitsLists r.lists name line
 FitsFile r Passed = Unit {0}
 FitsFile r Remark = Unit {0}
 FitsFile r (Hostname name line) = Unit {0}
 FitsFile r (Interface name line) = Unit {0}
-FitsFile r (Address name a secondary) = Unit {0}
-FitsFile r (Shutdown name down) = Unit {0}
-FitsFile r (Bandwidth name kbits) = Unit {0}
+FitsFile r (InterfaceLine name line) = Unit {0}
 FitsFile r (StaticRoute route) = Unit {0}
-FitsFile r (AccessGroup name list direction) = Unit {0}
-FitsFile r (PrefixLine name line) = Unit {0}
-FitsFile r (CommunityLine name line) = Unit {0}
 FitsFile r (MapOpened name n action) = Unit {0}
 FitsFile r (MapLine name n line) = Unit {0}
-FitsFile r (InterfaceOspf name setting) = Unit {0}
 FitsFile r (OspfOpened process) = Unit {0}
 FitsFile r (OspfLine line) = Unit {0}
 FitsFile r (BgpOpened asn) = Unit {0}

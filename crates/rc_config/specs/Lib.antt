@@ -5,6 +5,7 @@ pub mod IfType
 pub mod Interface
 pub mod Update
 pub mod Members
+pub mod LawfulInterface
 pub mod Lawful
 pub mod Rows
 pub mod OpenBlock
@@ -29,5 +30,10 @@ pub mod CommunityList
 pub mod Lists
 pub mod PolicyRows
 pub mod ModelRows
+pub mod Said
+pub mod InterfaceLines
+pub mod EntryLines
+pub mod OspfLines
+pub mod BgpLines
 pub mod LastLine
 pub mod LastLineRows

@@ -22,10 +22,13 @@ use Rattle.rc_config.specs.declared.access_list.AccessList.{AccessList}
 use Rattle.rc_config.specs.declared.access_list.AccessListKind.TheVariants.{Standard, Extended}
 use Rattle.rc_config.specs.declared.access_list.AccessListLine.{AccessListLine}
 use Rattle.rc_config.specs.declared.access_list.Action.TheVariants.{Permit, Deny}
+use Rattle.rc_config.specs.declared.access_list.FurtherTest.TheVariants as further
 use Rattle.rc_config.specs.declared.access_list.PortTest.TheVariants as port
 use Rattle.rc_config.specs.declared.access_list.ProtocolTest.TheVariants.{Is}
 use Rattle.rc_config.specs.declared.command.Command.{Command}
 use Rattle.rc_config.specs.declared.command.Command.TheVariants as command
+use Rattle.rc_config.specs.declared.lists.ListLine.TheVariants as list_line
+use Rattle.rc_config.specs.declared.interface.InterfaceLine.TheVariants as interface_line
 use Rattle.rc_config.specs.declared.interface.Direction.TheVariants.{In, Out}
 use Rattle.rc_config.specs.declared.map_line.MapLine.TheVariants.{Match, Set}
 use Rattle.rc_config.specs.declared.map_line.MatchKind.TheVariants.{PrefixList}
@@ -51,6 +54,7 @@ tcp n ports = record {
   source_port = port.Any;
   destination = any_address;
   destination_port = port.NotEqual ports;
+  further = further.Any;
 }
 
 -- a line `deny any` of this number
@@ -122,12 +126,12 @@ abbrev serial : List ℕ
 serial = codes "Serial1"
 
 abbrev line_101 : ℕ → Command
-line_101 n = command.AccessListLine named_101 Extended (tcp n (22 ∷ []))
+line_101 n = command.ListLine named_101 (list_line.AccessListLine Extended (tcp n (22 ∷ [])))
 
 -- a list of two lines and one without, and three groups, the last in place of the first
 abbrev filters : RouterText
-filters = file (line_101 20 ∷ line_101 10 ∷ command.AccessListOpened web Extended ∷ command.AccessListOpened named_101 Extended
-    ∷ command.AccessGroup serial named_101 In ∷ command.AccessGroup serial named_101 Out ∷ command.AccessGroup serial web In ∷ [])
+filters = file (line_101 20 ∷ line_101 10 ∷ command.ListLine web (list_line.AccessListOpened Extended) ∷ command.ListLine named_101 (list_line.AccessListOpened Extended)
+    ∷ command.InterfaceLine serial (interface_line.AccessGroup named_101 In) ∷ command.InterfaceLine serial (interface_line.AccessGroup named_101 Out) ∷ command.InterfaceLine serial (interface_line.AccessGroup web In) ∷ [])
 
 pub lists_of_a_router : filters.lists.access_lists ≡ (named_101, of_lines (tcp 10 (22 ∷ []) ∷ tcp 20 (22 ∷ []) ∷ [])) ∷ (web, access.no_lines Extended) ∷ []
 lists_of_a_router = refl
@@ -152,9 +156,9 @@ other = record { addr = 167772417; len = 32 }
 -- a file with two interfaces, the first of them opened twice
 abbrev two_interfaces : RouterText
 two_interfaces = file (command.Hostname (codes "r1") 1
-    ∷ command.Interface ethernet 2 ∷ command.Address ethernet other false ∷ command.Address ethernet other true ∷ command.Shutdown ethernet true
-    ∷ command.Interface serial 6 ∷ command.Bandwidth serial 64
-    ∷ command.Interface ethernet 8 ∷ command.Address ethernet primary false ∷ command.Passed ∷ [])
+    ∷ command.Interface ethernet 2 ∷ command.InterfaceLine ethernet (interface_line.Address other false) ∷ command.InterfaceLine ethernet (interface_line.Address other true) ∷ command.InterfaceLine ethernet (interface_line.Shutdown true)
+    ∷ command.Interface serial 6 ∷ command.InterfaceLine serial (interface_line.Bandwidth 64)
+    ∷ command.Interface ethernet 8 ∷ command.InterfaceLine ethernet (interface_line.Address primary false) ∷ command.Passed ∷ [])
 
 pub commands_change_a_model : two_interfaces ≡ record empty {
   host = Some (record { name = codes "r1"; line = 1 });

@@ -1,8 +1,9 @@
 -- Worked cases of what a configuration says of OSPF, each by computation.
 use Rattle.std.specs.Prelude.{◌≡◌, ℕ, true, false, List, [], ◌∷◌, Option, Some, None, fold, map, option_map, codes, refl}
 use Rattle.rc_config.specs.declared.command.Command.{Command}
-use Rattle.rc_config.specs.declared.command.Command.TheVariants.{Hostname, Interface, Shutdown, InterfaceOspf, OspfOpened}
+use Rattle.rc_config.specs.declared.command.Command.TheVariants.{Hostname, Interface, OspfOpened, InterfaceLine}
 use Rattle.rc_config.specs.declared.command.Command.TheVariants as command
+use Rattle.rc_config.specs.declared.interface.InterfaceLine.TheVariants as interface_line
 use Rattle.rc_config.specs.declared.ospf.NetworkType.TheVariants.{Broadcast, PointToPoint}
 use Rattle.rc_config.specs.declared.ospf.OspfArea.{OspfArea}
 use Rattle.rc_config.specs.declared.ospf.OspfLine.{OspfLine}
@@ -121,11 +122,11 @@ last_default = refl
 pub process_left : file (OspfOpened 1 ∷ command.OspfLine (Passive port true) ∷ []) ≡ record empty { ospf = Some (record (no_lines 1) { passive = (port, true) ∷ [] }) }
 process_left = refl
 
-pub left_by_others : (file (OspfOpened 9 ∷ Interface port 2 ∷ InterfaceOspf port (Cost 5) ∷ Shutdown port true ∷ [])).ospf ≡ Some (no_lines 9)
+pub left_by_others : (file (OspfOpened 9 ∷ Interface port 2 ∷ InterfaceLine port (interface_line.Ospf (Cost 5)) ∷ InterfaceLine port (interface_line.Shutdown true) ∷ [])).ospf ≡ Some (no_lines 9)
 left_by_others = refl
 
 -- the `ip ospf` lines of an interface: of each kind the last one counts, and they need no process
-pub settings : interface_named (file (Interface port 1 ∷ InterfaceOspf port (Cost 5) ∷ InterfaceOspf port (HelloInterval 3) ∷ InterfaceOspf port (Cost 6) ∷ InterfaceOspf port (NetworkType Broadcast) ∷ InterfaceOspf port (NetworkType PointToPoint) ∷ [])) port
+pub settings : interface_named (file (Interface port 1 ∷ InterfaceLine port (interface_line.Ospf (Cost 5)) ∷ InterfaceLine port (interface_line.Ospf (HelloInterval 3)) ∷ InterfaceLine port (interface_line.Ospf (Cost 6)) ∷ InterfaceLine port (interface_line.Ospf (NetworkType Broadcast)) ∷ InterfaceLine port (interface_line.Ospf (NetworkType PointToPoint)) ∷ [])) port
     ≡ record fresh { ospf = record no_settings { cost = Some 6; hello = Some 3; network = Some PointToPoint } }
 settings = refl
 
@@ -134,7 +135,7 @@ abbrev in_area : ℕ → ℕ → OspfArea
 in_area process area = record { process = process; area = area }
 
 abbrev areas : List OspfArea → List OspfArea
-areas lines = (interface_named (file (Interface port 1 ∷ map (λ a. InterfaceOspf port (Area a)) lines)) port).ospf.areas
+areas lines = (interface_named (file (Interface port 1 ∷ map (λ a. InterfaceLine port (interface_line.Ospf (Area a))) lines)) port).ospf.areas
 
 pub other_process_later : areas (in_area 1 0 ∷ in_area 2 5 ∷ []) ≡ in_area 1 0 ∷ in_area 2 5 ∷ []
 other_process_later = refl
@@ -150,6 +151,6 @@ pub same_process_between : areas (in_area 1 0 ∷ in_area 2 5 ∷ in_area 1 3 �
 same_process_between = refl
 
 -- other lines leave an area, and an area leaves what they set
-pub area_and_others : interface_named (file (Interface port 1 ∷ InterfaceOspf port (Area (in_area 1 0)) ∷ InterfaceOspf port (DeadInterval 20) ∷ InterfaceOspf port (Area (in_area 2 5)) ∷ [])) port
+pub area_and_others : interface_named (file (Interface port 1 ∷ InterfaceLine port (interface_line.Ospf (Area (in_area 1 0))) ∷ InterfaceLine port (interface_line.Ospf (DeadInterval 20)) ∷ InterfaceLine port (interface_line.Ospf (Area (in_area 2 5))) ∷ [])) port
     ≡ record fresh { ospf = record no_settings { dead = Some 20; areas = in_area 1 0 ∷ in_area 2 5 ∷ [] } }
 area_and_others = refl

@@ -1,7 +1,8 @@
 -- Worked cases of the definitions, each by computation.
 use Rattle.std.specs.Prelude.{◌≡◌, ℕ, ◌+◌, ◌*◌, true, false, List, [], ◌∷◌, fold, map, Option, Some, None, codes, refl}
 use Rattle.rc_config.specs.declared.command.Command.{Command}
-use Rattle.rc_config.specs.declared.command.Command.TheVariants.{Passed, Hostname, Interface, Address, Shutdown, Bandwidth, StaticRoute}
+use Rattle.rc_config.specs.declared.command.Command.TheVariants.{Passed, Hostname, Interface, StaticRoute, InterfaceLine}
+use Rattle.rc_config.specs.declared.interface.InterfaceLine.TheVariants as interface_line
 use Rattle.rc_config.specs.declared.if_type.IfType.{IfType}
 use Rattle.rc_config.specs.declared.if_type.IfType.TheVariants as types
 use Rattle.rc_config.specs.declared.interface.Interface.{Interface as Block}
@@ -35,27 +36,27 @@ abbrev the_first : List Command → Block
 the_first commands = interface_named (file (Interface first 2 ∷ commands)) first
 
 -- a later `ip address` line without `secondary` replaces the primary address
-pub primary_replaced : the_first (Address first (host 1) false ∷ Address first (host 2) false ∷ []) ≡ record fresh { primary = Some (host 2) }
+pub primary_replaced : the_first (InterfaceLine first (interface_line.Address (host 1) false) ∷ InterfaceLine first (interface_line.Address (host 2) false) ∷ []) ≡ record fresh { primary = Some (host 2) }
 primary_replaced = refl
 
 -- and leaves the secondary ones
-pub secondary_left : declared_addresses (the_first (Address first (host 1) false ∷ Address first (host 5) true ∷ Address first (host 2) false ∷ [])) ≡ host 2 ∷ host 5 ∷ []
+pub secondary_left : declared_addresses (the_first (InterfaceLine first (interface_line.Address (host 1) false) ∷ InterfaceLine first (interface_line.Address (host 5) true) ∷ InterfaceLine first (interface_line.Address (host 2) false) ∷ [])) ≡ host 2 ∷ host 5 ∷ []
 secondary_left = refl
 
 -- secondary addresses stand as written, the same one twice too
-pub secondary_appended : (the_first (Address first (host 9) true ∷ Address first (host 3) true ∷ Address first (host 9) true ∷ [])).secondary ≡ host 9 ∷ host 3 ∷ host 9 ∷ []
+pub secondary_appended : (the_first (InterfaceLine first (interface_line.Address (host 9) true) ∷ InterfaceLine first (interface_line.Address (host 3) true) ∷ InterfaceLine first (interface_line.Address (host 9) true) ∷ [])).secondary ≡ host 9 ∷ host 3 ∷ host 9 ∷ []
 secondary_appended = refl
 
 -- a secondary address makes no primary one
-pub no_primary : (the_first (Address first (host 9) true ∷ [])).primary ≡ None
+pub no_primary : (the_first (InterfaceLine first (interface_line.Address (host 9) true) ∷ [])).primary ≡ None
 no_primary = refl
 
 -- the last of `shutdown` and `no shutdown` counts, and so does the last bandwidth
-pub up_again : the_first (Shutdown first true ∷ Bandwidth first 64 ∷ Shutdown first false ∷ Bandwidth first 128 ∷ []) ≡ record fresh { bandwidth = Some 128 }
+pub up_again : the_first (InterfaceLine first (interface_line.Shutdown true) ∷ InterfaceLine first (interface_line.Bandwidth 64) ∷ InterfaceLine first (interface_line.Shutdown false) ∷ InterfaceLine first (interface_line.Bandwidth 128) ∷ []) ≡ record fresh { bandwidth = Some 128 }
 up_again = refl
 
 -- a known name opens its block again: the interface keeps its index and what its block says
-pub opened_again : (file (Interface first 2 ∷ Shutdown first true ∷ Interface second 4 ∷ Interface first 6 ∷ Bandwidth first 64 ∷ [])).interfaces
+pub opened_again : (file (Interface first 2 ∷ InterfaceLine first (interface_line.Shutdown true) ∷ Interface second 4 ∷ Interface first 6 ∷ InterfaceLine first (interface_line.Bandwidth 64) ∷ [])).interfaces
     ≡ (first, record fresh { shutdown = true; bandwidth = Some 64 }) ∷ (second, fresh) ∷ []
 opened_again = refl
 
@@ -73,11 +74,11 @@ pub routes_as_written : (file (StaticRoute (route (target.Dev second) 250) ∷ S
 routes_as_written = refl
 
 -- a static route declares no interface, and leaves those that there are
-pub no_interface_declared : (file (Interface first 2 ∷ Shutdown first true ∷ StaticRoute (route (target.ViaDev 7 second) 1) ∷ [])).interfaces ≡ (first, record fresh { shutdown = true }) ∷ []
+pub no_interface_declared : (file (Interface first 2 ∷ InterfaceLine first (interface_line.Shutdown true) ∷ StaticRoute (route (target.ViaDev 7 second) 1) ∷ [])).interfaces ≡ (first, record fresh { shutdown = true }) ∷ []
 no_interface_declared = refl
 
 -- and no other command takes a static route away
-pub routes_left : (file (StaticRoute (route (target.Via 7) 1) ∷ Hostname (codes "r1") 2 ∷ Interface first 3 ∷ Address first (host 1) false ∷ Shutdown first true ∷ Bandwidth first 64 ∷ Passed ∷ [])).static_routes ≡ route (target.Via 7) 1 ∷ []
+pub routes_left : (file (StaticRoute (route (target.Via 7) 1) ∷ Hostname (codes "r1") 2 ∷ Interface first 3 ∷ InterfaceLine first (interface_line.Address (host 1) false) ∷ InterfaceLine first (interface_line.Shutdown true) ∷ InterfaceLine first (interface_line.Bandwidth 64) ∷ Passed ∷ [])).static_routes ≡ route (target.Via 7) 1 ∷ []
 routes_left = refl
 
 -- the front of a name is its type, in just these letters, and a subinterface has its parent's

@@ -79,6 +79,17 @@ pub enum PortTest {
     Within(u16, u16),
 }
 
+/// A test of what the packets of one protocol carry further. It is the line's last test.
+#[derive(Clone, Copy)]
+pub enum FurtherTest {
+    /// Nothing more.
+    Any,
+    /// `established`: ACK or RST is 1 (RFC 9293 s.3.1). It stands in tcp lines alone.
+    Established,
+    /// The ICMP type, and the code where the line gives one (RFC 792). It stands in icmp lines alone.
+    Icmp { icmp_type: u8, code: Option<u8> },
+}
+
 /// A line of a list, which matches the headers that pass all of its tests.
 #[derive(Clone, Copy)]
 pub struct AccessListLine {
@@ -90,6 +101,7 @@ pub struct AccessListLine {
     pub source_port: PortTest,
     pub destination: AddressTest,
     pub destination_port: PortTest,
+    pub further: FurtherTest,
 }
 
 impl AccessListLine {
@@ -107,6 +119,7 @@ impl AccessListLine {
             source_port: PortTest::Any,
             destination: AddressTest::any(),
             destination_port: PortTest::Any,
+            further: FurtherTest::Any,
         }
     }
 }

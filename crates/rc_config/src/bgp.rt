@@ -178,11 +178,24 @@ pub struct BgpRedistributions {
     pub ospf: ByNumber<OspfRedistribution>,
 }
 
+/// How many paths of one prefix may carry its packets, from 1 to 32: the best path, and others that are as good.
+#[derive(Clone, Copy)]
+pub struct MaximumPaths {
+    /// Where the best path is external.
+    pub external: u8,
+    /// Where the best path is internal.
+    pub internal: u8,
+}
+
 /// What one line in the block of a process says.
 #[derive(Clone, Copy)]
 pub enum BgpLine {
     /// `bgp router-id A`
     RouterId(Addr),
+    /// `maximum-paths N`, N from 1 to 32.
+    MaximumExternalPaths(u8),
+    /// `maximum-paths ibgp N`, N from 1 to 32.
+    MaximumInternalPaths(u8),
     /// `network A`, or `network A mask M`.
     Network(Prefix),
     /// `neighbor A ..`
@@ -204,6 +217,8 @@ pub struct BgpProcess {
     pub asn: u32,
     /// The BGP identifier (RFC 4271 s.4.2), where a line gives one.
     pub router_id: Option<Addr>,
+    /// 1 of each kind where no line gives a number.
+    pub maximum_paths: MaximumPaths,
     /// The prefixes of the `network` lines in file order, the same one twice too.
     pub networks: Items<Prefix>,
     /// The neighbours of which a line says something, by address.
@@ -217,6 +232,7 @@ impl Drop for BgpProcess {
         let BgpProcess {
             asn: _,
             router_id: _,
+            maximum_paths: _,
             networks: _,
             neighbors: _,
             redistributions: _,
@@ -259,6 +275,10 @@ impl BgpProcess {
         BgpProcess {
             asn,
             router_id: None,
+            maximum_paths: MaximumPaths {
+                external: 1,
+                internal: 1,
+            },
             networks: Items::new(alloc),
             neighbors: ByNumber::new(alloc),
             redistributions: BgpRedistributions {
@@ -277,6 +297,8 @@ impl BgpProcess {
     {
         match line {
             BgpLine::RouterId(id) => self.router_id = Some(id),
+            BgpLine::MaximumExternalPaths(number) => self.maximum_paths.external = number,
+            BgpLine::MaximumInternalPaths(number) => self.maximum_paths.internal = number,
             BgpLine::Network(prefix) => self.networks.push(prefix)?,
             BgpLine::Neighbor { address, setting } => {
                 put_neighbor_line(&mut self.neighbors, address, setting)?;

@@ -1,11 +1,9 @@
 //! What one line of a configuration says.
-use crate::{
-    AccessListKind, AccessListLine, Action, BgpLine, CommunityLine, Direction, IfAddr, MapLine,
-    OspfLine, OspfSetting, PrefixLine, StaticRoute,
-};
+use crate::{Action, BgpLine, InterfaceLine, ListLine, MapLine, OspfLine, StaticRoute};
 use rc_base::Name;
 
-/// What one line of a configuration says: a form with its values, and the interface in whose block it stands.
+/// What one line of a configuration says. A line of a part, as an interface or a process, is a value of that part's own,
+/// beside the name or the number of the part: only the part knows its kinds of lines.
 #[derive(Drop)]
 pub enum Command {
     /// A line that says nothing here.
@@ -23,53 +21,19 @@ pub enum Command {
         name: Name,
         line: u64,
     },
-    /// `ip address A M`, or `ip address A M secondary`.
-    Address {
+    /// A line in the block of an interface.
+    InterfaceLine {
         interface: Name,
-        address: IfAddr,
-        secondary: bool,
-    },
-    /// `shutdown`, or `no shutdown`.
-    Shutdown {
-        interface: Name,
-        down: bool,
-    },
-    /// `bandwidth N`, in kbit/s.
-    Bandwidth {
-        interface: Name,
-        kbits: u32,
+        line: InterfaceLine,
     },
     /// `ip route A M TARGET ..`
     StaticRoute {
         route: StaticRoute,
     },
-    /// `ip access-list standard NAME`, or `ip access-list extended NAME`: the block of a new list, or that of a known one
-    /// again.
-    AccessListOpened {
+    /// A line of the list of a name, or one that opens it.
+    ListLine {
         list: Name,
-        kind: AccessListKind,
-    },
-    /// A line of an access list of this kind, which is made where it isn't there.
-    AccessListLine {
-        list: Name,
-        kind: AccessListKind,
-        line: AccessListLine,
-    },
-    /// `ip access-group NAME in`, or `ip access-group NAME out`. The list need not be there.
-    AccessGroup {
-        interface: Name,
-        list: Name,
-        direction: Direction,
-    },
-    /// `ip prefix-list NAME ..`: a line of a prefix list, which is made where it isn't there.
-    PrefixLine {
-        list: Name,
-        line: PrefixLine,
-    },
-    /// `ip community-list ..`: a line of a community list, which is made where it isn't there.
-    CommunityLine {
-        list: Name,
-        line: CommunityLine,
+        line: ListLine,
     },
     /// `route-map NAME permit N`, or `route-map NAME deny N`, N from 0 to 65535: the block of a new entry, or that of a known
     /// one again.
@@ -83,11 +47,6 @@ pub enum Command {
         map: Name,
         number: u32,
         line: MapLine,
-    },
-    /// An `ip ospf` line in the block of an interface.
-    InterfaceOspf {
-        interface: Name,
-        setting: OspfSetting,
     },
     /// `router ospf N`, N from 1 to 65535: the block of the router's process, of a new one or of the known one again.
     OspfOpened {

@@ -4,7 +4,7 @@ ghost use Rattle.std.specs.Option.{option_copied, SomeIff};
 ghost use Rattle.rc_base.specs.Prefix.{prefix_at};
 ghost use Rattle.rc_config.specs.MaskedAddr.{IsMaskLen};
 
-use crate::OspfSettings;
+use crate::{OspfSetting, OspfSettings};
 use rc_base::{Addr, Items, Name, Prefix};
 use std::alloc::{AllocError, Global};
 use std::marker::Model;
@@ -92,8 +92,23 @@ pub struct Interface {
     pub ospf: OspfSettings,
 }
 
+/// What one line in the block of an interface says.
+#[derive(Clone, Copy)]
+pub enum InterfaceLine {
+    /// `ip address A M`, or `ip address A M secondary`.
+    Address { address: IfAddr, secondary: bool },
+    /// `shutdown`, or `no shutdown`.
+    Shutdown(bool),
+    /// `bandwidth N`, in kbit/s.
+    Bandwidth(u32),
+    /// `ip access-group NAME in`, or `ip access-group NAME out`. The list need not be there.
+    AccessGroup { list: Name, direction: Direction },
+    /// An `ip ospf` line.
+    Ospf(OspfSetting),
+}
+
 impl Interface {
-    ghost use Rattle.rc_config.specs.Interface.{fresh, group_of, with_address, with_group};
+    ghost use Rattle.rc_config.specs.Interface.{fresh, group_of, with_address, with_group, with_line};
 
     /// An interface with no line in its block. It takes no memory.
     pub fn new(alloc: Global) -> Interface
@@ -111,7 +126,7 @@ impl Interface {
     }
 
     /// Puts one more secondary address, or this primary address in place of any other.
-    pub(crate) fn put_address(&mut self, address: IfAddr, secondary: bool) -> Result<(), AllocError>
+    fn put_address(&mut self, address: IfAddr, secondary: bool) -> Result<(), AllocError>
         ensures { OnOk result (self.new ≡ with_address self.old address secondary) }
     {
         if secondary {
@@ -123,12 +138,35 @@ impl Interface {
     }
 
     /// Puts this list in a direction, in place of any other.
-    pub(crate) fn put_group(&mut self, list: Name, direction: Direction)
+    fn put_group(&mut self, list: Name, direction: Direction)
         ensures { self.new ≡ with_group self.old list direction }
     {
         match direction {
             Direction::In => self.access_group_in = Some(list),
             Direction::Out => self.access_group_out = Some(list),
+        }
+    }
+
+    /// Puts one more line of the block: a secondary address goes behind the others, and any other line counts in place of an
+    /// earlier one of the same kind, and of `ip access-group` lines in place of one of the same direction.
+    pub(crate) fn put_line(&mut self, line: InterfaceLine) -> Result<(), AllocError>
+        ensures { OnOk result (self.new ≡ with_line self.old line) }
+    {
+        match line {
+            InterfaceLine::Address { address, secondary } => self.put_address(address, secondary),
+            InterfaceLine::Shutdown(down) => {
+                self.shutdown = down;
+                Ok(())
+            }
+            InterfaceLine::Bandwidth(kbits) => {
+                self.bandwidth = Some(kbits);
+                Ok(())
+            }
+            InterfaceLine::AccessGroup { list, direction } => {
+                self.put_group(list, direction);
+                Ok(())
+            }
+            InterfaceLine::Ospf(setting) => self.ospf.put_setting(setting),
         }
     }
 

@@ -32,12 +32,13 @@ mod sets;
 mod static_route;
 
 pub use access_list::{
-    AccessList, AccessListKind, AccessListLine, Action, AddressTest, PortTest, ProtocolTest,
+    AccessList, AccessListKind, AccessListLine, Action, AddressTest, FurtherTest, PortTest,
+    ProtocolTest,
 };
 pub use action_word::action_of;
 pub use bgp::{
-    BgpLine, BgpProcess, BgpRedistribution, BgpRedistributions, Neighbor, NeighborSetting,
-    OspfKinds, OspfRedistribution,
+    BgpLine, BgpProcess, BgpRedistribution, BgpRedistributions, MaximumPaths, Neighbor,
+    NeighborSetting, OspfKinds, OspfRedistribution,
 };
 pub use by_number::{ByNumber, Numbered};
 pub use class::natural_len;
@@ -46,9 +47,9 @@ pub use community_list::{CommunityLine, CommunityList};
 pub use context::{Context, OpenBlock};
 pub use direction_word::direction_of;
 pub use if_type::{IfType, type_of_name};
-pub use interface::{Direction, IfAddr, Interface};
+pub use interface::{Direction, IfAddr, Interface, InterfaceLine};
 pub use last_line::last_line_counts;
-pub use lists::Lists;
+pub use lists::{ListLine, Lists};
 pub use map_line::{MapLine, MatchKind, SetLine};
 pub use named::Named;
 pub use network::Network;

@@ -3,19 +3,15 @@ ghost use Rattle.std.specs.Prelude.{◌≡◌, IfOk, OnOk, Some, unwrap_or, ◌+
 ghost use Rattle.std.specs.Option.{option_map};
 ghost use Rattle.rc_config.specs.Bgp.{with_line as with_bgp_line};
 ghost use Rattle.rc_config.specs.Lawful.{FitsFile, HasLawfulBgp, HasLawfulInterfaces, HasLawfulLists, HasLawfulOspf, HasLawfulRoutes, IsInRange};
-ghost use Rattle.rc_config.specs.CommunityList.{no_lines as no_community_lines, with_line as community_list_with};
-ghost use Rattle.rc_config.specs.AccessList.{no_lines as no_access_list_lines, with_line as access_list_with};
 ghost use Rattle.rc_config.specs.Named.{index_of, named, with_value};
 ghost use Rattle.rc_config.specs.Ospf.{with_line as with_ospf_line};
-ghost use Rattle.rc_config.specs.PrefixList.{no_lines as no_prefix_lines, with_line as prefix_list_with};
 ghost use Rattle.rc_config.specs.RouteMap.{no_entries, opened, with_line};
-ghost use Rattle.rc_config.specs.Interface.{fresh, with_address as address_put, with_group as group_put, with_ospf as ospf_put};
-ghost use Rattle.rc_config.specs.Update.{after, bgp_opened, empty, interfaces_after, lists_after, ospf_opened};
+ghost use Rattle.rc_config.specs.Interface.{fresh};
+ghost use Rattle.rc_config.specs.Update.{after, bgp_opened, empty, ospf_opened, with_interface_line, with_interface_opened};
 
 use crate::{
-    AccessList, AccessListKind, AccessListLine, Action, BgpLine, BgpProcess, Command,
-    CommunityLine, CommunityList, Direction, IfAddr, Interface, Lists, MapLine, Named, OspfLine,
-    OspfProcess, OspfSetting, PrefixLine, PrefixList, RouteMap, StaticRoute, Target,
+    Action, BgpLine, BgpProcess, Command, Interface, InterfaceLine, Lists, MapLine, Named,
+    OspfLine, OspfProcess, RouteMap, StaticRoute, Target,
 };
 use rc_base::{Items, Name};
 use std::alloc::{AllocError, Global};
@@ -125,16 +121,12 @@ impl RouterText {
                 self.host = Some(HostLine { name, line });
                 Ok(())
             }
-            Command::Interface { .. } => put_into_interfaces(&mut self.interfaces, command),
-            Command::Address { .. } => put_into_interfaces(&mut self.interfaces, command),
-            Command::Shutdown { .. } => put_into_interfaces(&mut self.interfaces, command),
-            Command::Bandwidth { .. } => put_into_interfaces(&mut self.interfaces, command),
+            Command::Interface { name, line: _ } => put_opened(&mut self.interfaces, name),
+            Command::InterfaceLine { interface, line } => {
+                put_interface_line(&mut self.interfaces, interface, line)
+            }
             Command::StaticRoute { route } => put_route(&mut self.static_routes, route),
-            Command::AccessListOpened { .. } => put_into_lists(&mut self.lists, command),
-            Command::AccessListLine { .. } => put_into_lists(&mut self.lists, command),
-            Command::AccessGroup { .. } => put_into_interfaces(&mut self.interfaces, command),
-            Command::PrefixLine { .. } => put_into_lists(&mut self.lists, command),
-            Command::CommunityLine { .. } => put_into_lists(&mut self.lists, command),
+            Command::ListLine { list, line } => self.lists.put_line(list, line),
             Command::MapOpened {
                 map,
                 number,
@@ -143,7 +135,6 @@ impl RouterText {
             Command::MapLine { map, number, line } => {
                 put_map_line(&mut self.route_maps, map, number, line)
             }
-            Command::InterfaceOspf { .. } => put_into_interfaces(&mut self.interfaces, command),
             Command::OspfOpened { process } => {
                 let alloc = self.interfaces.allocator();
                 put_ospf_opened(alloc, &mut self.ospf, process);
@@ -157,48 +148,6 @@ impl RouterText {
             }
             Command::BgpLine { line } => put_bgp_line(&mut self.bgp, line),
         }
-    }
-}
-
-/// One more command on interfaces. Other commands change nothing here.
-fn put_into_interfaces(blocks: &mut Named<Interface>, command: Command) -> Result<(), AllocError>
-    ensures { OnOk result (blocks.new ≡ interfaces_after blocks.old command) }
-{
-    match command {
-        Command::Interface { name, line: _ } => put_opened(blocks, name),
-        Command::Address {
-            interface,
-            address,
-            secondary,
-        } => put_address(blocks, interface, address, secondary),
-        Command::Shutdown { interface, down } => put_shutdown(blocks, interface, down),
-        Command::Bandwidth { interface, kbits } => put_bandwidth(blocks, interface, kbits),
-        Command::AccessGroup {
-            interface,
-            list,
-            direction,
-        } => put_group(blocks, interface, list, direction),
-        Command::InterfaceOspf { interface, setting } => put_setting(blocks, interface, setting),
-        _ => Ok(()),
-    }
-}
-
-/// One more command on lists. Other commands change nothing here.
-fn put_into_lists(lists: &mut Lists, command: Command) -> Result<(), AllocError>
-    ensures { OnOk result (lists.new ≡ lists_after lists.old command) }
-{
-    match command {
-        Command::AccessListOpened { list, kind } => {
-            put_access_list_opened(&mut lists.access_lists, list, kind)
-        }
-        Command::AccessListLine { list, kind, line } => {
-            put_access_list_line(&mut lists.access_lists, list, kind, line)
-        }
-        Command::PrefixLine { list, line } => put_prefix_line(&mut lists.prefix_lists, list, line),
-        Command::CommunityLine { list, line } => {
-            put_community_line(&mut lists.community_lists, list, line)
-        }
-        _ => Ok(()),
     }
 }
 
@@ -218,156 +167,26 @@ fn opened_at(blocks: &mut Named<Interface>, name: Name) -> Result<usize, AllocEr
 
 /// `interface IF`
 fn put_opened(blocks: &mut Named<Interface>, name: Name) -> Result<(), AllocError>
-    ensures { OnOk result (blocks.new ≡ with_value blocks.old name (unwrap_or (named blocks.old name) fresh)) }
+    ensures { OnOk result (blocks.new ≡ with_interface_opened blocks.old name) }
 {
     opened_at(blocks, name)?;
     Ok(())
 }
 
-/// `ip address`
+/// A line in the block of an interface, which is opened where it isn't there.
 #[tactic(auto, using(crate::proofs::IndexLaws::written, crate::proofs::IndexLaws::held))]
-fn put_address(
+fn put_interface_line(
     blocks: &mut Named<Interface>,
     name: Name,
-    address: IfAddr,
-    secondary: bool,
+    line: InterfaceLine,
 ) -> Result<(), AllocError>
-    ensures { OnOk result (blocks.new ≡ with_value blocks.old name (address_put (unwrap_or (named blocks.old name) fresh) address secondary)) }
+    ensures { OnOk result (blocks.new ≡ with_interface_line blocks.old name line) }
 {
     let index = opened_at(blocks, name)?;
     match blocks.at_mut(index) {
-        Some(block) => block.put_address(address, secondary),
+        Some(block) => block.put_line(line),
         None => Ok(()),
     }
-}
-
-/// `shutdown` and `no shutdown`
-#[tactic(auto, using(crate::proofs::IndexLaws::written, crate::proofs::IndexLaws::held))]
-fn put_shutdown(blocks: &mut Named<Interface>, name: Name, down: bool) -> Result<(), AllocError>
-    ensures { OnOk result (blocks.new ≡ with_value blocks.old name (record (unwrap_or (named blocks.old name) fresh) { shutdown = down })) }
-{
-    let index = opened_at(blocks, name)?;
-    if let Some(block) = blocks.at_mut(index) {
-        block.shutdown = down;
-    }
-    Ok(())
-}
-
-/// `bandwidth`
-#[tactic(auto, using(crate::proofs::IndexLaws::written, crate::proofs::IndexLaws::held))]
-fn put_bandwidth(blocks: &mut Named<Interface>, name: Name, kbits: u32) -> Result<(), AllocError>
-    ensures { OnOk result (blocks.new ≡ with_value blocks.old name (record (unwrap_or (named blocks.old name) fresh) { bandwidth = Some kbits })) }
-{
-    let index = opened_at(blocks, name)?;
-    if let Some(block) = blocks.at_mut(index) {
-        block.bandwidth = Some(kbits);
-    }
-    Ok(())
-}
-
-/// `ip access-group`
-#[tactic(auto, using(crate::proofs::IndexLaws::written, crate::proofs::IndexLaws::held))]
-fn put_group(
-    blocks: &mut Named<Interface>,
-    name: Name,
-    list: Name,
-    direction: Direction,
-) -> Result<(), AllocError>
-    ensures { OnOk result (blocks.new ≡ with_value blocks.old name (group_put (unwrap_or (named blocks.old name) fresh) list direction)) }
-{
-    let index = opened_at(blocks, name)?;
-    if let Some(block) = blocks.at_mut(index) {
-        block.put_group(list, direction);
-    }
-    Ok(())
-}
-
-/// An `ip ospf` line
-#[tactic(auto, using(crate::proofs::IndexLaws::written, crate::proofs::IndexLaws::held))]
-fn put_setting(
-    blocks: &mut Named<Interface>,
-    name: Name,
-    setting: OspfSetting,
-) -> Result<(), AllocError>
-    ensures { OnOk result (blocks.new ≡ with_value blocks.old name (ospf_put (unwrap_or (named blocks.old name) fresh) setting)) }
-{
-    let index = opened_at(blocks, name)?;
-    match blocks.at_mut(index) {
-        Some(block) => block.ospf.put_setting(setting),
-        None => Ok(()),
-    }
-}
-
-/// `ip access-list standard` and `ip access-list extended`
-#[tactic(auto, using(crate::proofs::NamedLaws::with_value_again))]
-fn put_access_list_opened(
-    access_lists: &mut Named<AccessList>,
-    name: Name,
-    kind: AccessListKind,
-) -> Result<(), AllocError>
-    ensures { OnOk result (access_lists.new ≡ with_value access_lists.old name (unwrap_or (named access_lists.old name) (no_access_list_lines kind))) }
-{
-    let alloc = access_lists.allocator();
-    let access_list = access_lists.lift(
-        name,
-        AccessList::new(alloc, kind),
-        AccessList::new(alloc, kind),
-    )?;
-    access_lists.insert(name, access_list)?;
-    Ok(())
-}
-
-/// A line of an access list. The list is taken out and put back, so that its lines are never copied.
-#[tactic(auto, using(crate::proofs::NamedLaws::with_value_again))]
-fn put_access_list_line(
-    access_lists: &mut Named<AccessList>,
-    name: Name,
-    kind: AccessListKind,
-    line: AccessListLine,
-) -> Result<(), AllocError>
-    ensures { OnOk result (access_lists.new ≡ with_value access_lists.old name (access_list_with (unwrap_or (named access_lists.old name) (no_access_list_lines kind)) line)) }
-{
-    let alloc = access_lists.allocator();
-    let access_list = access_lists.lift(
-        name,
-        AccessList::new(alloc, kind),
-        AccessList::new(alloc, kind),
-    )?;
-    let access_list = access_list.with_line(line)?;
-    access_lists.insert(name, access_list)?;
-    Ok(())
-}
-
-/// `ip prefix-list`
-#[tactic(auto, using(crate::proofs::NamedLaws::with_value_again))]
-fn put_prefix_line(
-    lists: &mut Named<PrefixList>,
-    name: Name,
-    line: PrefixLine,
-) -> Result<(), AllocError>
-    ensures { OnOk result (lists.new ≡ with_value lists.old name (prefix_list_with (unwrap_or (named lists.old name) no_prefix_lines) line)) }
-{
-    let alloc = lists.allocator();
-    let known = lists.lift(name, PrefixList::new(alloc), PrefixList::new(alloc))?;
-    let known = known.with_line(line)?;
-    lists.insert(name, known)?;
-    Ok(())
-}
-
-/// `ip community-list`
-#[tactic(auto, using(crate::proofs::NamedLaws::with_value_again))]
-fn put_community_line(
-    lists: &mut Named<CommunityList>,
-    name: Name,
-    line: CommunityLine,
-) -> Result<(), AllocError>
-    ensures { OnOk result (lists.new ≡ with_value lists.old name (community_list_with (unwrap_or (named lists.old name) no_community_lines) line)) }
-{
-    let alloc = lists.allocator();
-    let known = lists.lift(name, CommunityList::new(alloc), CommunityList::new(alloc))?;
-    let known = known.with_line(line)?;
-    lists.insert(name, known)?;
-    Ok(())
 }
 
 /// `route-map`

@@ -1,5 +1,5 @@
 -- The openings that a line finds in a table are all with which it begins.
-use Rattle.std.proofs.Common.{◌≡◌, ℕ, suc, zero, ◌+◌, ◌-◌, ◌<◌, ◌≤◌, subst, Bool, true, false, ◌||◌, ◌&&◌, cond, List, [], ◌∷◌, ◌++◌, length, map, take, drop, arith, refl, sym, ◌∙◌, ap, inl, inr, Option, Some, None}
+use Rattle.std.proofs.Common.{◌≡◌, ℕ, suc, zero, ◌+◌, ◌-◌, ◌<◌, ◌≤◌, subst, Bool, true, false, ◌||◌, ◌&&◌, cond, List, [], ◌∷◌, ◌++◌, map, arith, refl, sym, ◌∙◌, ap, inl, inr, Option, Some, None}
 use borrow.Author.Tests.{ltb-true}
 use Rattle.std.specs.Prelude.{nat_eq, nat_lt, Contains}
 use Rattle.std.specs.List.{filter, list_all, list_any}
@@ -8,7 +8,6 @@ use Rattle.std.proofs.lemmas.Bool.{and_parts, or_cases, false≢true, eqb-true, 
 use Rattle.std.proofs.lemmas.Bool.Decides.{nat_tests}
 use Rattle.std.proofs.lemmas.List.Elements.{All-contains_itself, All-filter, All-contains, Contains-append_left, Contains-append_right, Contains-append_cases}
 use Rattle.std.proofs.lemmas.List.Folds.{list_any_at, list_any-append}
-use Rattle.rc_openings.specs.declared.opening.Opening.{Opening}
 use Rattle.rc_openings.specs.declared.table.Index.{Index}
 use Rattle.rc_openings.specs.declared.table.Table.{Table}
 use Rattle.rc_openings.specs.Groups.{at_letter, is_letter, letters, letters_from, keyed, is_placed, IsIndex, one_word, starred, more_words, is_of_three, IsTable}

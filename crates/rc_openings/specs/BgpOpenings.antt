@@ -1,13 +1,15 @@
 -- The openings of a line under `router bgp`.
 use Rattle.std.specs.Prelude.{List, [], ◌∷◌, ◌++◌, codes}
 use Rattle.rc_openings.specs.declared.form.Form.TheVariants.{Bgp}
-use Rattle.rc_openings.specs.declared.form.BgpForm.TheVariants.{RouterId, Network, NeighborRemoteAs, NeighborUpdateSource, NeighborEbgpMultihop, NeighborNextHopSelf, NeighborShutdown, NeighborDefaultOriginate, NeighborActivate, NeighborSendCommunity, NeighborRouteMap, NeighborPrefixList, NeighborWeight, RedistributeConnected, RedistributeStatic, RedistributeOspf}
+use Rattle.rc_openings.specs.declared.form.BgpForm.TheVariants.{RouterId, MaximumPaths, MaximumPathsIbgp, Network, NeighborRemoteAs, NeighborUpdateSource, NeighborEbgpMultihop, NeighborNextHopSelf, NeighborShutdown, NeighborDefaultOriginate, NeighborActivate, NeighborSendCommunity, NeighborRouteMap, NeighborPrefixList, NeighborWeight, RedistributeConnected, RedistributeStatic, RedistributeOspf}
 use Rattle.rc_openings.specs.Opening.{Row, form, refused, ignored}
 
 -- with these begin the forms
 unfoldable pub bgp_forms : List Row
 bgp_forms =
     form (codes "bgp router-id") (Bgp RouterId)
+    ∷ form (codes "maximum-paths") (Bgp MaximumPaths)
+    ∷ form (codes "maximum-paths ibgp") (Bgp MaximumPathsIbgp)
     ∷ form (codes "network") (Bgp Network)
     ∷ form (codes "neighbor * remote-as") (Bgp NeighborRemoteAs)
     ∷ form (codes "neighbor * update-source") (Bgp NeighborUpdateSource)
@@ -35,7 +37,7 @@ bgp_refused =
     ∷ refused (codes "aggregate-address")
     ∷ refused (codes "address-family")
     ∷ refused (codes "exit-address-family")
-    ∷ refused (codes "maximum-paths")
+    ∷ refused (codes "maximum-paths eibgp")
     ∷ refused (codes "distance")
     ∷ refused (codes "default-information")
     ∷ refused (codes "default-metric")

@@ -89,6 +89,11 @@ pub other_lines :
     × IsDecided block.Bgp (codes " neighbor 10.0.0.1 weight 5") (Some (Form (form.Bgp bgp.NeighborWeight)))
     × IsDecided block.Bgp (codes " neighbor 10.0.0.1 version 4") (Some Ignored)
     × IsDecided block.Bgp (codes " neighbor 10.0.0.1") (Some Refused)
+    × IsDecided block.Bgp (codes " maximum-paths 4") (Some (Form (form.Bgp bgp.MaximumPaths)))
+    × IsDecided block.Bgp (codes " maximum-paths") (Some (Form (form.Bgp bgp.MaximumPaths)))
+    × IsDecided block.Bgp (codes " maximum-paths ibgp 4") (Some (Form (form.Bgp bgp.MaximumPathsIbgp)))
+    × IsDecided block.Bgp (codes " maximum-paths eibgp 4") (Some Refused)
+    × IsDecided block.Ospf (codes " maximum-paths 4") (Some Refused)
     × IsDecided block.Bgp (codes " no bgp default ipv4-unicast") (Some Refused)
     × IsDecided block.Bgp (codes " no synchronization") (Some Ignored)
     × IsDecided block.Bgp (codes " exit-address-family") (Some Refused)
@@ -96,7 +101,7 @@ pub other_lines :
     × IsDecided block.Ignored (codes " anything at all") (Some Ignored)
     × IsDecided block.Closed (codes " ip address 10.0.0.1 255.0.0.0") None
 unfolding decisive_row access_list access_list_forms access_list_refused access_list_ignored route_map route_map_forms route_map_refused route_map_ignored ospf ospf_forms ospf_refused ospf_ignored bgp bgp_forms bgp_refused bgp_ignored words_of
-other_lines = (refl, refl, refl, refl, refl, refl, refl, refl, refl, refl, refl, refl, refl, refl, refl, refl, refl, refl, refl, refl, refl, refl, refl, refl, refl, refl, refl)
+other_lines = (refl, refl, refl, refl, refl, refl, refl, refl, refl, refl, refl, refl, refl, refl, refl, refl, refl, refl, refl, refl, refl, refl, refl, refl, refl, refl, refl, refl, refl, refl, refl, refl)
 
 -- forms of every block count; openings that only ever refuse do not
 pub unopened_lines :
@@ -105,13 +110,14 @@ pub unopened_lines :
     × (unopened (words_of (codes "area 1 stub")) ≡ OutOfPlace)
     × (unopened (words_of (codes "set origin")) ≡ OutOfPlace)
     × (unopened (words_of (codes "neighbor 10.0.0.1 weight")) ≡ OutOfPlace)
-    × (unopened (words_of (codes "maximum-paths 2")) ≡ Unknown)
+    × (unopened (words_of (codes "maximum-paths 2")) ≡ OutOfPlace)
+    × (unopened (words_of (codes "maximum-paths eibgp 2")) ≡ OutOfPlace)
     × (unopened (words_of (codes "address-family ipv4")) ≡ Unknown)
     × (unopened (words_of (codes "exit-address-family")) ≡ Unknown)
     × (unopened (words_of (codes "neighbor 10.0.0.1")) ≡ Unknown)
     × (unopened (words_of (codes "version 15.7")) ≡ Unknown)
 unfolding global global_forms global_refused global_ignored interface interface_forms interface_refused interface_ignored access_list access_list_forms access_list_refused access_list_ignored route_map route_map_forms route_map_refused route_map_ignored ospf ospf_forms ospf_refused ospf_ignored bgp bgp_forms bgp_refused bgp_ignored words_of
-unopened_lines = (refl, refl, refl, refl, refl, refl, refl, refl, refl, refl)
+unopened_lines = (refl, refl, refl, refl, refl, refl, refl, refl, refl, refl, refl)
 
 pub numbers :
     (number_of (codes "007") ≡ Some 7)

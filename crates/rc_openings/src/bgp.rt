@@ -26,7 +26,7 @@ macro_rules! one_word {
                 b"exit" => Verdict::Ignored,
             }
             b'm' {
-                b"maximum-paths" => Verdict::Refused,
+                b"maximum-paths" => Verdict::Form(Form::Bgp(BgpForm::MaximumPaths)),
             }
             b'n' {
                 b"network" => Verdict::Form(Form::Bgp(BgpForm::Network)),
@@ -65,8 +65,14 @@ macro_rules! more_words {
             b'd' {
                 b"bgp deterministic-med" => Verdict::Ignored,
             }
+            b'e' {
+                b"maximum-paths eibgp" => Verdict::Refused,
+            }
             b'g' {
                 b"bgp graceful-restart" => Verdict::Ignored,
+            }
+            b'i' {
+                b"maximum-paths ibgp" => Verdict::Form(Form::Bgp(BgpForm::MaximumPathsIbgp)),
             }
             b'l' {
                 b"bgp log-neighbor-changes" => Verdict::Ignored,

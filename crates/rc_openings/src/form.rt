@@ -152,6 +152,10 @@ pub enum BgpForm {
     RouterBgp,
     /// `bgp router-id` under `router bgp`.
     RouterId,
+    /// `maximum-paths` under `router bgp`.
+    MaximumPaths,
+    /// `maximum-paths ibgp` under `router bgp`.
+    MaximumPathsIbgp,
     /// `network` under `router bgp`.
     Network,
     /// `neighbor * remote-as` under `router bgp`.

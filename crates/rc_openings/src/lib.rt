@@ -4,6 +4,10 @@
 //! one with most words decides it, that no two openings decide one line, and what each word is as a number, an
 //! address, a prefix or a mask; `FormRows` and `said_by` of its specs say what a line means, given the rows of its
 //! forms. No call here takes memory.
+//!
+//! The crate goes one way: the words of a line (`words`) and the values that they write (`values`); an opening and what it says of a
+//! line (`opening`, `form`), the one of several that decides it (`decide`, `table`); the openings of each block (`global`, `interface`,
+//! `ospf`, `bgp`, `route_map`, `access_list`, together in `block`); and what follows for the line (`decision`, `reading`).
 #![tactic(auto)]
 
 mod access_list;
