@@ -1,6 +1,7 @@
 pub mod NumberName
 pub mod Values
 pub mod Address
+pub mod Further
 pub mod Port
 pub mod Lines
 pub mod Refused

@@ -13,12 +13,13 @@ use Rattle.rc_config.specs.Lists.{access_list_named}
 use Rattle.rc_config.specs.declared.access_list.AccessList.{AccessList}
 use Rattle.rc_config.specs.declared.access_list.AccessListKind.{AccessListKind}
 use Rattle.rc_config.specs.declared.access_list.AccessListKind.TheVariants.{Standard, Extended}
-use Rattle.rc_config.specs.declared.access_list.AccessListLine.{AccessListLine}
 use Rattle.rc_config.specs.declared.access_list.Action.{Action}
 use Rattle.rc_config.specs.declared.command.Command.{Command}
 use Rattle.rc_config.specs.declared.command.Command.TheVariants as command
+use Rattle.rc_config.specs.declared.lists.ListLine.TheVariants as list_line
 use Rattle.rc_config.specs.declared.router_text.RouterText.{RouterText}
 use Rattle.rc_gram_acl.specs.Entry.{Entry, entry}
+use Rattle.rc_gram_acl.specs.Lines.{line_with}
 use Rattle.rc_gram_acl.specs.ListNumber.{kind_of_number}
 use Rattle.rc_gram_acl.specs.Sequence.{sequence_for}
 
@@ -48,22 +49,15 @@ sequence_in file list kind written = sequence_by (named file.lists.access_lists 
 abbrev pub HasRoom : RouterText → List ℕ → AccessListKind → ℕ → Type 0
 HasRoom file list kind n = ((access_list_named file.lists list kind).kind ≡ kind) × (has_sequence (access_list_named file.lists list kind).lines n ≡ false)
 
-abbrev pub with_entry : List ℕ → AccessListKind → Entry → Answer
-with_entry list kind (Ok line) = Ok (command.AccessListLine list kind line)
-with_entry list kind (Err refusal) = Err refusal
-
--- a line that has no list or no number fits no row, also where its words are those of a line
-abbrev pub no_entry : Entry → Answer
-no_entry (Ok line) = Err BadValue
-no_entry (Err refusal) = Err refusal
-
-abbrev pub line_at : List ℕ → AccessListKind → Option ℕ → Action → List (List ℕ) → Answer
-line_at list kind (Some n) action words = with_entry list kind (entry kind n action words)
-line_at list kind None action words = no_entry (entry kind 1 action words)
+-- a line whose words fit is a line of the list where it has a number, and a bad value where it has none
+abbrev pub line_at : List ℕ → AccessListKind → Option ℕ → Action → Entry → Answer
+line_at list kind written action (Err refusal) = Err refusal
+line_at list kind None action (Ok tests) = Err BadValue
+line_at list kind (Some n) action (Ok tests) = Ok (command.ListLine list (list_line.AccessListLine kind (line_with n action tests)))
 
 -- one more line of a list, behind `permit` or `deny`
 abbrev pub line_of : RouterText → List ℕ → AccessListKind → Option ℕ → Action → List (List ℕ) → Answer
-line_of file list kind written action words = line_at list kind (sequence_in file list kind written) action words
+line_of file list kind written action words = line_at list kind (sequence_in file list kind written) action (entry kind words)
 
 -- the same of the list whose name is its number, which has a kind
 abbrev pub numbered_line : RouterText → ℕ → Option AccessListKind → Action → List (List ℕ) → Answer
@@ -81,7 +75,7 @@ numbered file (n ∷ w ∷ rest) =
 numbered file _ = Err BadValue
 
 abbrev pub opened_as : RouterText → AccessListKind → Option (List ℕ) → Answer
-opened_as file kind (Some list) = if may_be (named file.lists.access_lists list) kind then Ok (command.AccessListOpened list kind) else Err BadValue
+opened_as file kind (Some list) = if may_be (named file.lists.access_lists list) kind then Ok (command.ListLine list (list_line.AccessListOpened kind)) else Err BadValue
 opened_as file kind None = Err BadValue
 
 -- `ip access-list standard NAME`, `ip access-list extended NAME`: a number is a name too and stands for itself, and no list of the

@@ -1,4 +1,4 @@
--- The names of protocols and ports (IANA), and the numbers that they stand for.
+-- The names of protocols, ports and ICMP types (IANA), and the numbers that they stand for.
 use Rattle.std.specs.Prelude.{ℕ, List, [], ◌∷◌, Option, codes}
 use Rattle.std.specs.List.{find}
 use Rattle.std.specs.Option.{option_map}
@@ -79,3 +79,7 @@ port_names =
     ∷ row (codes "uucp") 540
     ∷ row (codes "non500-isakmp") 4500
     ∷ []
+
+-- the types of ICMP messages that have names here (RFC 792)
+unfoldable pub icmp_type_names : List Row
+icmp_type_names = row (codes "echo-reply") 0 ∷ row (codes "unreachable") 3 ∷ row (codes "echo") 8 ∷ row (codes "time-exceeded") 11 ∷ []

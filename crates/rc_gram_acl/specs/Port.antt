@@ -16,6 +16,7 @@ use Rattle.rc_gram_acl.specs.declared.ports.Side.{Side}
 use Rattle.rc_gram_acl.specs.declared.ports.Side.TheVariants.{Source, Destination}
 use Rattle.rc_gram_acl.specs.declared.ports.EndPoint.{EndPoint}
 use Rattle.rc_gram_acl.specs.Address.{address}
+use Rattle.rc_gram_acl.specs.Further.{is_established, is_log}
 use Rattle.rc_gram_acl.specs.Values.{port_of}
 
 -- the words with which tests of ports begin
@@ -32,14 +33,10 @@ operator_of w =
 abbrev pub begins_address : List ℕ → Bool
 begins_address w = bytes_eq w (codes "any") || bytes_eq w (codes "host") || is_some (address_of w)
 
--- what matches is logged, which changes no answer
-abbrev pub is_log : List ℕ → Bool
-is_log w = bytes_eq w (codes "log") || bytes_eq w (codes "log-input")
-
--- behind the ports of the source stands an address, and behind those of the destination at most a word that logs
+-- behind the ports of the source stands an address, and behind those of the destination `established` or a word that logs
 abbrev pub ends_ports : Side → List ℕ → Bool
 ends_ports Source w = begins_address w
-ends_ports Destination w = is_log w
+ends_ports Destination w = is_log w || is_established w
 
 -- the words up to one that ends the ports
 abbrev pub until_end : Side → List (List ℕ) → List (List ℕ)
@@ -55,9 +52,9 @@ listed side (w ∷ rest) = w ∷ until_end side rest
 abbrev pub port_list : Side → List (List ℕ) → Part (List ℕ)
 port_list side words = before (drop (length (listed side words)) words) (option_and_then ports_of (each_value port_of (listed side words)))
 
--- these ports and those behind them, up to the end
-abbrev pub more_ports : Side → List ℕ → List (List ℕ) → Part (List ℕ)
-more_ports side ports rest = before (drop (length (until_end side rest)) rest) (option_and_then (λ more. ports_of (ports ++ more)) (each_value port_of (until_end side rest)))
+-- one to ten ports: these, and those that the words name up to one that ends the ports
+abbrev pub ports_with : Side → List ℕ → List (List ℕ) → Part (List ℕ)
+ports_with side ports rest = before (drop (length (until_end side rest)) rest) (option_and_then (λ more. ports_of (ports ++ more)) (each_value port_of (until_end side rest)))
 
 -- the port behind `lt` and `gt`
 abbrev pub one_port : List (List ℕ) → Part ℕ

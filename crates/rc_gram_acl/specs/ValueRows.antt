@@ -2,8 +2,8 @@
 use Rattle.std.specs.Prelude.{◌≡◌, refl, false, true, [], ◌∷◌, map, Some, None, codes}
 use Rattle.rc_openings.specs.Words.{words_of}
 use Rattle.rc_config.specs.declared.access_list.ProtocolTest.TheVariants.{Any, Is}
-use Rattle.rc_gram_acl.specs.NumberName.{protocol_names, port_names}
-use Rattle.rc_gram_acl.specs.Values.{protocol_of, port_of, is_unknown_port}
+use Rattle.rc_gram_acl.specs.NumberName.{icmp_type_names, protocol_names, port_names}
+use Rattle.rc_gram_acl.specs.Values.{icmp_number_of, icmp_type_of, protocol_of, port_of, is_unknown_port}
 
 -- each name of a protocol
 pub protocols_by_name :
@@ -43,6 +43,14 @@ pub ports :
     × (port_of (codes "tcp") ≡ None)
 unfolding port_names
 ports = (refl, refl, refl, refl, refl, refl, refl)
+
+-- ICMP types have four names, and are numbers to 255; a code is a number
+pub icmp_types :
+    (map icmp_type_of (words_of (codes "echo-reply unreachable echo time-exceeded 0 255")) ≡ map Some (0 ∷ 3 ∷ 8 ∷ 11 ∷ 0 ∷ 255 ∷ []))
+    × (map icmp_type_of (words_of (codes "256 redirect Echo echo-request")) ≡ None ∷ None ∷ None ∷ None ∷ [])
+    × (map icmp_number_of (words_of (codes "0 255 256 echo")) ≡ Some 0 ∷ Some 255 ∷ None ∷ None ∷ [])
+unfolding words_of icmp_type_names
+icmp_types = (refl, refl, refl)
 
 -- only a word that begins with a letter is a name
 pub unknown_ports :

@@ -6,6 +6,7 @@
 
 mod addresses;
 mod entry;
+mod further;
 mod lines;
 mod list_number;
 mod lists;

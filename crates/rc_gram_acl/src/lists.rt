@@ -12,7 +12,7 @@ use crate::entry::read_entry;
 use crate::list_number::kind_of_number;
 use crate::sequence::sequence_for;
 use rc_base::Name;
-use rc_config::{AccessList, AccessListKind, Action, Command, RouterText, action_of};
+use rc_config::{AccessList, AccessListKind, Action, Command, ListLine, RouterText, action_of};
 use rc_openings::{LineRefusal, Words, word_u32};
 
 fn same_kind(first: AccessListKind, second: AccessListKind) -> bool
@@ -90,16 +90,6 @@ fn sequence_in(
     sequence_by(file.lists.access_lists.get(list), kind, written)
 }
 
-/// Why a line that has no list or no number is refused.
-fn refusal_of(kind: AccessListKind, action: Action, words: Words) -> LineRefusal
-    ensures { lists.no_entry (entry kind 1 action (words_left words.entry)) ≡ Err result }
-{
-    match read_entry(kind, 1, action, words) {
-        Ok(_) => LineRefusal::BadValue,
-        Err(refusal) => refusal,
-    }
-}
-
 /// `permit|deny ..`, one more line of a list.
 pub(crate) fn line_of(
     file: &RouterText,
@@ -114,13 +104,19 @@ pub(crate) fn line_of(
     ensures in_range { IfOk result IsInRange }
     ensures fits { IfOk result (FitsFile file.now) }
 {
-    let sequence = sequence_in(file, &list, kind, written);
-    let Some(number) = sequence else {
-        return Err(refusal_of(kind, action, words));
+    let tests = match read_entry(kind, words) {
+        Ok(tests) => tests,
+        Err(refusal) => return Err(refusal),
     };
-    match read_entry(kind, number, action, words) {
-        Ok(line) => Ok(Command::AccessListLine { list, kind, line }),
-        Err(refusal) => Err(refusal),
+    match sequence_in(file, &list, kind, written) {
+        Some(sequence) => Ok(Command::ListLine {
+            list,
+            line: ListLine::AccessListLine {
+                kind,
+                line: tests.line(sequence, action),
+            },
+        }),
+        None => Err(LineRefusal::BadValue),
     }
 }
 
@@ -193,7 +189,10 @@ fn opened_as(
         Some(list) => {
             let free = may_be(file.lists.access_lists.get(&list), kind);
             if free {
-                Ok(Command::AccessListOpened { list, kind })
+                Ok(Command::ListLine {
+                    list,
+                    line: ListLine::AccessListOpened(kind),
+                })
             } else {
                 Err(LineRefusal::BadValue)
             }

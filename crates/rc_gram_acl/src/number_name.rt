@@ -1,6 +1,6 @@
-//! The names of protocols and ports, as the program's tables.
+//! The names of protocols, ports and ICMP types, as the program's tables.
 ghost use Rattle.std.specs.Prelude.{◌≡◌, map};
-ghost use Rattle.rc_gram_acl.specs.NumberName.{number_named as named, port_names as ports, protocol_names as protocols, row_of};
+ghost use Rattle.rc_gram_acl.specs.NumberName.{icmp_type_names as icmp_types, number_named as named, port_names as ports, protocol_names as protocols, row_of};
 
 /// A name and the number that it stands for.
 #[derive(Clone, Copy)]
@@ -211,6 +211,25 @@ static PORTS: [NumberName; 39] = [
     },
 ];
 
+static ICMP_TYPES: [NumberName; 4] = [
+    NumberName {
+        name: b"echo-reply",
+        number: 0,
+    },
+    NumberName {
+        name: b"unreachable",
+        number: 3,
+    },
+    NumberName {
+        name: b"echo",
+        number: 8,
+    },
+    NumberName {
+        name: b"time-exceeded",
+        number: 11,
+    },
+];
+
 /// The number of the name that a word is.
 pub(crate) fn number_named(rows: &[NumberName], word: &[u8]) -> Option<u16>
     ensures { result ≡ named (map row_of rows.now) word.now }
@@ -235,4 +254,11 @@ pub(crate) fn port_names() -> &'static [NumberName]
     ensures { map row_of result.now ≡ ports }
 {
     &PORTS
+}
+
+/// The ICMP types that have names here.
+pub(crate) fn icmp_type_names() -> &'static [NumberName]
+    ensures { map row_of result.now ≡ icmp_types }
+{
+    &ICMP_TYPES
 }

@@ -9,6 +9,7 @@ ghost use Rattle.rc_gram_acl.specs.Port as tests;
 ghost use Rattle.rc_gram_acl.specs.Values.{port_of};
 
 use crate::addresses::read_address;
+use crate::further::{is_established, is_log};
 use crate::values::word_port;
 use rc_config::{AddressTest, PortTest, Ports, ProtocolTest};
 use rc_openings::{Words, word_addr};
@@ -70,13 +71,6 @@ fn begins_address(word: &[u8]) -> bool
     word == b"any".as_slice() || word == b"host".as_slice() || word_addr(word).is_some()
 }
 
-/// Whether a word at the end of a line asks to log what matches, which changes no answer.
-pub(crate) fn is_log(word: &[u8]) -> bool
-    ensures { result ≡ tests.is_log word.now }
-{
-    word == b"log".as_slice() || word == b"log-input".as_slice()
-}
-
 impl Side {
     /// Whether a word ends the ports behind `eq` or `neq`.
     pub(crate) fn ends_ports(self, word: &[u8]) -> bool
@@ -84,7 +78,7 @@ impl Side {
     {
         match self {
             Side::Source => begins_address(word),
-            Side::Destination => is_log(word),
+            Side::Destination => is_log(word) || is_established(word),
         }
     }
 }
@@ -103,7 +97,7 @@ fn with_port(ports: Ports, word: &[u8]) -> Option<Ports>
 /// These ports with all that follow them.
 fn ports_from(side: Side, first: Ports, words: Words) -> Option<(Ports, Words)>
     requires { are_ports first ≡ true }
-    ensures { IsPart (tests.more_ports side first (words_left words.entry)) result }
+    ensures { IsPart (tests.ports_with side first (words_left words.entry)) result }
 {
     let mut ports = first;
     let mut rest = words;

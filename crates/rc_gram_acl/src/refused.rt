@@ -8,8 +8,9 @@ ghost use Rattle.rc_gram_acl.specs.Refused as refused;
 ghost use Rattle.rc_gram_acl.specs.Values.{is_unknown_port as is_unknown};
 
 use crate::addresses::read_address;
+use crate::further::is_log;
 use crate::ports::{Operator, Side, has_ports, operator_of, read_end_point};
-use crate::values::{is_unknown_port, word_protocol};
+use crate::values::{is_unknown_icmp_type, is_unknown_port, word_protocol};
 use rc_config::ProtocolTest;
 use rc_openings::{Words, begins_with_letter};
 
@@ -20,7 +21,7 @@ pub(crate) fn refused_words() -> Words<'static>
     ensures { words_left result ≡ refused.refused_words }
 {
     Words::new(
-        b"established fragments dscp tos precedence time-range object-group ttl option reflect dynamic match-any match-all ack rst syn fin psh urg",
+        b"fragments dscp tos precedence time-range object-group ttl option reflect dynamic match-any match-all ack rst syn fin psh urg",
     )
 }
 
@@ -99,13 +100,35 @@ fn has_unknown_port(side: Side, words: Words) -> bool
     }
 }
 
-/// Whether a protocol's lines may name messages, which aren't modelled: icmp and igmp.
-fn has_messages(protocol: ProtocolTest) -> bool
-    ensures { result ≡ refused.has_messages protocol }
+/// Whether a word is a name of no ICMP type, and doesn't log either.
+fn is_refused_message(word: &[u8]) -> bool
+    ensures { result ≡ refused.is_refused_message word.now }
+{
+    is_unknown_icmp_type(word) && !is_log(word)
+}
+
+/// Whether one of the words is such a name.
+fn has_refused_message(words: Words) -> bool
+    ensures { result ≡ list_any refused.is_refused_message (words_left words.entry) }
+{
+    let mut rest = words;
+    while let Some(word) = rest.next_word() {
+        if is_refused_message(word) {
+            return true;
+        }
+    }
+    false
+}
+
+/// Whether a refused word stands behind the destination, by the protocol: each word in a line of igmp, names of no ICMP type
+/// in one of icmp, names of no port in one of tcp or udp.
+fn has_refused_word(protocol: ProtocolTest, words: Words) -> bool
+    ensures { result ≡ refused.has_refused_word protocol (words_left words.entry) }
 {
     match protocol {
-        ProtocolTest::Any => false,
-        ProtocolTest::Is(number) => number == 1 || number == 2,
+        ProtocolTest::Is(1) => has_refused_message(words),
+        ProtocolTest::Is(2) => !words.is_empty(),
+        _ => has_ports(protocol) && has_unknown_port(Side::Destination, words),
     }
 }
 
@@ -124,13 +147,7 @@ fn is_refused_behind_destination(protocol: ProtocolTest, words: Words) -> bool
     ensures { result ≡ refused.refused_behind_destination protocol (address (words_left words.entry)) }
 {
     match read_address(words) {
-        Some((_, rest)) => {
-            if has_messages(protocol) {
-                !rest.is_empty()
-            } else {
-                has_ports(protocol) && has_unknown_port(Side::Destination, rest)
-            }
-        }
+        Some((_, rest)) => has_refused_word(protocol, rest),
         None => false,
     }
 }
@@ -151,8 +168,8 @@ fn is_refused_behind_protocol(protocol: ProtocolTest, words: Words) -> bool
     is_refused_behind_source(protocol, words) || is_refused_from_destination(protocol, words)
 }
 
-/// Whether an extended line, read as far as it fits, names a protocol or a port that isn't known here, or has a message
-/// of icmp or igmp.
+/// Whether an extended line, read as far as it fits, names a protocol, a port or an ICMP type that isn't known here, or
+/// has a message of igmp.
 pub(crate) fn has_refused_place(words: Words) -> bool
     ensures { result ≡ refused.has_refused_place (words_left words.entry) }
 {

@@ -1,12 +1,12 @@
-//! The words that are values: protocols and ports, by number or by name.
+//! The words that are values: protocols, ports and ICMP types, by number or by name.
 ghost use Rattle.std.specs.Prelude.{◌≡◌, ◌≤◌, IfSome, map};
 ghost use Rattle.rc_openings.specs.Values.{number_of};
 ghost use Rattle.rc_gram_acl.specs.NumberName.{row_of};
 ghost use Rattle.rc_gram_acl.specs.Values as values;
 
-use crate::number_name::{NumberName, number_named, port_names, protocol_names};
+use crate::number_name::{NumberName, icmp_type_names, number_named, port_names, protocol_names};
 use rc_config::ProtocolTest;
-use rc_openings::{begins_with_letter, word_u32};
+use rc_openings::{begins_with_letter, number_in, word_u32};
 
 /// The number that a word is, or that it names in a table.
 fn number_or_name(rows: &[NumberName], word: &[u8]) -> Option<u32>
@@ -53,6 +53,33 @@ pub(crate) fn word_protocol(word: &[u8]) -> Option<ProtocolTest>
         Some(protocol) => Some(ProtocolTest::Is(protocol as u8)),
         None => None,
     }
+}
+
+/// The ICMP type that a word is: a number from 0 to 255, or the name of one.
+pub(crate) fn word_icmp_type(word: &[u8]) -> Option<u8>
+    ensures { result ≡ values.icmp_type_of word.now }
+{
+    match number_up_to(255, icmp_type_names(), word) {
+        Some(icmp_type) => Some(icmp_type as u8),
+        None => None,
+    }
+}
+
+/// The ICMP type or code that a word is as a number, from 0 to 255.
+pub(crate) fn word_icmp_number(word: &[u8]) -> Option<u8>
+    ensures { result ≡ values.icmp_number_of word.now }
+{
+    match number_in(0, 255, word) {
+        Some(number) => Some(number as u8),
+        None => None,
+    }
+}
+
+/// Whether a word is a name, and that of no ICMP type.
+pub(crate) fn is_unknown_icmp_type(word: &[u8]) -> bool
+    ensures { result ≡ values.is_unknown_icmp_type word.now }
+{
+    begins_with_letter(word) && word_icmp_type(word).is_none()
 }
 
 /// Whether a word is a name, and that of no port.

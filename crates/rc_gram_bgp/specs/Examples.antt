@@ -10,7 +10,7 @@ use Rattle.rc_openings.specs.Words.{words_of}
 use Rattle.rc_openings.specs.declared.reading.LineRefusal.TheVariants.{Unsupported, BadValue}
 use Rattle.rc_config.specs.Update.{after, empty}
 use Rattle.rc_config.specs.declared.bgp.BgpLine.{BgpLine}
-use Rattle.rc_config.specs.declared.bgp.BgpLine.TheVariants.{RouterId, Network, Neighbor, RedistributeConnected, RedistributeStatic, RedistributeOspf}
+use Rattle.rc_config.specs.declared.bgp.BgpLine.TheVariants.{RouterId, MaximumExternalPaths, MaximumInternalPaths, Network, Neighbor, RedistributeConnected, RedistributeStatic, RedistributeOspf}
 use Rattle.rc_config.specs.declared.bgp.NeighborSetting.{NeighborSetting}
 use Rattle.rc_config.specs.declared.bgp.NeighborSetting.TheVariants.{RemoteAs, UpdateSource, EbgpMultihop, Shutdown, NextHopSelf, DefaultOriginate, SendCommunity, Weight, RouteMap, PrefixList}
 use Rattle.rc_config.specs.declared.bgp.BgpRedistribution.{BgpRedistribution}
@@ -316,6 +316,26 @@ pub from_ospf :
 unfolding decided decisive_row bgp bgp_forms bgp_refused bgp_ignored words_of
 from_ospf = (refl, refl, refl, refl, refl, refl, refl, refl, refl, refl, refl, refl, refl)
 
+-- one number from 1 to 32, for external paths and for internal ones
+pub several_paths :
+    Says (codes " maximum-paths 1") (Ok (command.BgpLine (MaximumExternalPaths 1)))
+    × Says (codes " maximum-paths 32") (Ok (command.BgpLine (MaximumExternalPaths 32)))
+    × Says (codes " maximum-paths 0") (Err BadValue)
+    × Says (codes " maximum-paths 33") (Err BadValue)
+    × Says (codes " maximum-paths") (Err BadValue)
+    × Says (codes " maximum-paths two") (Err BadValue)
+    × Says (codes " maximum-paths 2 ibgp") (Err BadValue)
+    × Says (codes " maximum-paths 2 import 2") (Err BadValue)
+    × Says (codes " maximum-paths ibgp 1") (Ok (command.BgpLine (MaximumInternalPaths 1)))
+    × Says (codes " maximum-paths ibgp 032") (Ok (command.BgpLine (MaximumInternalPaths 32)))
+    × Says (codes " maximum-paths ibgp 0") (Err BadValue)
+    × Says (codes " maximum-paths ibgp 33") (Err BadValue)
+    × Says (codes " maximum-paths ibgp") (Err BadValue)
+    × Says (codes " maximum-paths ibgp 2 3") (Err BadValue)
+    × Says (codes " maximum-paths ibgp eibgp") (Err BadValue)
+unfolding decided decisive_row bgp bgp_forms bgp_refused bgp_ignored words_of
+several_paths = (refl, refl, refl, refl, refl, refl, refl, refl, refl, refl, refl, refl, refl, refl, refl)
+
 -- lines about IPv6 neighbours are passed over, whatever stands behind their addresses
 pub other_families :
     Says (codes " neighbor 2001:db8::2 remote-as 65001") (Ok command.Passed)
@@ -337,7 +357,8 @@ pub others :
     × Says (codes " aggregate-address 10.0.0.0 255.0.0.0") (Err Unsupported)
     × Says (codes " address-family ipv4") (Err Unsupported)
     × Says (codes " exit-address-family") (Err Unsupported)
-    × Says (codes " maximum-paths 2") (Err Unsupported)
+    × Says (codes " maximum-paths eibgp 2") (Err Unsupported)
+    × Says (codes " maximum-paths eibgp") (Err Unsupported)
     × Says (codes " redistribute rip") (Err Unsupported)
     × Says (codes " redistribute") (Err Unsupported)
     × Says (codes " bgp log-neighbor-changes") (Ok command.Passed)
@@ -347,4 +368,4 @@ pub others :
     × Says (codes " no auto-summary") (Ok command.Passed)
     × Says (codes " exit") (Ok command.Passed)
 unfolding decided decisive_row bgp bgp_forms bgp_refused bgp_ignored words_of
-others = (refl, refl, refl, refl, refl, refl, refl, refl, refl, refl, refl, refl, refl, refl, refl, refl, refl)
+others = (refl, refl, refl, refl, refl, refl, refl, refl, refl, refl, refl, refl, refl, refl, refl, refl, refl, refl)

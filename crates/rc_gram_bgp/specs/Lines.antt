@@ -6,15 +6,28 @@ use Rattle.std.specs.Str.{bytes_eq}
 use Rattle.rc_base.specs.Prefix.{Cidr}
 use Rattle.rc_config.specs.Classes.{natural_length}
 use Rattle.rc_config.specs.declared.bgp.BgpLine.{BgpLine}
-use Rattle.rc_config.specs.declared.bgp.BgpLine.TheVariants.{RouterId, Network, Neighbor, RedistributeConnected, RedistributeStatic, RedistributeOspf}
+use Rattle.rc_config.specs.declared.bgp.BgpLine.TheVariants.{RouterId, MaximumExternalPaths, MaximumInternalPaths, Network, Neighbor, RedistributeConnected, RedistributeStatic, RedistributeOspf}
 use Rattle.rc_config.specs.declared.bgp.NeighborSetting.{NeighborSetting}
-use Rattle.rc_openings.specs.Values.{address_of, mask_length_of, prefix_from}
+use Rattle.rc_openings.specs.Values.{address_of, mask_length_of, number_within, prefix_from}
 use Rattle.rc_gram_bgp.specs.Redistributions.{options, ospf_redistribution}
 
 -- `bgp router-id A`
 abbrev pub router_id : List (List ℕ) → Option BgpLine
 router_id (a ∷ []) = option_map RouterId (address_of a)
 router_id _ = None
+
+-- how many paths of a prefix a word allows
+abbrev pub path_number : List ℕ → Option ℕ
+path_number w = number_within 1 32 w
+
+-- `maximum-paths N`, and `maximum-paths ibgp N`, from 1 to 32
+abbrev pub maximum_paths : List (List ℕ) → Option BgpLine
+maximum_paths (n ∷ []) = option_map MaximumExternalPaths (path_number n)
+maximum_paths _ = None
+
+abbrev pub maximum_paths_ibgp : List (List ℕ) → Option BgpLine
+maximum_paths_ibgp (n ∷ []) = option_map MaximumInternalPaths (path_number n)
+maximum_paths_ibgp _ = None
 
 -- the prefix of the network of an address by its class; from 224.0.0.0 on there is none
 abbrev pub natural_prefix : Option ℕ → Option Cidr

@@ -13,7 +13,7 @@ use Rattle.rc_openings.specs.declared.form.BgpForm.{BgpForm}
 use Rattle.rc_openings.specs.declared.form.BgpForm.TheVariants as form
 use Rattle.rc_openings.specs.declared.reading.LineRefusal.{LineRefusal}
 use Rattle.rc_openings.specs.declared.reading.LineRefusal.TheVariants.{Unsupported, BadValue}
-use Rattle.rc_gram_bgp.specs.Lines.{about, network, redistribute_connected, redistribute_ospf, redistribute_static, router_id}
+use Rattle.rc_gram_bgp.specs.Lines.{about, maximum_paths, maximum_paths_ibgp, network, redistribute_connected, redistribute_ospf, redistribute_static, router_id}
 use Rattle.rc_gram_bgp.specs.NeighborLines.{alone, ebgp_multihop, neighbor_of, prefix_list, remote_as, route_map, send_community, update_source, weight}
 
 abbrev pub Answer : Type 0
@@ -58,6 +58,8 @@ communities line behind = if is_extended behind then activate (neighbor_of line)
 abbrev pub row : RouterText → ℕ → List (List ℕ) → BgpForm → List (List ℕ) → Answer
 row file number line form.RouterBgp behind = router_bgp file behind
 row file number line form.RouterId behind = in_block (router_id behind)
+row file number line form.MaximumPaths behind = in_block (maximum_paths behind)
+row file number line form.MaximumPathsIbgp behind = in_block (maximum_paths_ibgp behind)
 row file number line form.Network behind = in_block (network behind)
 row file number line form.NeighborRemoteAs behind = sets line (remote_as behind)
 row file number line form.NeighborUpdateSource behind = sets line (update_source behind)

@@ -3,12 +3,13 @@ ghost use Rattle.std.specs.Prelude.{◌≡◌, [], IfOk, IfSome};
 ghost use Rattle.std.specs.Option.{option_copied};
 ghost use Rattle.rc_openings.specs.Values.{number_within};
 ghost use Rattle.rc_openings.specs.Words.{words_left};
-ghost use Rattle.rc_config.specs.Bgp.{IsAsn};
+ghost use Rattle.rc_config.specs.Bgp.{IsAsn, IsLawfulBgpLine};
 ghost use Rattle.rc_config.specs.Lawful.{FitsFile, IsInRange};
 ghost use Rattle.rc_gram_bgp.specs.Rows as rows;
 
 use crate::lines::{
-    about, network, redistribute_connected, redistribute_ospf, redistribute_static, router_id,
+    about, maximum_paths, maximum_paths_ibgp, network, redistribute_connected, redistribute_ospf,
+    redistribute_static, router_id,
 };
 use crate::neighbor_lines::{
     alone, ebgp_multihop, neighbor_of, prefix_list, remote_as, route_map, send_community,
@@ -68,6 +69,7 @@ fn activate(address: Option<Addr>, mut words: Words) -> Result<Command, LineRefu
 
 /// A line in the block of the process.
 fn in_block(line: Option<BgpLine>) -> Result<Command, LineRefusal>
+    requires { IfSome line IsLawfulBgpLine }
     ensures row { result ≡ rows.in_block line }
     ensures in_range { IfOk result IsInRange }
     ensures fits { (file : RouterText) → IfOk result (FitsFile file) }
@@ -136,6 +138,8 @@ pub(crate) fn row(
     match form {
         BgpForm::RouterBgp => router_bgp(file, behind),
         BgpForm::RouterId => in_block(router_id(behind)),
+        BgpForm::MaximumPaths => in_block(maximum_paths(behind)),
+        BgpForm::MaximumPathsIbgp => in_block(maximum_paths_ibgp(behind)),
         BgpForm::Network => in_block(network(behind)),
         BgpForm::NeighborRemoteAs => sets(line, remote_as(behind)),
         BgpForm::NeighborUpdateSource => sets(line, update_source(behind)),

@@ -5,7 +5,7 @@ use Rattle.rc_openings.specs.declared.reading.LineError.{LineError}
 use Rattle.rc_openings.specs.declared.reading.LineRefusal.{LineRefusal}
 use Rattle.rc_openings.specs.declared.reading.LineRefusal.TheVariants.{Unknown, Unsupported, BadValue, OutOfPlace}
 use Rattle.rc_config.specs.declared.command.Command.{Command}
-use Rattle.rc_config.specs.declared.command.Command.TheVariants.{Passed, Remark, Hostname, Interface, Address, Shutdown, Bandwidth, StaticRoute, AccessListOpened, AccessListLine, AccessGroup, PrefixLine, CommunityLine, MapOpened, MapLine, InterfaceOspf, OspfOpened, OspfLine, BgpOpened, BgpLine}
+use Rattle.rc_config.specs.declared.command.Command.TheVariants.{Passed, Remark, Hostname, Interface, InterfaceLine, StaticRoute, ListLine, MapOpened, MapLine, OspfOpened, OspfLine, BgpOpened, BgpLine}
 use Rattle.rc_config.specs.declared.router_text.RouterText.{RouterText}
 use Rattle.rc_config.specs.Lawful.{FitsFile, IsInRange}
 use Rattle.rc_gram_if.specs.Own.{IsOwn}
@@ -15,16 +15,9 @@ range-of Passed h = h
 range-of Remark h = h
 range-of (Hostname name line) h = h
 range-of (Interface name line) h = h
-range-of (Address name a secondary) h = h
-range-of (Shutdown name down) h = h
-range-of (Bandwidth name kbits) h = h
+range-of (InterfaceLine name line) h = h
 range-of (StaticRoute route) h = h
-range-of (AccessGroup name list direction) h = h
-range-of (InterfaceOspf name setting) h = h
-range-of (AccessListOpened list kind) h = absurd h
-range-of (AccessListLine list kind line) h = absurd h
-range-of (PrefixLine list line) h = absurd h
-range-of (CommunityLine list line) h = absurd h
+range-of (ListLine list line) h = absurd h
 range-of (MapOpened map n action) h = absurd h
 range-of (MapLine map n line) h = absurd h
 range-of (OspfOpened process) h = absurd h
@@ -37,16 +30,9 @@ fits-of file Passed h = tt
 fits-of file Remark h = tt
 fits-of file (Hostname name line) h = tt
 fits-of file (Interface name line) h = tt
-fits-of file (Address name a secondary) h = tt
-fits-of file (Shutdown name down) h = tt
-fits-of file (Bandwidth name kbits) h = tt
+fits-of file (InterfaceLine name line) h = tt
 fits-of file (StaticRoute route) h = tt
-fits-of file (AccessGroup name list direction) h = tt
-fits-of file (InterfaceOspf name setting) h = tt
-fits-of file (AccessListOpened list kind) h = absurd h
-fits-of file (AccessListLine list kind line) h = absurd h
-fits-of file (PrefixLine list line) h = absurd h
-fits-of file (CommunityLine list line) h = absurd h
+fits-of file (ListLine list line) h = absurd h
 fits-of file (MapOpened map n action) h = absurd h
 fits-of file (MapLine map n line) h = absurd h
 fits-of file (OspfOpened process) h = absurd h

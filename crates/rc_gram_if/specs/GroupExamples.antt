@@ -7,6 +7,7 @@ use Rattle.rc_openings.specs.Words.{words_of}
 use Rattle.rc_openings.specs.declared.reading.LineRefusal.TheVariants.{BadValue}
 use Rattle.rc_config.specs.Update.{empty}
 use Rattle.rc_config.specs.declared.command.Command.TheVariants as command
+use Rattle.rc_config.specs.declared.interface.InterfaceLine.TheVariants as interface_line
 use Rattle.rc_config.specs.declared.context.OpenBlock.TheVariants as place
 use Rattle.rc_config.specs.declared.interface.Direction.TheVariants.{In, Out}
 use Rattle.rc_gram_if.specs.Reading.{says}
@@ -18,9 +19,9 @@ Says text answer = says (place.Interface (codes "Serial0")) empty 1 (words_of te
 
 -- each direction, and a list of any name, which need not be there; a number stands for itself
 pub groups :
-    Says (codes " ip access-group WEB in") (Ok (command.AccessGroup (codes "Serial0") (codes "WEB") In))
-    × Says (codes " ip access-group 101 out") (Ok (command.AccessGroup (codes "Serial0") (codes "101") Out))
-    × Says (codes " ip access-group 005 in") (Ok (command.AccessGroup (codes "Serial0") (codes "005") In))
+    Says (codes " ip access-group WEB in") (Ok (command.InterfaceLine (codes "Serial0") (interface_line.AccessGroup (codes "WEB") In)))
+    × Says (codes " ip access-group 101 out") (Ok (command.InterfaceLine (codes "Serial0") (interface_line.AccessGroup (codes "101") Out)))
+    × Says (codes " ip access-group 005 in") (Ok (command.InterfaceLine (codes "Serial0") (interface_line.AccessGroup (codes "005") In)))
 unfolding decided decisive_row interface interface_forms interface_refused interface_ignored words_of
 groups = (refl, refl, refl)
 

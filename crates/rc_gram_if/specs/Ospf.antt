@@ -2,7 +2,8 @@
 use Rattle.std.specs.Prelude.{ℕ, List, [], ◌∷◌, Option, Some, None, Result, Ok, Err, codes}
 use Rattle.std.specs.Option.{option_map}
 use Rattle.rc_config.specs.declared.command.Command.{Command}
-use Rattle.rc_config.specs.declared.command.Command.TheVariants.{InterfaceOspf}
+use Rattle.rc_config.specs.declared.command.Command.TheVariants.{InterfaceLine}
+use Rattle.rc_config.specs.declared.interface.InterfaceLine.TheVariants as interface_line
 use Rattle.rc_config.specs.declared.ospf.NetworkType.{NetworkType as NetworkKind}
 use Rattle.rc_config.specs.declared.ospf.OspfSetting.{OspfSetting}
 use Rattle.rc_config.specs.declared.ospf.OspfSetting.TheVariants.{Cost, HelloInterval, DeadInterval, NetworkType, Area}
@@ -12,7 +13,7 @@ use Rattle.rc_openings.specs.declared.reading.LineRefusal.TheVariants.{BadValue}
 
 -- what a line sets for its interface
 abbrev pub sets : List ℕ → Option OspfSetting → Result Command LineRefusal
-sets owner (Some setting) = Ok (InterfaceOspf owner setting)
+sets owner (Some setting) = Ok (InterfaceLine owner (interface_line.Ospf setting))
 sets owner None = Err BadValue
 
 -- one number from 1 to 65535

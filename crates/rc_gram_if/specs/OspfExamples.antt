@@ -5,7 +5,8 @@ use Rattle.rc_openings.specs.Opening.{decisive_row}
 use Rattle.rc_openings.specs.Reading.{decided}
 use Rattle.rc_openings.specs.Words.{words_of}
 use Rattle.rc_openings.specs.declared.reading.LineRefusal.TheVariants.{Unsupported, BadValue}
-use Rattle.rc_config.specs.declared.command.Command.TheVariants.{Passed, InterfaceOspf}
+use Rattle.rc_config.specs.declared.command.Command.TheVariants.{Passed, InterfaceLine}
+use Rattle.rc_config.specs.declared.interface.InterfaceLine.TheVariants as interface_line
 use Rattle.rc_config.specs.declared.ospf.NetworkType.TheVariants.{Broadcast, PointToPoint}
 use Rattle.rc_config.specs.declared.ospf.OspfSetting.{OspfSetting}
 use Rattle.rc_config.specs.declared.ospf.OspfSetting.TheVariants.{Cost, HelloInterval, DeadInterval, NetworkType, Area}
@@ -13,7 +14,7 @@ use Rattle.rc_gram_if.specs.GroupExamples.{Says}
 
 -- a line in the block of the interface Serial0 sets this
 abbrev Sets : List ℕ → OspfSetting → Type 0
-Sets text setting = Says text (Ok (InterfaceOspf (codes "Serial0") setting))
+Sets text setting = Says text (Ok (InterfaceLine (codes "Serial0") (interface_line.Ospf setting)))
 
 abbrev area : ℕ → ℕ → OspfSetting
 area process n = Area (record { process = process; area = n })

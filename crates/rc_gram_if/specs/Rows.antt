@@ -9,6 +9,7 @@ use Rattle.rc_config.specs.DirectionWord.{direction_of}
 use Rattle.rc_config.specs.IfType.{type_of}
 use Rattle.rc_config.specs.declared.command.Command.{Command}
 use Rattle.rc_config.specs.declared.command.Command.TheVariants as command
+use Rattle.rc_config.specs.declared.interface.InterfaceLine.TheVariants as interface_line
 use Rattle.rc_config.specs.declared.interface.Direction.{Direction}
 use Rattle.rc_config.specs.declared.router_text.RouterText.{RouterText}
 use Rattle.rc_config.specs.declared.static_route.Target.{Target}
@@ -41,7 +42,7 @@ interface line _ = Err BadValue
 -- an address and a mask of length 1 to 32, in an interface of a type that may have addresses; in any other it isn't modelled
 abbrev pub address_in : List ℕ → Bool → Option ℕ → Option ℕ → Answer
 address_in owner secondary (Some a) (Some len) =
-    if nat_lt 0 len then (if is_some (type_of owner) then Ok (command.Address owner (record { addr = a; len = len }) secondary) else Err Unsupported) else Err BadValue
+    if nat_lt 0 len then (if is_some (type_of owner) then Ok (command.InterfaceLine owner (interface_line.Address (record { addr = a; len = len }) secondary)) else Err Unsupported) else Err BadValue
 address_in owner secondary _ _ = Err BadValue
 
 -- `ip address A M [secondary]`
@@ -52,11 +53,11 @@ ip_address owner _ = Err BadValue
 
 -- `shutdown`, `no shutdown`
 abbrev pub shutdown : List ℕ → Bool → List (List ℕ) → Answer
-shutdown owner down [] = Ok (command.Shutdown owner down)
+shutdown owner down [] = Ok (command.InterfaceLine owner (interface_line.Shutdown down))
 shutdown owner down (w ∷ ws) = Err BadValue
 
 abbrev pub kbits_in : List ℕ → Option ℕ → Answer
-kbits_in owner (Some kbits) = Ok (command.Bandwidth owner kbits)
+kbits_in owner (Some kbits) = Ok (command.InterfaceLine owner (interface_line.Bandwidth kbits))
 kbits_in owner None = Err BadValue
 
 -- `bandwidth N`, from 1 to 10,000,000 kbit/s
@@ -65,7 +66,7 @@ bandwidth owner (n ∷ []) = kbits_in owner (number_within 1 10000000 n)
 bandwidth owner _ = Err BadValue
 
 abbrev pub group_in : List ℕ → Option (List ℕ) → Option Direction → Answer
-group_in owner (Some list) (Some direction) = Ok (command.AccessGroup owner list direction)
+group_in owner (Some list) (Some direction) = Ok (command.InterfaceLine owner (interface_line.AccessGroup list direction))
 group_in owner _ _ = Err BadValue
 
 -- `ip access-group NAME in|out`: any name, a number too, which stands for itself

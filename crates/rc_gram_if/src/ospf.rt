@@ -6,7 +6,7 @@ ghost use Rattle.rc_gram_if.specs.Own.{IsOwn};
 ghost use Rattle.rc_gram_if.specs.Ospf as rows;
 
 use rc_base::Name;
-use rc_config::{Command, NetworkType, OspfArea, OspfSetting};
+use rc_config::{Command, InterfaceLine, NetworkType, OspfArea, OspfSetting};
 use rc_openings::{LineRefusal, Words, number_in, word_area};
 
 /// What a line sets for its interface.
@@ -16,9 +16,9 @@ pub(crate) fn sets(owner: Name, setting: Option<OspfSetting>) -> Result<Command,
     ensures own { IfOk result IsOwn }
 {
     match setting {
-        Some(setting) => Ok(Command::InterfaceOspf {
+        Some(setting) => Ok(Command::InterfaceLine {
             interface: owner,
-            setting,
+            line: InterfaceLine::Ospf(setting),
         }),
         None => Err(LineRefusal::BadValue),
     }

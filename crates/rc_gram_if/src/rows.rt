@@ -9,7 +9,8 @@ ghost use Rattle.rc_gram_if.specs.Rows as rows;
 use crate::route_options::read_distance;
 use rc_base::{Addr, Name, Prefix};
 use rc_config::{
-    Command, Direction, IfAddr, RouterText, StaticRoute, Target, direction_of, type_of_name,
+    Command, Direction, IfAddr, InterfaceLine, RouterText, StaticRoute, Target, direction_of,
+    type_of_name,
 };
 use rc_openings::{
     LineRefusal, Words, number_in, prefix_under, word_addr, word_interface, word_mask,
@@ -75,10 +76,9 @@ fn address_in(
         return Err(LineRefusal::BadValue);
     };
     match IfAddr::new(addr, len) {
-        Some(address) if type_of_name(&owner).is_some() => Ok(Command::Address {
+        Some(address) if type_of_name(&owner).is_some() => Ok(Command::InterfaceLine {
             interface: owner,
-            address,
-            secondary,
+            line: InterfaceLine::Address { address, secondary },
         }),
         Some(_) => Err(LineRefusal::Unsupported),
         None => Err(LineRefusal::BadValue),
@@ -108,9 +108,9 @@ pub(crate) fn shutdown(owner: Name, down: bool, mut words: Words) -> Result<Comm
     ensures own { IfOk result IsOwn }
 {
     match words.next_word() {
-        None => Ok(Command::Shutdown {
+        None => Ok(Command::InterfaceLine {
             interface: owner,
-            down,
+            line: InterfaceLine::Shutdown(down),
         }),
         Some(_) => Err(LineRefusal::BadValue),
     }
@@ -123,9 +123,9 @@ pub(crate) fn bandwidth(owner: Name, mut words: Words) -> Result<Command, LineRe
 {
     match (words.next_word(), words.next_word()) {
         (Some(word), None) => match number_in(1, 10_000_000, word) {
-            Some(kbits) => Ok(Command::Bandwidth {
+            Some(kbits) => Ok(Command::InterfaceLine {
                 interface: owner,
-                kbits,
+                line: InterfaceLine::Bandwidth(kbits),
             }),
             None => Err(LineRefusal::BadValue),
         },
@@ -142,10 +142,9 @@ fn group_in(
     ensures own { IfOk result IsOwn }
 {
     match (list, direction) {
-        (Some(list), Some(direction)) => Ok(Command::AccessGroup {
+        (Some(list), Some(direction)) => Ok(Command::InterfaceLine {
             interface: owner,
-            list,
-            direction,
+            line: InterfaceLine::AccessGroup { list, direction },
         }),
         _ => Err(LineRefusal::BadValue),
     }

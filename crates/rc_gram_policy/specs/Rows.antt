@@ -8,6 +8,7 @@ use Rattle.rc_openings.specs.declared.reading.LineRefusal.{LineRefusal}
 use Rattle.rc_openings.specs.declared.reading.LineRefusal.TheVariants.{BadValue}
 use Rattle.rc_config.specs.declared.command.Command.{Command}
 use Rattle.rc_config.specs.declared.command.Command.TheVariants as command
+use Rattle.rc_config.specs.declared.lists.ListLine.TheVariants as list_line
 use Rattle.rc_config.specs.declared.community_list.CommunityLine.{CommunityLine}
 use Rattle.rc_config.specs.declared.context.OpenBlock.{OpenBlock}
 use Rattle.rc_config.specs.declared.context.OpenBlock.TheVariants as place
@@ -22,10 +23,10 @@ said command_of (Ok x) = Ok (command_of x)
 said command_of (Err refusal) = Err refusal
 
 abbrev pub prefix_command : List ℕ × PrefixLine → Command
-prefix_command (list, line) = command.PrefixLine list line
+prefix_command (list, line) = command.ListLine list (list_line.PrefixLine line)
 
 abbrev pub community_command : List ℕ × CommunityLine → Command
-community_command (list, line) = command.CommunityLine list line
+community_command (list, line) = command.ListLine list (list_line.CommunityLine line)
 
 abbrev pub opening_command : OpenedEntry → Command
 opening_command e = command.MapOpened e.map e.number e.action

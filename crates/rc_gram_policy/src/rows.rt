@@ -12,7 +12,7 @@ use crate::map_lines::read_map_line;
 use crate::map_opening::read_map_opening;
 use crate::prefix_lines::read_prefix_line;
 use rc_base::Name;
-use rc_config::{Command, OpenBlock, RouterText};
+use rc_config::{Command, ListLine, OpenBlock, RouterText};
 use rc_openings::{LineError, LineRefusal, MapEntryForm, PolicyForm, Words};
 use std::alloc::Global;
 
@@ -23,7 +23,10 @@ fn prefix_line(file: &RouterText, behind: Words) -> Result<Command, LineError>
     ensures fits { IfOk result (FitsFile file.now) }
 {
     match read_prefix_line(&file.lists.prefix_lists, behind) {
-        Ok((list, line)) => Ok(Command::PrefixLine { list, line }),
+        Ok((list, line)) => Ok(Command::ListLine {
+            list,
+            line: ListLine::PrefixLine(line),
+        }),
         Err(refusal) => Err(LineError::Refused(refusal)),
     }
 }
@@ -39,7 +42,10 @@ fn numbered_community_line(
     ensures fits { IfOk result (FitsFile file.now) }
 {
     match read_numbered_community_line(alloc, behind) {
-        Ok((list, line)) => Ok(Command::CommunityLine { list, line }),
+        Ok((list, line)) => Ok(Command::ListLine {
+            list,
+            line: ListLine::CommunityLine(line),
+        }),
         Err(error) => Err(error),
     }
 }
@@ -55,7 +61,10 @@ fn standard_community_line(
     ensures fits { IfOk result (FitsFile file.now) }
 {
     match read_standard_community_line(alloc, behind) {
-        Ok((list, line)) => Ok(Command::CommunityLine { list, line }),
+        Ok((list, line)) => Ok(Command::ListLine {
+            list,
+            line: ListLine::CommunityLine(line),
+        }),
         Err(error) => Err(error),
     }
 }

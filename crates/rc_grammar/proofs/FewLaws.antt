@@ -31,22 +31,15 @@ few-after r command.Passed room few = few
 few-after r command.Remark room few = few
 few-after r (command.Hostname name line) room few = few
 few-after r (command.StaticRoute route) room few = few
-few-after r (command.AccessListOpened list kind) room few = few
-few-after r (command.AccessListLine list kind line) room few = few
-few-after r (command.PrefixLine list line) room few = few
-few-after r (command.CommunityLine list line) room few = few
+few-after r (command.ListLine list line) room few = few
 few-after r (command.MapOpened map n action) room few = few
 few-after r (command.MapLine map n line) room few = few
 few-after r (command.OspfOpened process) room few = few
 few-after r (command.OspfLine line) room few = few
 few-after r (command.BgpOpened asn) room few = few
 few-after r (command.BgpLine line) room few = few
-few-after r (command.InterfaceOspf name setting) room few = length-with_value r.interfaces name _ 256 (new_is_few r.interfaces name room) few
 few-after r (command.Interface name line) room few = length-with_value r.interfaces name _ 256 (new_is_few r.interfaces name room) few
-few-after r (command.Address name address secondary) room few = length-with_value r.interfaces name _ 256 (new_is_few r.interfaces name room) few
-few-after r (command.Shutdown name down) room few = length-with_value r.interfaces name _ 256 (new_is_few r.interfaces name room) few
-few-after r (command.Bandwidth name kbits) room few = length-with_value r.interfaces name _ 256 (new_is_few r.interfaces name room) few
-few-after r (command.AccessGroup name list direction) room few = length-with_value r.interfaces name _ 256 (new_is_few r.interfaces name room) few
+few-after r (command.InterfaceLine name line) room few = length-with_value r.interfaces name _ 256 (new_is_few r.interfaces name room) few
 
 -- of a model that a command made
 pub few-made : (r made : RouterText) (c : Command) → is_one_too_many r (interface_of c) ≡ false → made ≡ after r c → length r.interfaces ≤ 256 → length made.interfaces ≤ 256

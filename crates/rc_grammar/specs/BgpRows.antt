@@ -10,7 +10,7 @@ use Rattle.rc_openings.specs.Reading.{decided}
 use Rattle.rc_openings.specs.RouteMapOpenings.{route_map, route_map_forms, route_map_refused, route_map_ignored}
 use Rattle.rc_openings.specs.Words.{words_of}
 use Rattle.rc_openings.specs.declared.reading.LineRefusal.TheVariants.{Unknown, Unsupported, BadValue, OutOfPlace}
-use Rattle.rc_config.specs.declared.bgp.BgpLine.TheVariants.{RouterId, Network, Neighbor, RedistributeStatic}
+use Rattle.rc_config.specs.declared.bgp.BgpLine.TheVariants.{RouterId, MaximumExternalPaths, MaximumInternalPaths, Network, Neighbor, RedistributeStatic}
 use Rattle.rc_config.specs.declared.bgp.NeighborSetting.TheVariants.{RemoteAs, RouteMap}
 use Rattle.rc_config.specs.declared.command.Command.TheVariants.{Passed, Remark, BgpOpened}
 use Rattle.rc_config.specs.declared.command.Command.TheVariants as command
@@ -23,6 +23,10 @@ use Rattle.rc_grammar.specs.PolicyRows.{Says}
 pub processes :
     Says place.Global (codes "router bgp 65001") (Ok (BgpOpened 65001))
     × Says place.Bgp (codes " bgp router-id 1.1.1.1") (Ok (command.BgpLine (RouterId 0x01010101)))
+    × Says place.Bgp (codes " maximum-paths 4") (Ok (command.BgpLine (MaximumExternalPaths 4)))
+    × Says place.Bgp (codes " maximum-paths ibgp 2") (Ok (command.BgpLine (MaximumInternalPaths 2)))
+    × Says place.Bgp (codes " maximum-paths 33") (Err BadValue)
+    × Says place.Bgp (codes " maximum-paths eibgp 2") (Err Unsupported)
     × Says place.Bgp (codes " network 10.9.0.0") (Ok (command.BgpLine (Network (record { network = 0x0a000000; len = 8 }))))
     × Says place.Bgp (codes " network 10.9.0.0 backdoor") (Err Unsupported)
     × Says place.Bgp (codes " neighbor 10.0.0.2 remote-as 65002") (Ok (command.BgpLine (Neighbor 0x0a000002 (RemoteAs 65002))))
@@ -36,7 +40,7 @@ pub processes :
     × Says place.Bgp (codes " exit-address-family") (Err Unsupported)
     × Says place.Bgp (codes " neighbour 10.0.0.2") (Err Unknown)
 unfolding access_list access_list_forms access_list_refused access_list_ignored bgp bgp_forms bgp_refused bgp_ignored global global_forms global_refused global_ignored interface interface_forms interface_refused interface_ignored ospf ospf_forms ospf_refused ospf_ignored route_map route_map_forms route_map_refused route_map_ignored decisive_row decided words_of
-processes = (refl, refl, refl, refl, refl, refl, refl, refl, refl, refl, refl, refl, refl, refl)
+processes = (refl, refl, refl, refl, refl, refl, refl, refl, refl, refl, refl, refl, refl, refl, refl, refl, refl, refl)
 
 -- lines out of place
 pub elsewhere :
@@ -46,11 +50,14 @@ pub elsewhere :
     × Says place.Closed (codes " bgp router-id 1.1.1.1") (Err OutOfPlace)
     × Says (place.Interface (codes "Serial0")) (codes " neighbor 10.0.0.2 shutdown") (Err OutOfPlace)
     × Says place.Ospf (codes " neighbor 10.0.0.2 remote-as 65002") (Err Unsupported)
+    × Says place.Ospf (codes " maximum-paths 4") (Err Unsupported)
+    × Says place.Global (codes "maximum-paths 4") (Err OutOfPlace)
+    × Says place.Global (codes "maximum-paths eibgp 4") (Err OutOfPlace)
     × Says place.Bgp (codes " router bgp 65001") (Err OutOfPlace)
     × Says place.Bgp (codes " passive-interface default") (Err OutOfPlace)
     × Says place.Bgp (codes " ip address 10.0.0.1 255.0.0.0") (Err OutOfPlace)
 unfolding access_list access_list_forms access_list_refused access_list_ignored bgp bgp_forms bgp_refused bgp_ignored global global_forms global_refused global_ignored interface interface_forms interface_refused interface_ignored ospf ospf_forms ospf_refused ospf_ignored route_map route_map_forms route_map_refused route_map_ignored decisive_row decided words_of
-elsewhere = (refl, refl, refl, refl, refl, refl, refl, refl, refl)
+elsewhere = (refl, refl, refl, refl, refl, refl, refl, refl, refl, refl, refl, refl)
 
 -- `router bgp` opens the block, and its lines leave it open
 pub blocks :

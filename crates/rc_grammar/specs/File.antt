@@ -14,6 +14,8 @@ use Rattle.rc_config.specs.Named.{named}
 use Rattle.rc_config.specs.Update.{after, empty}
 use Rattle.rc_config.specs.declared.command.Command.{Command}
 use Rattle.rc_config.specs.declared.command.Command.TheVariants as command
+use Rattle.rc_config.specs.declared.lists.ListLine.{ListLine}
+use Rattle.rc_config.specs.declared.lists.ListLine.TheVariants as list_line
 use Rattle.rc_config.specs.declared.context.OpenBlock.{OpenBlock}
 use Rattle.rc_config.specs.declared.context.OpenBlock.TheVariants as block
 use Rattle.rc_config.specs.declared.router_text.RouterText.{RouterText}
@@ -35,11 +37,16 @@ is_passed ((b ∷ bs) ∷ ws) = b == 33
 abbrev pub at_line : Reading → List ℕ → Reading
 at_line r text = record r { block = if indent_of text == 0 then block.Global else r.block }
 
+-- the block of an access list, which is open behind the line that opens it
+abbrev pub list_block : List ℕ → ListLine → OpenBlock
+list_block list (list_line.AccessListOpened kind) = block.AccessList list kind
+list_block list _ = block.Closed
+
 -- The block that is open after a command: a line without indent closes the open block, `interface`, `ip access-list`, `route-map`,
 -- `router ospf` and `router bgp` open one, and a line without indent that is passed over opens one whose lines are all passed over.
 abbrev pub open_after : OpenBlock → Command → OpenBlock
 open_after block.Global (command.Interface name line) = block.Interface name
-open_after block.Global (command.AccessListOpened list kind) = block.AccessList list kind
+open_after block.Global (command.ListLine list line) = list_block list line
 open_after block.Global (command.MapOpened map n action) = block.Map map n
 open_after block.Global (command.OspfOpened process) = block.Ospf
 open_after block.Global (command.BgpOpened asn) = block.Bgp
@@ -53,18 +60,11 @@ interface_of command.Passed = None
 interface_of command.Remark = None
 interface_of (command.Hostname name line) = None
 interface_of (command.Interface name line) = Some name
-interface_of (command.Address name address secondary) = Some name
-interface_of (command.Shutdown name down) = Some name
-interface_of (command.Bandwidth name kbits) = Some name
+interface_of (command.InterfaceLine name line) = Some name
 interface_of (command.StaticRoute route) = None
-interface_of (command.AccessListOpened list kind) = None
-interface_of (command.AccessListLine list kind line) = None
-interface_of (command.AccessGroup name list direction) = Some name
-interface_of (command.PrefixLine list line) = None
-interface_of (command.CommunityLine list line) = None
+interface_of (command.ListLine list line) = None
 interface_of (command.MapOpened map n action) = None
 interface_of (command.MapLine map n line) = None
-interface_of (command.InterfaceOspf name setting) = Some name
 interface_of (command.OspfOpened process) = None
 interface_of (command.OspfLine line) = None
 interface_of (command.BgpOpened asn) = None

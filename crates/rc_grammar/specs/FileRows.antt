@@ -26,6 +26,7 @@ use Rattle.rc_config.specs.RouteMap.{fresh_entry}
 use Rattle.rc_config.specs.Update.{after, empty}
 use Rattle.rc_config.specs.declared.access_list.AccessListKind.TheVariants.{Standard, Extended}
 use Rattle.rc_config.specs.declared.access_list.Action.TheVariants.{Permit, Deny}
+use Rattle.rc_config.specs.declared.access_list.FurtherTest.TheVariants as further
 use Rattle.rc_config.specs.declared.access_list.PortTest.TheVariants as port
 use Rattle.rc_config.specs.declared.access_list.ProtocolTest.TheVariants as protocol
 use Rattle.rc_config.specs.declared.command.Command.TheVariants.{OspfLine}
@@ -112,9 +113,9 @@ pub access_lists :
           record {
             kind = Extended;
             lines =
-                record { sequence = 5; action = Deny; protocol = protocol.Is 1; source = any_address; source_port = port.Any; destination = any_address; destination_port = port.Any }
-                ∷ record { sequence = 10; action = Permit; protocol = protocol.Is 6; source = any_address; source_port = port.Any; destination = host_address 0x0a000001; destination_port = port.Equal (80 ∷ []) }
-                ∷ record { sequence = 20; action = Deny; protocol = protocol.Any; source = any_address; source_port = port.Any; destination = any_address; destination_port = port.Any }
+                record { sequence = 5; action = Deny; protocol = protocol.Is 1; source = any_address; source_port = port.Any; destination = any_address; destination_port = port.Any; further = further.Any }
+                ∷ record { sequence = 10; action = Permit; protocol = protocol.Is 6; source = any_address; source_port = port.Any; destination = host_address 0x0a000001; destination_port = port.Equal (80 ∷ []); further = further.Any }
+                ∷ record { sequence = 20; action = Deny; protocol = protocol.Any; source = any_address; source_port = port.Any; destination = any_address; destination_port = port.Any; further = further.Any }
                 ∷ [];
           },
         )

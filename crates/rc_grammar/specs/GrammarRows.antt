@@ -7,6 +7,7 @@ use Rattle.rc_config.specs.Update.{empty}
 use Rattle.rc_config.specs.declared.access_list.AccessListKind.TheVariants.{Standard}
 use Rattle.rc_config.specs.declared.access_list.Action.TheVariants.{Permit}
 use Rattle.rc_config.specs.declared.command.Command.TheVariants as command
+use Rattle.rc_config.specs.declared.lists.ListLine.TheVariants as list_line
 use Rattle.rc_config.specs.declared.context.OpenBlock.TheVariants as place
 use Rattle.rc_gram_acl.specs.NumberName.{protocol_names, port_names}
 use Rattle.rc_gram_acl.specs.Refused.{refused_words}
@@ -31,13 +32,13 @@ host_names = refl
 
 pub access_lists :
     says_of (form.AccessList access.Numbered) (codes "5" ∷ codes "permit" ∷ codes "any" ∷ [])
-    ≡ Ok (command.AccessListLine (codes "5") Standard (standard_line 10 Permit any_address))
+    ≡ Ok (command.ListLine (codes "5") (list_line.AccessListLine Standard (standard_line 10 Permit any_address)))
 unfolding digits protocol_names port_names refused_words words_of
 access_lists = refl
 
 pub prefix_lists :
     says_of (form.Policy policy.PrefixList) (codes "P" ∷ codes "permit" ∷ codes "10.0.0.0/8" ∷ [])
-    ≡ Ok (command.PrefixLine (codes "P") (record { sequence = 5; action = Permit; prefix = prefix_at 0x0a000000 8; ge = None; le = None }))
+    ≡ Ok (command.ListLine (codes "P") (list_line.PrefixLine (record { sequence = 5; action = Permit; prefix = prefix_at 0x0a000000 8; ge = None; le = None })))
 prefix_lists = refl
 
 -- a form of a block fits no row in another one

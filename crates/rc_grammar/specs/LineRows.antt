@@ -10,7 +10,8 @@ use Rattle.rc_openings.specs.Values.{area_of, interface_of}
 use Rattle.rc_openings.specs.Words.{words_of}
 use Rattle.rc_openings.specs.declared.reading.LineRefusal.TheVariants.{Unsupported, BadValue}
 use Rattle.rc_config.specs.declared.access_list.Action.TheVariants.{Permit, Deny}
-use Rattle.rc_config.specs.declared.command.Command.TheVariants.{PrefixLine, CommunityLine, MapOpened, MapLine, OspfLine}
+use Rattle.rc_config.specs.declared.command.Command.TheVariants.{MapOpened, MapLine, OspfLine, ListLine}
+use Rattle.rc_config.specs.declared.lists.ListLine.TheVariants as list_line
 use Rattle.rc_config.specs.declared.context.OpenBlock.TheVariants as place
 use Rattle.rc_config.specs.declared.map_line.MapLine.TheVariants.{Match, Set}
 use Rattle.rc_config.specs.declared.map_line.MatchKind.TheVariants as match_kind
@@ -40,10 +41,10 @@ of_processes = (refl, refl, refl, refl, refl)
 -- a prefix of which the host bits are cleared; communities as a set, and a list by the digits of its number
 pub of_lists :
     Says place.Global (codes "ip prefix-list P permit 10.9.1.1/16 ge 24 le 24")
-    (Ok (PrefixLine (codes "P") (record { sequence = 5; action = Permit; prefix = record { network = 0x0a090000; len = 16 }; ge = Some 24; le = Some 24 })))
+    (Ok (ListLine (codes "P") (list_line.PrefixLine (record { sequence = 5; action = Permit; prefix = record { network = 0x0a090000; len = 16 }; ge = Some 24; le = Some 24 }))))
     × Says place.Global (codes "ip community-list 007 permit 65000:2 no-export 65000:1 65000:2")
-    (Ok (CommunityLine (codes "7") (record { action = Permit; communities = 4259840001 ∷ 4259840002 ∷ 0xffffff01 ∷ [] })))
-    × Says place.Global (codes "ip community-list standard C deny no-advertise") (Ok (CommunityLine (codes "C") (record { action = Deny; communities = 0xffffff02 ∷ [] })))
+    (Ok (ListLine (codes "7") (list_line.CommunityLine (record { action = Permit; communities = 4259840001 ∷ 4259840002 ∷ 0xffffff01 ∷ [] }))))
+    × Says place.Global (codes "ip community-list standard C deny no-advertise") (Ok (ListLine (codes "C") (list_line.CommunityLine (record { action = Deny; communities = 0xffffff02 ∷ [] }))))
     × Says place.Global (codes "ip community-list standard C permit internet") (Err Unsupported)
 unfolding global global_forms global_refused global_ignored decisive_row decided words_of digits refused_in_entry refused_in_list
 of_lists = (refl, refl, refl, refl)

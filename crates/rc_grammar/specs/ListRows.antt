@@ -16,7 +16,7 @@ use Rattle.rc_lines.specs.Lines.{TextLine}
 use Rattle.rc_lines.specs.declared.banner.Part.TheVariants.{Plain}
 use Rattle.rc_config.specs.declared.access_list.AccessList.{AccessList}
 use Rattle.rc_config.specs.declared.access_list.AccessListLine.{AccessListLine}
-use Rattle.rc_gram_acl.specs.NumberName.{protocol_names, port_names}
+use Rattle.rc_gram_acl.specs.NumberName.{icmp_type_names, protocol_names, port_names}
 use Rattle.rc_gram_acl.specs.Refused.{refused_words}
 use Rattle.rc_grammar.specs.File.{start, step, with_lines}
 use Rattle.rc_grammar.specs.declared.reading.Reading.{Reading}
@@ -100,9 +100,9 @@ other_kind = (refl, refl, refl, refl)
 
 -- a remark of any words makes no line and no list, and opens no block; behind `access-list` it takes every number
 pub remarks :
-    Makes (block ∷ codes " remark permit any" ∷ codes " 7 remark established" ∷ codes " remark" ∷ codes " permit any" ∷ []) (one (codes "A") (10 ∷ []))
+    Makes (block ∷ codes " remark permit any" ∷ codes " 7 remark fragments" ∷ codes " remark" ∷ codes " permit any" ∷ []) (one (codes "A") (10 ∷ []))
     × Makes (codes "access-list 5 remark x" ∷ codes "access-list 100 remark" ∷ []) (Ok [])
-    × Makes (codes "access-list 700 remark x" ∷ codes "access-list 0 remark" ∷ codes "access-list 4294967295 remark established" ∷ []) (Ok [])
+    × Makes (codes "access-list 700 remark x" ∷ codes "access-list 0 remark" ∷ codes "access-list 4294967295 remark fragments" ∷ []) (Ok [])
     × Makes (codes "access-list x remark y" ∷ []) (refused_at 1 BadValue)
     × Makes (codes "access-list 4294967296 remark y" ∷ []) (refused_at 1 BadValue)
     × Makes (codes "access-list 5 remark x" ∷ codes "ip access-list extended 5" ∷ []) (one (codes "5") [])
@@ -112,17 +112,27 @@ remarks = (refl, refl, refl, refl, refl, refl, refl)
 
 -- what isn't modelled and what has no such number is refused, and a word that logs is taken
 pub unsupported :
-    Makes (codes "access-list 100 permit tcp any any established" ∷ []) (refused_at 1 Unsupported)
-    × Makes (codes "access-list 100 permit icmp any any echo" ∷ []) (refused_at 1 Unsupported)
-    × Makes (codes "ip access-list extended A" ∷ codes " 10 permit icmp any any echo" ∷ []) (refused_at 2 Unsupported)
+    Makes (codes "access-list 100 permit tcp any any fragments" ∷ []) (refused_at 1 Unsupported)
+    × Makes (codes "access-list 100 permit icmp any any redirect" ∷ []) (refused_at 1 Unsupported)
+    × Makes (codes "ip access-list extended A" ∷ codes " 10 permit igmp any any 17" ∷ []) (refused_at 2 Unsupported)
     × Makes (codes "ip access-list reflexive A" ∷ []) (refused_at 1 Unsupported)
-    × Makes (codes "access-list 3000 permit any established" ∷ []) (refused_at 1 Unsupported)
+    × Makes (codes "access-list 3000 permit any fragments" ∷ []) (refused_at 1 Unsupported)
     × Makes (codes "access-list 3000 permit any" ∷ []) (refused_at 1 BadValue)
-    × Makes (codes "access-list established permit any" ∷ []) (refused_at 1 Unsupported)
+    × Makes (codes "access-list dscp permit any" ∷ []) (refused_at 1 Unsupported)
     × Makes (codes "access-list x permit any" ∷ []) (refused_at 1 BadValue)
     × Makes (codes "access-list 100 permit icmp any any log" ∷ codes "access-list 5 permit any log" ∷ []) (Ok ((codes "100", 10 ∷ []) ∷ (codes "5", 10 ∷ []) ∷ []))
-unfolding step decided decisive_row global global_forms global_refused global_ignored access_list access_list_forms access_list_refused access_list_ignored words_of protocol_names port_names refused_words digits
+unfolding step decided decisive_row global global_forms global_refused global_ignored access_list access_list_forms access_list_refused access_list_ignored words_of protocol_names port_names icmp_type_names refused_words digits
 unsupported = (refl, refl, refl, refl, refl, refl, refl, refl, refl)
+
+-- what packets of one protocol carry is tested in its lines alone: ACK or RST in those of tcp, the type in those of icmp
+pub tests_of_one_protocol :
+    Makes (codes "access-list 100 permit tcp any any established log" ∷ codes "access-list 100 permit icmp any any echo" ∷ codes "access-list 100 permit 1 any any 3 1" ∷ []) (one (codes "100") (10 ∷ 20 ∷ 30 ∷ []))
+    × Makes (codes "ip access-list extended A" ∷ codes " 10 permit icmp any any 255 255 log" ∷ codes " permit 6 any any established" ∷ []) (one (codes "A") (10 ∷ 20 ∷ []))
+    × Makes (codes "access-list 100 permit udp any any established" ∷ []) (refused_at 1 BadValue)
+    × Makes (codes "access-list 100 permit icmp any any 256" ∷ []) (refused_at 1 BadValue)
+    × Makes (codes "access-list established permit any" ∷ []) (refused_at 1 BadValue)
+unfolding step decided decisive_row global global_forms global_refused global_ignored access_list access_list_forms access_list_refused access_list_ignored words_of protocol_names port_names icmp_type_names refused_words digits
+tests_of_one_protocol = (refl, refl, refl, refl, refl)
 
 -- a line without indent closes the block of a list; `exit` and `!` don't
 pub blocks_end :

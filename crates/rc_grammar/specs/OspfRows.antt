@@ -10,8 +10,9 @@ use Rattle.rc_openings.specs.Reading.{decided}
 use Rattle.rc_openings.specs.RouteMapOpenings.{route_map, route_map_forms, route_map_refused, route_map_ignored}
 use Rattle.rc_openings.specs.Words.{words_of}
 use Rattle.rc_openings.specs.declared.reading.LineRefusal.TheVariants.{Unknown, Unsupported, OutOfPlace}
-use Rattle.rc_config.specs.declared.command.Command.TheVariants.{Passed, InterfaceOspf, OspfOpened}
+use Rattle.rc_config.specs.declared.command.Command.TheVariants.{Passed, OspfOpened, InterfaceLine}
 use Rattle.rc_config.specs.declared.command.Command.TheVariants as command
+use Rattle.rc_config.specs.declared.interface.InterfaceLine.TheVariants as interface_line
 use Rattle.rc_config.specs.declared.context.OpenBlock.TheVariants as place
 use Rattle.rc_config.specs.declared.ospf.OspfLine.TheVariants.{Network, PassiveDefault, Passive, Stub, Redistribute, DefaultInformation}
 use Rattle.rc_config.specs.declared.ospf.OspfSetting.TheVariants.{Cost, Area}
@@ -39,8 +40,8 @@ processes = (refl, refl, refl, refl, refl, refl, refl, refl, refl, refl)
 
 -- the lines of interfaces, and lines out of place
 pub interfaces :
-    Says (place.Interface serial) (codes " ip ospf cost 7") (Ok (InterfaceOspf serial (Cost 7)))
-    × Says (place.Interface serial) (codes " ip ospf 1 area 0.0.0.2") (Ok (InterfaceOspf serial (Area (record { process = 1; area = 2 }))))
+    Says (place.Interface serial) (codes " ip ospf cost 7") (Ok (InterfaceLine serial (interface_line.Ospf (Cost 7))))
+    × Says (place.Interface serial) (codes " ip ospf 1 area 0.0.0.2") (Ok (InterfaceLine serial (interface_line.Ospf (Area (record { process = 1; area = 2 })))))
     × Says (place.Interface serial) (codes " passive-interface default") (Err OutOfPlace)
     × Says (place.Interface serial) (codes " area 1 stub") (Err OutOfPlace)
     × Says place.Closed (codes " redistribute static subnets") (Err OutOfPlace)
@@ -55,5 +56,5 @@ interfaces = (refl, refl, refl, refl, refl, refl, refl, refl, refl)
 pub blocks :
     (open_after place.Global (OspfOpened 1) ≡ place.Ospf)
     × (open_after place.Ospf (command.OspfLine PassiveDefault) ≡ place.Ospf)
-    × (open_after (place.Interface serial) (InterfaceOspf serial (Cost 7)) ≡ place.Interface serial)
+    × (open_after (place.Interface serial) (InterfaceLine serial (interface_line.Ospf (Cost 7))) ≡ place.Interface serial)
 blocks = (refl, refl, refl)

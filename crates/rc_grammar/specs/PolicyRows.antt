@@ -12,7 +12,8 @@ use Rattle.rc_openings.specs.RouteMapOpenings.{route_map, route_map_forms, route
 use Rattle.rc_openings.specs.Words.{words_of}
 use Rattle.rc_openings.specs.declared.reading.LineRefusal.TheVariants.{Unsupported, OutOfPlace}
 use Rattle.rc_config.specs.Update.{empty}
-use Rattle.rc_config.specs.declared.command.Command.TheVariants.{Passed, PrefixLine, CommunityLine, MapOpened, MapLine}
+use Rattle.rc_config.specs.declared.command.Command.TheVariants.{Passed, MapOpened, MapLine, ListLine}
+use Rattle.rc_config.specs.declared.lists.ListLine.TheVariants as list_line
 use Rattle.rc_config.specs.declared.context.OpenBlock.{OpenBlock}
 use Rattle.rc_config.specs.declared.context.OpenBlock.TheVariants as place
 use Rattle.rc_config.specs.declared.access_list.Action.TheVariants.{Permit, Deny}
@@ -34,9 +35,9 @@ in_map = place.Map (codes "M") 10
 -- without indent
 pub lists :
     Says place.Global (codes "ip prefix-list P seq 7 deny 10.1.2.3/8")
-    (Ok (PrefixLine (codes "P") (record { sequence = 7; action = Deny; prefix = record { network = 0x0a000000; len = 8 }; ge = None; le = None })))
-    × Says place.Global (codes "ip community-list 07 permit 1:2") (Ok (CommunityLine (codes "7") (record { action = Permit; communities = 65538 ∷ [] })))
-    × Says place.Global (codes "ip community-list standard 7 deny 1:2") (Ok (CommunityLine (codes "7") (record { action = Deny; communities = 65538 ∷ [] })))
+    (Ok (ListLine (codes "P") (list_line.PrefixLine (record { sequence = 7; action = Deny; prefix = record { network = 0x0a000000; len = 8 }; ge = None; le = None }))))
+    × Says place.Global (codes "ip community-list 07 permit 1:2") (Ok (ListLine (codes "7") (list_line.CommunityLine (record { action = Permit; communities = 65538 ∷ [] }))))
+    × Says place.Global (codes "ip community-list standard 7 deny 1:2") (Ok (ListLine (codes "7") (list_line.CommunityLine (record { action = Deny; communities = 65538 ∷ [] }))))
     × Says place.Global (codes "ip prefix-list P description of nothing") (Ok Passed)
     × Says place.Global (codes "ip community-list expanded 100 permit 1") (Err Unsupported)
 unfolding access_list access_list_forms access_list_refused access_list_ignored bgp bgp_forms bgp_refused bgp_ignored global global_forms global_refused global_ignored interface interface_forms interface_refused interface_ignored ospf ospf_forms ospf_refused ospf_ignored route_map route_map_forms route_map_refused route_map_ignored decisive_row decided words_of digits refused_in_entry refused_in_list
@@ -58,7 +59,7 @@ entries = (refl, refl, refl, refl, refl, refl, refl, refl)
 -- an entry opens its block, and a list none; in the block of an entry its lines leave it open
 pub blocks :
     (open_after place.Global (MapOpened (codes "M") 10 Deny) ≡ in_map)
-    × (open_after place.Global (PrefixLine (codes "P") (record { sequence = 7; action = Deny; prefix = record { network = 0; len = 0 }; ge = None; le = None })) ≡ place.Closed)
-    × (open_after place.Global (CommunityLine (codes "C") (record { action = Deny; communities = [] })) ≡ place.Closed)
+    × (open_after place.Global (ListLine (codes "P") (list_line.PrefixLine (record { sequence = 7; action = Deny; prefix = record { network = 0; len = 0 }; ge = None; le = None }))) ≡ place.Closed)
+    × (open_after place.Global (ListLine (codes "C") (list_line.CommunityLine (record { action = Deny; communities = [] }))) ≡ place.Closed)
     × (open_after in_map (MapLine (codes "M") 10 (Set (set.Weight 5))) ≡ in_map)
 blocks = (refl, refl, refl, refl)

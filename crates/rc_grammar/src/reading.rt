@@ -7,12 +7,12 @@ ghost use Rattle.std.specs.Option.{option_copied};
 ghost use Rattle.rc_openings.specs.Words.{words_of};
 ghost use Rattle.rc_lines.specs.Lines.{TextLine, is_too_long, lines_of};
 ghost use Rattle.rc_config.specs.Lawful.{FitsFile, IsInRange, IsLawfulFile};
-ghost use Rattle.rc_grammar.specs.File.{at_line, failed_at, file_of, interface_of, is_one_too_many, is_passed, open_after, start, step, with_command, with_host, with_lines, with_said, with_text, Gives, IsFit, Leaves, RefusesTheFirst};
+ghost use Rattle.rc_grammar.specs.File.{at_line, failed_at, file_of, interface_of, is_one_too_many, is_passed, list_block, open_after, start, step, with_command, with_host, with_lines, with_said, with_text, Gives, IsFit, Leaves, RefusesTheFirst};
 
 use crate::grammars::read_line;
 use crate::{FileCause, FileRefusal, ReadError};
 use rc_base::Name;
-use rc_config::{Command, Context, OpenBlock, RouterText};
+use rc_config::{Command, Context, ListLine, OpenBlock, RouterText};
 use rc_lines::{Line, Lines, Part};
 use rc_openings::{LineError, LineRefusal};
 use std::alloc::Global;
@@ -37,13 +37,22 @@ fn is_passed_over(line: &Line) -> bool
     }
 }
 
+fn list_block(list: &Name, line: &ListLine) -> OpenBlock
+    ensures { result ≡ list_block list.now line.now }
+{
+    match line {
+        ListLine::AccessListOpened(kind) => OpenBlock::AccessList(*list, *kind),
+        _ => OpenBlock::Closed,
+    }
+}
+
 fn block_after(block: &OpenBlock, command: &Command) -> OpenBlock
     ensures { result ≡ open_after block.now command.now }
 {
     match block {
         OpenBlock::Global => match command {
             Command::Interface { name, line: _ } => OpenBlock::Interface(*name),
-            Command::AccessListOpened { list, kind } => OpenBlock::AccessList(*list, *kind),
+            Command::ListLine { list, line } => list_block(list, line),
             Command::MapOpened { map, number, .. } => OpenBlock::Map(*map, *number),
             Command::OspfOpened { .. } => OpenBlock::Ospf,
             Command::BgpOpened { .. } => OpenBlock::Bgp,
@@ -62,18 +71,11 @@ fn interface_named(command: &Command) -> Option<&Name>
         Command::Remark => None,
         Command::Hostname { .. } => None,
         Command::Interface { name, .. } => Some(name),
-        Command::Address { interface, .. } => Some(interface),
-        Command::Shutdown { interface, .. } => Some(interface),
-        Command::Bandwidth { interface, .. } => Some(interface),
+        Command::InterfaceLine { interface, .. } => Some(interface),
         Command::StaticRoute { .. } => None,
-        Command::AccessListOpened { .. } => None,
-        Command::AccessListLine { .. } => None,
-        Command::AccessGroup { interface, .. } => Some(interface),
-        Command::PrefixLine { .. } => None,
-        Command::CommunityLine { .. } => None,
+        Command::ListLine { .. } => None,
         Command::MapOpened { .. } => None,
         Command::MapLine { .. } => None,
-        Command::InterfaceOspf { interface, .. } => Some(interface),
         Command::OspfOpened { .. } => None,
         Command::OspfLine { .. } => None,
         Command::BgpOpened { .. } => None,

@@ -8,6 +8,7 @@ use Rattle.rc_config.specs.declared.bgp.NeighborSetting.{NeighborSetting}
 use Rattle.rc_config.specs.declared.bgp.NeighborSetting.TheVariants as setting
 use Rattle.rc_config.specs.declared.command.Command.{Command}
 use Rattle.rc_config.specs.declared.command.Command.TheVariants as command
+use Rattle.rc_config.specs.declared.lists.ListLine.TheVariants as list_line
 use Rattle.rc_config.specs.declared.access_list.Action.TheVariants.{Permit}
 use Rattle.rc_config.specs.declared.access_list.AccessListKind.TheVariants.{Standard, Extended}
 use Rattle.rc_config.specs.declared.interface.Direction.TheVariants.{In, Out}
@@ -42,13 +43,13 @@ matching entry kind names line = command.MapOpened (codes "M") entry Permit ∷ 
 
 -- a line of a list of each kind
 abbrev access_line : List ℕ → Command
-access_line name = command.AccessListLine name Standard (standard_line 10 Permit (host_address 7))
+access_line name = command.ListLine name (list_line.AccessListLine Standard (standard_line 10 Permit (host_address 7)))
 
 abbrev prefix_line : List ℕ → Command
-prefix_line name = command.PrefixLine name (record { sequence = 5; action = Permit; prefix = prefix_at 0 0; ge = None; le = None })
+prefix_line name = command.ListLine name (list_line.PrefixLine (record { sequence = 5; action = Permit; prefix = prefix_at 0 0; ge = None; le = None }))
 
 abbrev community_line : List ℕ → Command
-community_line name = command.CommunityLine name (record { action = Permit; communities = 7 ∷ [] })
+community_line name = command.ListLine name (list_line.CommunityLine (record { action = Permit; communities = 7 ∷ [] }))
 
 -- a list that no line defines, of each kind
 pub no_access_list : undefined_line (file (matching 10 AccessList (one ∷ []) 5)) ≡ Some 5
@@ -71,11 +72,11 @@ pub community_list_defined : undefined_line (file (matching 10 CommunityList (on
 community_list_defined = refl
 
 -- so does a line that opens it, if no line of it comes
-pub opened_alone : undefined_line (file (command.AccessListOpened one Standard ∷ matching 10 AccessList (one ∷ []) 5)) ≡ None
+pub opened_alone : undefined_line (file (command.ListLine one (list_line.AccessListOpened Standard) ∷ matching 10 AccessList (one ∷ []) 5)) ≡ None
 opened_alone = refl
 
 -- an extended access list is none that a route map matches by
-pub extended : undefined_line (file (command.AccessListOpened one Extended ∷ matching 10 AccessList (one ∷ []) 5)) ≡ Some 5
+pub extended : undefined_line (file (command.ListLine one (list_line.AccessListOpened Extended) ∷ matching 10 AccessList (one ∷ []) 5)) ≡ Some 5
 extended = refl
 
 -- a remark defines nothing, nor does a list of another kind under the name

@@ -3,7 +3,8 @@ use Rattle.std.specs.Prelude.{◌≡◌, ℕ, ◌+◌, ◌*◌, ◌/◌, ◌%◌
 use Rattle.std.specs.List.{fold, range_with_len}
 use Rattle.rc_base.specs.declared.position.IfId.{IfId}
 use Rattle.rc_config.specs.declared.command.Command.{Command}
-use Rattle.rc_config.specs.declared.command.Command.TheVariants.{Interface, Address, Shutdown}
+use Rattle.rc_config.specs.declared.command.Command.TheVariants.{Interface, InterfaceLine}
+use Rattle.rc_config.specs.declared.interface.InterfaceLine.TheVariants as interface_line
 use Rattle.rc_config.specs.declared.if_type.IfType.TheVariants as types
 use Rattle.rc_config.specs.declared.router_text.RouterText.{RouterText}
 use Rattle.rc_config.specs.IfType.{type_of}
@@ -30,10 +31,10 @@ ten n = 10 * 16777216 + n
 
 -- `ip address` in the block of an interface, with a mask of this length
 abbrev primary : List ℕ → ℕ → ℕ → Command
-primary name n len = Address name (record { addr = ten n; len = len }) false
+primary name n len = InterfaceLine name (interface_line.Address (record { addr = ten n; len = len }) false)
 
 abbrev secondary : List ℕ → ℕ → ℕ → Command
-secondary name n len = Address name (record { addr = ten n; len = len }) true
+secondary name n len = InterfaceLine name (interface_line.Address (record { addr = ten n; len = len }) true)
 
 abbrev file : List Command → RouterText
 file commands = fold after empty commands
@@ -75,16 +76,16 @@ unfolding links_of type_of
 to_loopback = refl
 
 -- nor does an interface that is shut, from either side
-pub from_shut : linked (two (primary eth 1 24 ∷ Shutdown eth true ∷ []) (primary eth 2 24 ∷ [])) (at 0 0) ≡ []
+pub from_shut : linked (two (primary eth 1 24 ∷ InterfaceLine eth (interface_line.Shutdown true) ∷ []) (primary eth 2 24 ∷ [])) (at 0 0) ≡ []
 unfolding links_of type_of
 from_shut = refl
 
-pub to_shut : linked (two (primary eth 1 24 ∷ Shutdown eth true ∷ []) (primary eth 2 24 ∷ [])) (at 1 0) ≡ []
+pub to_shut : linked (two (primary eth 1 24 ∷ InterfaceLine eth (interface_line.Shutdown true) ∷ []) (primary eth 2 24 ∷ [])) (at 1 0) ≡ []
 unfolding links_of type_of
 to_shut = refl
 
 -- nor a subinterface whose parent is shut
-pub parent_shut : linked (two (Shutdown eth true ∷ primary sub 1 24 ∷ []) (primary eth 2 24 ∷ [])) (at 1 0) ≡ []
+pub parent_shut : linked (two (InterfaceLine eth (interface_line.Shutdown true) ∷ primary sub 1 24 ∷ []) (primary eth 2 24 ∷ [])) (at 1 0) ≡ []
 unfolding links_of type_of
 parent_shut = refl
 
@@ -171,11 +172,11 @@ unfolding links_of type_of
 no_own_host = refl
 
 -- an interface that is down owns none
-pub down_owns_none : is_own (two (primary eth 1 24 ∷ Shutdown eth true ∷ []) []) 0 (ten 1) ≡ false
+pub down_owns_none : is_own (two (primary eth 1 24 ∷ InterfaceLine eth (interface_line.Shutdown true) ∷ []) []) 0 (ten 1) ≡ false
 unfolding links_of type_of
 down_owns_none = refl
 
-pub down_with_parent_owns_none : is_own (two (Shutdown eth true ∷ primary sub 1 24 ∷ []) []) 0 (ten 1) ≡ false
+pub down_with_parent_owns_none : is_own (two (InterfaceLine eth (interface_line.Shutdown true) ∷ primary sub 1 24 ∷ []) []) 0 (ten 1) ≡ false
 unfolding links_of type_of
 down_with_parent_owns_none = refl
 
@@ -211,7 +212,7 @@ serial = codes "Serial0"
 
 abbrev sites : Topology
 sites =
-    three (primary eth 1 24 ∷ secondary eth 513 24 ∷ secondary eth 257 24 ∷ primary loopback 2305 32 ∷ primary serial 2561 30 ∷ primary other 772 24 ∷ Shutdown other true ∷ [])
+    three (primary eth 1 24 ∷ secondary eth 513 24 ∷ secondary eth 257 24 ∷ primary loopback 2305 32 ∷ primary serial 2561 30 ∷ primary other 772 24 ∷ InterfaceLine other (interface_line.Shutdown true) ∷ [])
     (primary eth 2 24 ∷ primary other 514 24 ∷ primary serial 2562 30 ∷ [])
     (primary eth 259 24 ∷ secondary eth 3 24 ∷ primary loopback 9 24 ∷ primary other 2 24 ∷ primary (codes "Ethernet2") 773 24 ∷ primary (codes "Tunnel0") 2563 29 ∷ [])
 

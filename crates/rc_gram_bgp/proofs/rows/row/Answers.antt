@@ -3,6 +3,12 @@ use Rattle.rc_gram_bgp.proofs.rows.row.Goals as goal
 pub returns-in-RouterId-clause-fits : goal.returns-in-RouterId-clause-fits
 returns-in-RouterId-clause-fits c = c.in_block.ensures.fits c.args.file.now
 
+pub returns-in-MaximumPaths-clause-fits : goal.returns-in-MaximumPaths-clause-fits
+returns-in-MaximumPaths-clause-fits c = c.in_block-in-MaximumPaths.ensures.fits c.args.file.now
+
+pub returns-in-MaximumPathsIbgp-clause-fits : goal.returns-in-MaximumPathsIbgp-clause-fits
+returns-in-MaximumPathsIbgp-clause-fits c = c.in_block-in-MaximumPathsIbgp.ensures.fits c.args.file.now
+
 pub returns-in-Network-clause-fits : goal.returns-in-Network-clause-fits
 returns-in-Network-clause-fits c = c.in_block-in-Network.ensures.fits c.args.file.now
 
