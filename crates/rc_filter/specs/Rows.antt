@@ -1,5 +1,5 @@
 -- Worked cases of access lists, each by computation.
-use Rattle.std.specs.Prelude.{◌≡◌, ℕ, ◌+◌, ◌*◌, true, false, List, [], ◌∷◌, map, Some, None, codes, refl}
+use Rattle.std.specs.Prelude.{◌≡◌, ℕ, ◌+◌, ◌*◌, Bool, true, false, List, [], ◌∷◌, map, Some, None, codes, refl}
 use Rattle.rc_base.specs.Fields.{zeros}
 use Rattle.rc_base.specs.declared.header.Header.{Header}
 use Rattle.rc_config.specs.declared.access_list.Action.{Action}
@@ -8,6 +8,8 @@ use Rattle.rc_config.specs.declared.access_list.AddressTest.{AddressTest}
 use Rattle.rc_config.specs.declared.access_list.AccessList.{AccessList}
 use Rattle.rc_config.specs.declared.access_list.AccessListKind.TheVariants.{Extended}
 use Rattle.rc_config.specs.declared.access_list.AccessListLine.{AccessListLine}
+use Rattle.rc_config.specs.declared.access_list.FurtherTest.{FurtherTest}
+use Rattle.rc_config.specs.declared.access_list.FurtherTest.TheVariants as further
 use Rattle.rc_config.specs.declared.access_list.PortTest.{PortTest}
 use Rattle.rc_config.specs.declared.access_list.PortTest.TheVariants.{Any, Equal, NotEqual, Below, Above, Within}
 use Rattle.rc_config.specs.declared.access_list.ProtocolTest.TheVariants as protocol
@@ -162,6 +164,7 @@ ssh = record {
   source_port = Above 1023;
   destination = host_address (address 192 0 2 1);
   destination_port = Equal (22 ∷ []);
+  further = further.Any;
 }
 
 pub all_tests_pass : matches ssh (packet 6 40000 22) ≡ true
@@ -242,7 +245,7 @@ no_group_passes = refl
 
 -- ---- a list as a file puts it together: tcp to port 22 is denied by line 10, written behind line 20 for all tcp
 abbrev tcp : ℕ → Action → PortTest → AccessListLine
-tcp n action test = record { sequence = n; action = action; protocol = protocol.Is 6; source = any_address; source_port = Any; destination = any_address; destination_port = test }
+tcp n action test = record { sequence = n; action = action; protocol = protocol.Is 6; source = any_address; source_port = Any; destination = any_address; destination_port = test; further = further.Any }
 
 abbrev no_ssh : AccessList
 no_ssh = with_line (with_line (no_lines Extended) (tcp 20 Permit Any)) (tcp 10 Deny (Equal (22 ∷ [])))
@@ -259,3 +262,60 @@ other_ports_behind = refl
 pub edges_at_22 : map (λ test. matches (tcp 10 Permit test) (packet 6 40000 22)) (Below 23 ∷ Below 22 ∷ Above 21 ∷ Above 22 ∷ Within 22 22 ∷ Within 20 21 ∷ []) ≡ true ∷ false ∷ true ∷ false ∷ true ∷ false ∷ []
 unfolding matches same_bits
 edges_at_22 = refl
+
+-- ---- what is tested further: lines from anywhere to anywhere
+abbrev with_further : ℕ → Action → FurtherTest → AccessListLine
+with_further p action test = record (standard_line 10 action any_address) { protocol = protocol.Is p; further = test }
+
+-- a segment of tcp with these flags, and a message of icmp
+abbrev segment : Bool → Bool → Header
+segment ack rst = record (packet 6 40000 22) { ack = ack; rst = rst }
+
+abbrev message : ℕ → ℕ → Header
+message icmp_type code = record (packet 1 0 0) { icmp_type = icmp_type; icmp_code = code }
+
+-- `established`: ACK alone, RST alone, both, none
+pub acknowledged_or_reset :
+    map (matches (with_further 6 Permit further.Established)) (segment true false ∷ segment false true ∷ segment true true ∷ segment false false ∷ []) ≡ true ∷ true ∷ true ∷ false ∷ []
+unfolding matches same_bits
+acknowledged_or_reset = refl
+
+-- the flags don't count in a line that doesn't test them, and the protocol counts in one that does
+pub flags_are_free : map (matches (with_further 6 Permit further.Any)) (segment true true ∷ segment false false ∷ []) ≡ true ∷ true ∷ []
+unfolding matches same_bits
+flags_are_free = refl
+
+pub flags_of_tcp_alone : matches (with_further 6 Permit further.Established) (record (packet 17 1 1) { ack = true }) ≡ false
+unfolding matches same_bits
+flags_of_tcp_alone = refl
+
+-- a type alone takes each code: echo-reply (0), unreachable (3), echo (8), time-exceeded (11), and 255
+pub types_take_each_code :
+    map (λ t. matches (with_further 1 Permit (further.Icmp t None)) (message t 0)) (0 ∷ 3 ∷ 8 ∷ 11 ∷ 255 ∷ []) ≡ true ∷ true ∷ true ∷ true ∷ true ∷ []
+unfolding matches same_bits
+types_take_each_code = refl
+
+pub codes_are_free : map (matches (with_further 1 Permit (further.Icmp 3 None))) (message 3 0 ∷ message 3 255 ∷ message 8 0 ∷ message 0 0 ∷ []) ≡ true ∷ true ∷ false ∷ false ∷ []
+unfolding matches same_bits
+codes_are_free = refl
+
+-- a code is tested too where it is given, also the codes 0 and 255
+pub codes_count :
+    map (matches (with_further 1 Permit (further.Icmp 3 (Some 0)))) (message 3 0 ∷ message 3 1 ∷ message 0 0 ∷ []) ≡ true ∷ false ∷ false ∷ []
+unfolding matches same_bits
+codes_count = refl
+
+pub greatest_code : map (matches (with_further 1 Permit (further.Icmp 3 (Some 255)))) (message 3 255 ∷ message 3 254 ∷ message 255 3 ∷ []) ≡ true ∷ false ∷ false ∷ []
+unfolding matches same_bits
+greatest_code = refl
+
+-- what is established is denied before all is permitted, and new sessions pass
+pub established_denied_first :
+    map (verdict (list (with_further 6 Deny further.Established ∷ all 20 Permit ∷ []))) (segment true false ∷ segment false true ∷ segment false false ∷ message 8 0 ∷ []) ≡ false ∷ false ∷ true ∷ true ∷ []
+unfolding matches same_bits
+established_denied_first = refl
+
+-- pings are denied, and what answers them passes
+pub echo_denied_first : map (verdict (list (with_further 1 Deny (further.Icmp 8 None) ∷ all 20 Permit ∷ []))) (message 8 0 ∷ message 8 1 ∷ message 0 0 ∷ []) ≡ false ∷ false ∷ true ∷ []
+unfolding matches same_bits
+echo_denied_first = refl

@@ -9,6 +9,8 @@ use Rattle.rc_config.specs.declared.access_list.Action.TheVariants.{Permit, Deny
 use Rattle.rc_config.specs.declared.access_list.AddressTest.{AddressTest}
 use Rattle.rc_config.specs.declared.access_list.AccessList.{AccessList}
 use Rattle.rc_config.specs.declared.access_list.AccessListLine.{AccessListLine}
+use Rattle.rc_config.specs.declared.access_list.FurtherTest.{FurtherTest}
+use Rattle.rc_config.specs.declared.access_list.FurtherTest.TheVariants as further
 use Rattle.rc_config.specs.declared.access_list.PortTest.{PortTest}
 use Rattle.rc_config.specs.declared.access_list.PortTest.TheVariants.{Any, Equal, NotEqual, Below, Above, Within}
 use Rattle.rc_config.specs.declared.access_list.ProtocolTest.{ProtocolTest}
@@ -41,10 +43,21 @@ matches_port (Below q) p = nat_lt p q
 matches_port (Above q) p = nat_lt q p
 matches_port (Within low high) p = nat_le low p && nat_le p high
 
--- a header passes all tests of a line: protocol, addresses and ports
+-- the ICMP code (RFC 792), where a line gives one
+abbrev pub matches_code : Option ℕ → ℕ → Bool
+matches_code None c = true
+matches_code (Some n) c = c == n
+
+-- `established` takes what has ACK or RST (RFC 9293 s.3.1); a type takes that ICMP type (RFC 792)
+abbrev pub matches_further : FurtherTest → Header → Bool
+matches_further further.Any h = true
+matches_further further.Established h = h.ack || h.rst
+matches_further (further.Icmp icmp_type code) h = h.icmp_type == icmp_type && matches_code code h.icmp_code
+
+-- a header passes all tests of a line: protocol, addresses, ports, and what is tested further
 unfoldable pub matches : AccessListLine → Header → Bool
 matches l h =
-    matches_protocol l.protocol h.proto && matches_address l.source h.src && matches_port l.source_port h.sport && matches_address l.destination h.dst && matches_port l.destination_port h.dport
+    matches_protocol l.protocol h.proto && matches_address l.source h.src && matches_port l.source_port h.sport && matches_address l.destination h.dst && matches_port l.destination_port h.dport && matches_further l.further h
 
 -- the action is `permit`
 abbrev pub permits : Action → Bool

@@ -1,11 +1,11 @@
 //! Which headers the lines of a list match, and which line decides.
 ghost use Rattle.std.specs.Prelude.{◌≡◌, ◌==◌, ◌∷◌, true};
 ghost use Rattle.std.specs.List.{list_any};
-ghost use Rattle.rc_filter.specs.Verdict.{first_action, matches, matches_address, matches_port, matches_protocol, permits, verdict};
+ghost use Rattle.rc_filter.specs.Verdict.{first_action, matches, matches_address, matches_code, matches_further, matches_port, matches_protocol, permits, verdict};
 
 use rc_base::{Addr, Header};
 use rc_config::{
-    AccessList, AccessListLine, Action, AddressTest, ByNumber, PortTest, ProtocolTest,
+    AccessList, AccessListLine, Action, AddressTest, ByNumber, FurtherTest, PortTest, ProtocolTest,
 };
 
 /// Whether an address passes a test: each bit whose wildcard bit is 0 is that of the test's address.
@@ -48,6 +48,29 @@ fn matches_port(test: &PortTest, port: u16) -> bool
     }
 }
 
+/// Whether an ICMP code is the one that a line gives, if it gives one.
+fn matches_code(given: Option<u8>, code: u8) -> bool
+    ensures { result ≡ matches_code given code }
+{
+    match given {
+        None => true,
+        Some(number) => code == number,
+    }
+}
+
+/// Whether a header passes a test of ACK and RST, or of the ICMP type and code.
+fn matches_further(test: FurtherTest, header: &Header) -> bool
+    ensures { result ≡ matches_further test header.now }
+{
+    match test {
+        FurtherTest::Any => true,
+        FurtherTest::Established => header.ack || header.rst,
+        FurtherTest::Icmp { icmp_type, code } => {
+            header.icmp_type == icmp_type && matches_code(code, header.icmp_code)
+        }
+    }
+}
+
 /// Whether a header passes all tests of a line.
 #[tactic(auto, unfolding(crate::specs::Verdict::matches))]
 pub fn matches_line(line: &AccessListLine, header: &Header) -> bool
@@ -58,6 +81,7 @@ pub fn matches_line(line: &AccessListLine, header: &Header) -> bool
         && matches_port(&line.source_port, header.sport)
         && matches_address(&line.destination, header.dst)
         && matches_port(&line.destination_port, header.dport)
+        && matches_further(line.further, header)
 }
 
 /// Whether the first of the lines that matches permits.

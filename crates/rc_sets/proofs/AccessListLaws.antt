@@ -9,22 +9,29 @@ use Rattle.rc_config.specs.declared.access_list.Action.{Action}
 use Rattle.rc_config.specs.declared.access_list.Action.TheVariants.{Permit, Deny}
 use Rattle.rc_config.specs.declared.access_list.AccessList.{AccessList}
 use Rattle.rc_config.specs.declared.access_list.AccessListLine.{AccessListLine}
+use Rattle.rc_config.specs.declared.access_list.FurtherTest.{FurtherTest}
+use Rattle.rc_config.specs.declared.access_list.FurtherTest.TheVariants as further
 use Rattle.rc_config.specs.declared.access_list.PortTest.{PortTest}
 use Rattle.rc_config.specs.declared.access_list.PortTest.TheVariants.{Any, Equal, NotEqual, Below, Above, Within}
 use Rattle.rc_config.specs.declared.access_list.ProtocolTest.{ProtocolTest}
 use Rattle.rc_config.specs.declared.access_list.ProtocolTest.TheVariants as protocol
-use Rattle.rc_filter.specs.Verdict.{matches, matches_port, matches_protocol, permits, first_action, group_verdict, passes}
+use Rattle.rc_filter.specs.Verdict.{matches, matches_address, matches_code, matches_further, matches_port, matches_protocol, permits, first_action, group_verdict, passes}
 use Rattle.rc_filter.proofs.VerdictLaws.{first_action-cases}
+use Rattle.rc_base.specs.Fields.{flag, is_set}
 use Rattle.rc_base.specs.Header.{IsHeader, bit, last_bit}
-use Rattle.rc_base.specs.declared.field.Field.TheVariants.{Dst, Src, Proto, Sport, Dport}
-use Rattle.rc_trees.specs.Trees.{always}
+use Rattle.rc_base.specs.declared.field.Field.TheVariants.{Dst, Src, Proto, Sport, Dport, IcmpType, IcmpCode, Ack, Rst}
+use Rattle.rc_trees.specs.Trees.{always, value}
 use Rattle.rc_trees.specs.Recipes.{Recipe, given, and, has, union_of}
 use Rattle.rc_trees.proofs.TreeLaws.{value-minus}
 use Rattle.rc_trees.proofs.RecipeLaws.{has-and, has-or, has-minus, has-union_of}
 use Rattle.rc_trees.specs.Fields.{exact, below, at_most}
-use Rattle.rc_sets.specs.AccessLists.{protocol_set, port_set, address_set, line_set, with_line, lines_set, group_set, passing_set}
+use Rattle.rc_sets.specs.AccessLists.{protocol_set, port_set, address_set, established, type_set, code_of, code_set, flag_set, way_set, line_set, with_line, lines_set, group_set, passing_set}
 use Rattle.rc_trees.proofs.FieldLaws.{Reads, value-exact, value-below, value-at_most, reads}
 use Rattle.rc_sets.proofs.WildcardLaws.{value-masked}
+
+flag-bit : (b : Bool) → is_set (flag b) 0 ≡ b
+flag-bit true = refl
+flag-bit false = refl
 
 module _ (h : Header) where
   -- ---- ports: a port of the header, whose last bit stands at a variable
@@ -52,10 +59,13 @@ module _ (h : Header) where
     has-protocol_set protocol.Any = refl
     has-protocol_set (protocol.Is n) = value-exact h (last_bit Proto) h.proto 8 (reads h Proto) (is Proto) n
 
-    -- a line's set holds the headers that it matches
-    pub has-line_set : (l : AccessListLine) → has (line_set l) h ≡ matches l h
-    unfolding line_set matches
-    has-line_set l =
+    -- the tests of the way, as `matches` has them
+    abbrev passes_way : AccessListLine → Bool
+    passes_way l =
+        matches_protocol l.protocol h.proto && matches_address l.source h.src && matches_port l.source_port h.sport && matches_address l.destination h.dst && matches_port l.destination_port h.dport
+
+    has-way_set : (l : AccessListLine) → has (way_set l) h ≡ passes_way l
+    has-way_set l =
         let p = protocol_set l.protocol in let s = address_set (last_bit Src) l.source in let a = port_set (last_bit Sport) l.source_port in let d = address_set (last_bit Dst) l.destination in let b = port_set (last_bit Dport) l.destination_port in
         has-and h (and (and (and p s) a) d) b
         ∙ ap (λ x. x && has b h) (has-and h (and (and p s) a) d ∙ ap (λ x. x && has d h) (has-and h (and p s) a ∙ ap (λ x. x && has a h) (has-and h p s)))
@@ -63,6 +73,45 @@ module _ (h : Header) where
         && has-port_set (last_bit Sport) h.sport (reads h Sport) (is Sport) l.source_port i)
         && value-masked h (last_bit Dst) h.dst 32 l.destination.wildcard l.destination.addr (reads h Dst) i)
         && has-port_set (last_bit Dport) h.dport (reads h Dport) (is Dport) l.destination_port i)
+
+    -- ACK or RST
+    has-established : value established (bit h) ≡ (h.ack || h.rst)
+    has-established = by (bit h (last_bit Ack)) (bit h (last_bit Rst)) (reads h Ack 0 (omega arith) ∙ flag-bit h.ack) (reads h Rst 0 (omega arith) ∙ flag-bit h.rst)
+      where
+        by : (a r : Bool) → a ≡ h.ack → r ≡ h.rst → cond a true (cond r true false) ≡ (h.ack || h.rst)
+        by true true e f = ap (λ b. b || h.rst) e
+        by true false e f = ap (λ b. b || h.rst) e
+        by false true e f = (λ i. e i || f i)
+        by false false e f = (λ i. e i || f i)
+
+    has-code_of : (code : Option ℕ) → has (code_of code) h ≡ matches_code code h.icmp_code
+    has-code_of None = refl
+    has-code_of (Some code) = value-exact h (last_bit IcmpCode) h.icmp_code 8 (reads h IcmpCode) (is IcmpCode) code
+
+    -- the three tests behind one that is passed or not
+    has-further : (t : FurtherTest) (x : Bool) → (((x && has (type_set t) h) && has (code_set t) h) && has (flag_set t) h) ≡ (x && matches_further t h)
+    has-further further.Any true = refl
+    has-further further.Any false = refl
+    has-further further.Established true = has-established
+    has-further further.Established false = refl
+    has-further (further.Icmp icmp_type code) false = refl
+    has-further (further.Icmp icmp_type code) true =
+        by (has (type_set (further.Icmp icmp_type code)) h) (has (code_of code) h)
+        ∙ (λ i. value-exact h (last_bit IcmpType) h.icmp_type 8 (reads h IcmpType) (is IcmpType) icmp_type i && has-code_of code i)
+      where
+        by : (a b : Bool) → (((true && a) && b) && true) ≡ (a && b)
+        by true true = refl
+        by true false = refl
+        by false b = refl
+
+    -- a line's set holds the headers that it matches
+    pub has-line_set : (l : AccessListLine) → has (line_set l) h ≡ matches l h
+    unfolding line_set matches
+    has-line_set l =
+        let w = way_set l in let t = type_set l.further in let c = code_set l.further in let f = flag_set l.further in
+        has-and h (and (and w t) c) f
+        ∙ ap (λ x. x && has f h) (has-and h (and w t) c ∙ ap (λ x. x && has c h) (has-and h w t ∙ ap (λ x. x && has t h) (has-way_set l)))
+        ∙ has-further l.further (passes_way l)
 
     has-with_line : (a : Action) (m t : Recipe) → has (with_line a m t) h ≡ cond (has m h) (permits a) (has t h)
     has-with_line Permit m t = has-or h t m ∙ at (has t h) (has m h)

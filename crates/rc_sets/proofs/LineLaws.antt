@@ -1,12 +1,14 @@
 -- What the making of an access list's set asks and gives.
-use Rattle.std.proofs.Common.{refl, ◌≡◌, ap, sym, ◌∙◌, subst, ℕ, zero, suc, ◌+◌, ◌^◌, ◌<◌, ◌≤◌, cond, List, [], ◌∷◌, ◌++◌, length, take, drop, get_or, Result, Ok, Err, IfOk, arith}
+use Rattle.std.proofs.Common.{refl, ◌≡◌, ap, sym, ◌∙◌, subst, ℕ, zero, suc, ◌+◌, ◌^◌, ◌<◌, ◌≤◌, cond, List, [], ◌∷◌, ◌++◌, length, take, drop, get_or, Option, Some, None, Result, Ok, Err, IfOk, arith}
 use Rattle.std.specs.List.{fold}
 use Rattle.std.proofs.lemmas.Bool.{lt-ltb}
 use Rattle.rc_base.specs.Header.{last_bit}
-use Rattle.rc_base.specs.declared.field.Field.TheVariants.{Dst, Src, Proto, Sport, Dport}
+use Rattle.rc_base.specs.declared.field.Field.TheVariants.{Dst, Src, Proto, Sport, Dport, IcmpType, IcmpCode}
 use Rattle.rc_config.specs.declared.access_list.Action.{Action}
 use Rattle.rc_config.specs.declared.access_list.Action.TheVariants.{Permit, Deny}
 use Rattle.rc_config.specs.declared.access_list.AccessListLine.{AccessListLine}
+use Rattle.rc_config.specs.declared.access_list.FurtherTest.{FurtherTest}
+use Rattle.rc_config.specs.declared.access_list.FurtherTest.TheVariants as further
 use Rattle.rc_config.specs.declared.access_list.PortTest.{PortTest}
 use Rattle.rc_config.specs.declared.access_list.PortTest.TheVariants.{Any, Equal, NotEqual, Below, Above, Within}
 use Rattle.rc_config.specs.declared.access_list.ProtocolTest.{ProtocolTest}
@@ -22,7 +24,7 @@ use Rattle.rc_nodes.specs.declared.words.Ref.{Ref}
 use Rattle.rc_nodes.proofs.KnownLaws.{knows_never, knows_always}
 use Rattle.rc_bdd.specs.Work.{MayCombine}
 use Rattle.rc_bdd.specs.declared.work.SetError.{SetError}
-use Rattle.rc_sets.specs.AccessLists.{protocol_set, address_set, port_set, line_set, with_line, lines_set}
+use Rattle.rc_sets.specs.AccessLists.{protocol_set, address_set, port_set, established, type_set, code_of, code_set, flag_set, way_set, line_set, with_line, lines_set}
 use Rattle.rc_sets.specs.Builds.{MayAdd}
 use Rattle.rc_sets.specs.Intervals.{IsPort, between}
 use Rattle.rc_sets.proofs.IntervalLaws.{below_is, above_is, within_is}
@@ -119,13 +121,12 @@ module _ (l : AccessListLine) where
   abbrev pub whole : Recipe
   whole = and ways destination_port
 
-  pub line_is : line_set l ≡ whole
-  unfolding line_set
-  line_is = refl
+  pub way_is : way_set l ≡ whole
+  way_is = refl
 
-  module _ (may : List Tree) (has : HasNodes may (parts (line_set l))) where
+  module _ (may : List Tree) (has : HasNodes may (parts (way_set l))) where
     pub has_whole : HasNodes may (parts whole)
-    has_whole = subst (λ (r : Recipe). HasNodes may (parts r)) line_is has
+    has_whole = subst (λ (r : Recipe). HasNodes may (parts r)) way_is has
 
     pub has_ways : HasNodes may (parts ways)
     has_ways = piece may whole ways (and-first ways destination_port) has_whole
@@ -150,6 +151,42 @@ module _ (l : AccessListLine) where
 
     pub has_source : HasNodes may (parts source)
     has_source = piece may sources source (and-second protocol source) has_sources
+
+  -- ---- and what the line tests behind its ports
+  abbrev pub typed : Recipe
+  typed = and (way_set l) (type_set l.further)
+
+  abbrev pub coded : Recipe
+  coded = and typed (code_set l.further)
+
+  abbrev pub flagged : Recipe
+  flagged = and coded (flag_set l.further)
+
+  pub line_is : line_set l ≡ flagged
+  unfolding line_set
+  line_is = refl
+
+  module _ (may : List Tree) (has : HasNodes may (parts (line_set l))) where
+    pub has_flagged : HasNodes may (parts flagged)
+    has_flagged = subst (λ (r : Recipe). HasNodes may (parts r)) line_is has
+
+    pub has_coded : HasNodes may (parts coded)
+    has_coded = piece may flagged coded (and-first coded (flag_set l.further)) has_flagged
+
+    pub has_flags : HasNodes may (parts (flag_set l.further))
+    has_flags = piece may flagged (flag_set l.further) (and-second coded (flag_set l.further)) has_flagged
+
+    pub has_typed : HasNodes may (parts typed)
+    has_typed = piece may coded typed (and-first typed (code_set l.further)) has_coded
+
+    pub has_code : HasNodes may (parts (code_set l.further))
+    has_code = piece may coded (code_set l.further) (and-second typed (code_set l.further)) has_coded
+
+    pub has_way : HasNodes may (parts (way_set l))
+    has_way = piece may typed (way_set l) (and-first (way_set l) (type_set l.further)) has_typed
+
+    pub has_type : HasNodes may (parts (type_set l.further))
+    has_type = piece may typed (type_set l.further) (and-second (way_set l) (type_set l.further)) has_typed
 
 -- ---- lines from the last to the first
 
@@ -220,6 +257,24 @@ protocol_may may test n is has = has_recipe may (given (exact (last_bit Proto) 8
 
 pub any_protocol : (seat : SeatView) (test : ProtocolTest) → test ≡ protocols.Any → SeatKnows seat 1 (tree (protocol_set test))
 any_protocol seat test is = subst (λ t. SeatKnows seat 1 (tree (protocol_set t))) (sym is) (knows_always seat)
+
+-- ---- what a line tests behind its ports
+
+pub type_may : (may : List Tree) (test : FurtherTest) (n : ℕ) (code : Option ℕ) → test ≡ further.Icmp n code → HasNodes may (parts (type_set test)) → HasNodesOf may (exact (last_bit IcmpType) 8 n)
+type_may may test n code is has = has_recipe may (given (exact (last_bit IcmpType) 8 n)) (subst (λ t. HasNodes may (parts (type_set t))) is has)
+
+pub code_may : (may : List Tree) (code : Option ℕ) (n : ℕ) → code ≡ Some n → HasNodes may (parts (code_of code)) → HasNodesOf may (exact (last_bit IcmpCode) 8 n)
+code_may may code n is has = has_recipe may (given (exact (last_bit IcmpCode) 8 n)) (subst (λ c. HasNodes may (parts (code_of c))) is has)
+
+pub flags_may : (may : List Tree) (test : FurtherTest) → test ≡ further.Established → HasNodes may (parts (flag_set test)) → HasNodesOf may established
+flags_may may test is has = has_recipe may (given established) (subst (λ t. HasNodes may (parts (flag_set t))) is has)
+
+-- a test that a line doesn't have is passed by all headers
+pub untested : (seat : SeatView) (set : FurtherTest → Recipe) (test other : FurtherTest) → test ≡ other → tree (set other) ≡ always → SeatKnows seat 1 (tree (set test))
+untested seat set test other is all = subst (λ t. SeatKnows seat 1 (tree (set t))) (sym is) (subst (SeatKnows seat 1) (sym all) (knows_always seat))
+
+pub any_code : (seat : SeatView) (code : Option ℕ) → code ≡ None → SeatKnows seat 1 (tree (code_of code))
+any_code seat code is = subst (λ c. SeatKnows seat 1 (tree (code_of c))) (sym is) (knows_always seat)
 
 pub any_port : (seat : SeatView) (last : ℕ) (test : PortTest) → test ≡ Any → SeatKnows seat 1 (tree (port_set last test))
 any_port seat last test is = subst (λ t. SeatKnows seat 1 (tree (port_set last t))) (sym is) (knows_always seat)

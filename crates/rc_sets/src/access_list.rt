@@ -3,11 +3,12 @@ ghost use Rattle.std.specs.Prelude.{◌≡◌, ◌⊎◌, ◌^◌, ◌<◌, ◌�
 ghost use Rattle.rc_base.specs.Header.{bit_count};
 ghost use Rattle.rc_bdd.specs.Work.{IsCause, IsWantOfRoom};
 ghost use Rattle.rc_nodes.specs.Seats.{IsSeatOf, Keeps, SeatKnows};
-ghost use Rattle.rc_sets.specs.AccessLists.{address_set, line_set, lines_set, protocol_set, with_line};
+ghost use Rattle.rc_sets.specs.AccessLists.{address_set, line_set, lines_set, protocol_set, way_set, with_line};
 ghost use Rattle.rc_sets.specs.Builds.{MayAdd};
 ghost use Rattle.rc_trees.specs.Recipes.{Recipe, parts, tree};
 ghost use Rattle.rc_trees.specs.Trees.{HasNodes};
 
+use crate::further::{code_set, flag_set, type_set};
 use crate::number::{exact_set, masked_set};
 use crate::ports::port_set;
 use rc_base::{DPORT_LAST, DST_LAST, PROTO_LAST, SPORT_LAST, SRC_LAST};
@@ -62,6 +63,30 @@ fn protocol_set<M: May>(
     }
 }
 
+/// The headers that pass the line's tests of the way: protocol, addresses and ports.
+fn way_set<M: May>(
+    work: &mut Work<M>,
+    nodes: &Nodes<M>,
+    line: &AccessListLine,
+) -> Result<Ref, SetError>
+    requires seat { IsSeatOf nodes.now work.old }
+    requires may { HasNodes nodes.now.may (parts (way_set line.now)) }
+    ensures seat { IsSeatOf nodes.now work.new }
+    ensures keeps { Keeps work.old work.new }
+    ensures set { IfOk result (λ r. SeatKnows work.new r.index (tree (way_set line.now))) }
+    ensures cause { IfErr result (IsCause nodes.now work.new) }
+{
+    let protocol = protocol_set(work, nodes, line.protocol)?;
+    let source = address_set(work, nodes, SRC_LAST, line.source)?;
+    let sources = work.and(nodes, protocol, source)?;
+    let source_port = port_set(work, nodes, SPORT_LAST, &line.source_port)?;
+    let senders = work.and(nodes, sources, source_port)?;
+    let destination = address_set(work, nodes, DST_LAST, line.destination)?;
+    let ways = work.and(nodes, senders, destination)?;
+    let destination_port = port_set(work, nodes, DPORT_LAST, &line.destination_port)?;
+    work.and(nodes, ways, destination_port)
+}
+
 /// The headers that a line matches.
 fn line_set<M: May>(
     work: &mut Work<M>,
@@ -75,15 +100,13 @@ fn line_set<M: May>(
     ensures set { IfOk result (λ r. SeatKnows work.new r.index (tree (line_set line.now))) }
     ensures cause { IfErr result (IsCause nodes.now work.new) }
 {
-    let protocol = protocol_set(work, nodes, line.protocol)?;
-    let source = address_set(work, nodes, SRC_LAST, line.source)?;
-    let sources = work.and(nodes, protocol, source)?;
-    let source_port = port_set(work, nodes, SPORT_LAST, &line.source_port)?;
-    let senders = work.and(nodes, sources, source_port)?;
-    let destination = address_set(work, nodes, DST_LAST, line.destination)?;
-    let ways = work.and(nodes, senders, destination)?;
-    let destination_port = port_set(work, nodes, DPORT_LAST, &line.destination_port)?;
-    work.and(nodes, ways, destination_port)
+    let way = way_set(work, nodes, line)?;
+    let icmp_type = type_set(work, nodes, line.further)?;
+    let typed = work.and(nodes, way, icmp_type)?;
+    let code = code_set(work, nodes, line.further)?;
+    let coded = work.and(nodes, typed, code)?;
+    let flags = flag_set(work, nodes, line.further)?;
+    work.and(nodes, coded, flags)
 }
 
 /// A line in front of a set: permit adds what it matches, deny takes it away.

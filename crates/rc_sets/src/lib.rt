@@ -7,6 +7,7 @@
 
 mod access_list;
 mod build;
+mod further;
 mod hops;
 mod interval;
 mod laws;
