@@ -1,5 +1,5 @@
 -- The best of some ways is what they make, one after another; no way costs less, and one costs as much.
-use Rattle.std.proofs.Common.{refl, ◌≡◌, ap, sym, ◌∙◌, ℕ, min, ◌==◌, nat_lt, Bool, true, false, cond, List, [], ◌∷◌, ◌++◌, filter, Some, None, arith, append_assoc}
+use Rattle.std.proofs.Common.{refl, ◌≡◌, ◌⊎◌, inl, inr, ⊎_elim, ap, sym, ◌∙◌, subst, ℕ, suc, min, ◌==◌, nat_lt, Bool, true, false, true≢false, cond, All, Any, List, [], ◌∷◌, ◌++◌, get_or, filter, Option, Some, None, arith, append_assoc}
 use Rattle.std.specs.Cmp.{IsTotalOrder, tied_itself}
 use Rattle.std.specs.List.{flat_map, fold}
 use Rattle.std.specs.Ordering.{eq_by_cmp, is_eq, is_lt, match_ordering, nat_cmp, ordering_reverse}
@@ -8,9 +8,9 @@ use Rattle.std.specs.declared.cmp.Ordering.TheVariants.{Less, Equal, Greater}
 use Rattle.std.proofs.lemmas.Bool.Decides.{nat_tests}
 use Rattle.std.proofs.lemmas.Grind.{common_steps}
 use Rattle.std.proofs.lemmas.List.{append-nil}
-use Rattle.std.proofs.lemmas.List.Elements.{filter-append}
+use Rattle.std.proofs.lemmas.List.Elements.{All-cons, All-nil, filter-append}
 use Rattle.std.proofs.lemmas.List.Sums.{fold-append}
-use Rattle.rc_route.specs.Ways.{Way, best_of, hops_at, least_cost, lower, then_way, with_way}
+use Rattle.rc_route.specs.Ways.{IsBestOf, Way, best_of, hops_at, least_cost, lower, then_way, with_way}
 
 module _ {C : Type 0} (cmp : C → C → Ordering) where
   pub least_more : (w : Way C) (ws : List (Way C)) (x : Way C) → least_cost cmp w (ws ++ x ∷ []) ≡ lower cmp (least_cost cmp w ws) x.cost
@@ -117,6 +117,61 @@ module _ {C : Type 0} (cmp : C → C → Ordering) (total : IsTotalOrder cmp) wh
   pub best_is : (ways : List (Way C)) → fold (then_way cmp) None ways ≡ best_of cmp ways
   best_is [] = refl
   best_is (w ∷ ws) = ap (λ v. fold (then_way cmp) (Some v) ws) (made_first w) ∙ made_all w [] ws
+
+  -- ---- the best as one finds it by asking each
+
+  -- a cost below the least is below each
+  record IsBelowAll (k a : C) (ws : List (Way C)) : Type 0 where
+    first : cmp k a ≡ Less
+    others : All (λ (w : Way C). cmp k w.cost ≡ Less) ws
+
+  below_all : (k a : C) (ws : List (Way C)) → cmp k (fold (λ c (x : Way C). lower cmp c x.cost) a ws) ≡ Less → IsBelowAll k a ws
+  below_all k a [] less = record { first = less; others = All-nil (λ (w : Way C). cmp k w.cost ≡ Less) }
+  below_all k a (x ∷ xs) less =
+      let rest = below_all k (lower cmp a x.cost) xs less in
+      let both = below_both k a x.cost rest.first in
+      record { first = both.first; others = All-cons (λ (w : Way C). cmp k w.cost ≡ Less) x xs both.second rest.others }
+
+  none_less : (w : Way C) (ws : List (Way C)) → All (λ (x : Way C). is_lt (cmp x.cost (least_cost cmp w ws)) ≡ false) (w ∷ ws)
+  none_less w ws k d within = by (cmp c (least_cost cmp w ws)) refl
+    where
+      c : C
+      c = (get_or (w ∷ ws) k d).cost
+
+      by : (o : Ordering) → cmp c (least_cost cmp w ws) ≡ o → is_lt o ≡ false
+      by Less is =
+          let all = below_all c w.cost ws is in
+          let below : cmp c c ≡ Less = All-cons (λ (x : Way C). cmp c x.cost ≡ Less) w ws all.first all.others k d within in
+          absurd (true≢false (ap is_eq (sym (tied_itself total c) ∙ below)))
+      by Equal is = refl
+      by Greater is = refl
+
+  least_there : (a : C) (ws : List (Way C)) → (fold (λ c (x : Way C). lower cmp c x.cost) a ws ≡ a) ⊎ Any (λ (x : Way C). x.cost ≡ fold (λ c (y : Way C). lower cmp c y.cost) a ws) ws
+  least_there a [] = inl refl
+  least_there a (x ∷ xs) = ⊎_elim (by (is_lt (cmp x.cost a))) (λ there. inr (suc there.0, there.1, omega (arith, there.2), there.3, there.4)) (least_there (lower cmp a x.cost) xs)
+    where
+      least : C
+      least = fold (λ c (y : Way C). lower cmp c y.cost) (lower cmp a x.cost) xs
+
+      by : (b : Bool) → least ≡ cond b x.cost a → (least ≡ a) ⊎ Any (λ (y : Way C). y.cost ≡ least) (x ∷ xs)
+      by true is = inr (0, x, omega arith, refl, sym is)
+      by false is = inl is
+
+  some_as_much : (w : Way C) (ws : List (Way C)) → Any (λ (x : Way C). x.cost ≡ least_cost cmp w ws) (w ∷ ws)
+  some_as_much w ws = ⊎_elim (λ first. (0, w, omega arith, refl, sym first)) (λ there. (suc there.0, there.1, omega (arith, there.2), there.3, there.4)) (least_there w.cost ws)
+
+  -- no way costs less than the best, some one costs as much, and its hops are those of all that do
+  pub best_is_best : (ways : List (Way C)) (best : Way C) → best_of cmp ways ≡ Some best → IsBestOf cmp ways best
+  best_is_best [] best is = absurd (true≢false (ap is_some (sym is)))
+    where
+      is_some : Option (Way C) → Bool
+      is_some None = false
+      is_some (Some v) = true
+  best_is_best (w ∷ ws) best is = subst (IsBestOf cmp (w ∷ ws)) (ap (or_first w) is) (record { no_less = none_less w ws; as_much = some_as_much w ws; hops = refl })
+    where
+      or_first : Way C → Option (Way C) → Way C
+      or_first v None = v
+      or_first v (Some u) = u
 
 -- at numbers
 pub lower_number : (m n : ℕ) → lower nat_cmp m n ≡ min m n

@@ -1,5 +1,5 @@
 -- Ways to a destination, each at a cost, and the best of them.
-use Rattle.std.specs.Prelude.{if◌then◌else◌, List, [], ◌∷◌, ◌++◌, filter, Option, Some, None}
+use Rattle.std.specs.Prelude.{◌≡◌, if◌then◌else◌, false, All, Any, List, [], ◌∷◌, ◌++◌, filter, Option, Some, None}
 use Rattle.std.specs.List.{flat_map, fold}
 use Rattle.std.specs.Ordering.{eq_by_cmp, is_lt, match_ordering}
 use Rattle.std.specs.declared.cmp.Ordering.{Ordering}
@@ -27,6 +27,12 @@ module _ {C : Type 0} (cmp : C → C → Ordering) where
   abbrev pub best_of : List (Way C) → Option (Way C)
   best_of [] = None
   best_of (w ∷ ws) = Some (record { cost = least_cost w ws; hops = hops_at (least_cost w ws) (w ∷ ws) })
+
+  -- what makes a way the best of some: none costs less, some one costs as much, and its hops are those of all that do
+  pub record IsBestOf (ways : List (Way C)) (best : Way C) : Type 0 where
+    pub no_less : All (λ (w : Way C). is_lt (cmp w.cost best.cost) ≡ false) ways
+    pub as_much : Any (λ (w : Way C). w.cost ≡ best.cost) ways
+    pub hops : best.hops ≡ hops_at best.cost ways
 
   -- the better of a way that is known and one more, or both where they cost the same
   abbrev pub with_way : Option (Way C) → Way C → Way C

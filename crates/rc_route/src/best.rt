@@ -34,6 +34,7 @@ impl Best {
 
     /// The same again, which shares all lists of this one. It takes no memory, and errs only where as many hold these as can be
     /// counted.
+    #[inline]
     pub fn copy(&self) -> Result<Best, AllocError>
         ensures { IfOk result (λ copied. copied ≡ self.now) }
     {

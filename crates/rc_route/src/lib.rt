@@ -18,7 +18,7 @@ pub use best::Best;
 pub use further::FurtherHops;
 pub use hops::Hops;
 pub use listed::{HasPrefix, best_path_for, listed_at};
-pub use outcome::Outcome;
+pub use outcome::{Outcome, RoundsEnd};
 pub use path::{BgpPath, PathSource, compare_path_sources};
 pub use route::{Hop, Route, Source, Table, compare_hops, compare_sources, same_hop, same_table};
 pub use state::{RouterState, State, copy, equal, known_at};

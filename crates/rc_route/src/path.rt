@@ -82,6 +82,7 @@ impl Drop for BgpPath {
 impl BgpPath {
     /// The path again, which shares the AS path and the communities of this one. It takes no memory, and errs only where as many
     /// hold these as can be counted.
+    #[inline]
     pub fn copy(&self) -> Result<BgpPath, AllocError>
         ensures { IfOk result (λ copied. copied ≡ self.now) }
     {
