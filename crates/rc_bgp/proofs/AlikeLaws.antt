@@ -18,6 +18,8 @@ use Rattle.rc_route.specs.declared.state.RouterState.{RouterState}
 use Rattle.rc_topology.proofs.ListLaws.{all_filter, any_append, filter_agree}
 use Rattle.rc_bgp.specs.Candidates.{advertised_best, advertised_default, best_at, best_among, best_of, best_paths, heard, own_at, prefixes_of, prefixes_seen, reachable, sender_prefixes}
 use Rattle.rc_bgp.specs.Changes.{AreChanges, AreMended, CoversChange, IsHeardAlike, ReadsAlike, changes_of, mended_paths, suspects}
+use Rattle.rc_bgp.specs.Maximum.{maximum_of}
+use Rattle.rc_config.specs.declared.bgp.MaximumPaths.{MaximumPaths}
 use Rattle.rc_bgp.specs.Known.{paths_of, table_of}
 use Rattle.rc_bgp.specs.Mending.{mended}
 use Rattle.rc_bgp.specs.Own.{own_paths}
@@ -119,24 +121,24 @@ module _ (net : Network) (old : List RouterState) where
       ∙ ap (λ o. option_and_then (reachable table) (option_and_then (import net s) (option_and_then (export net s) o))) (ap (option_map (λ (b : Best). b.path)) (none_best_for (paths_of old s.sender) p parts.0)))
       ∙ none_heard table ss p other parts.1
 
-  none_best : (table : List Route) (own : List (List BgpPath)) (ss : List Session) (p : Cidr) → list_any (same_prefix p) (prefixes_seen old own ss) ≡ false → best_among net old table own ss p ≡ None
-  none_best table own ss p none =
+  none_best : (most : MaximumPaths) (table : List Route) (own : List (List BgpPath)) (ss : List Session) (p : Cidr) → list_any (same_prefix p) (prefixes_seen old own ss) ≡ false → best_among net old most table own ss p ≡ None
+  none_best most table own ss p none =
       let seen = sym (any-in_order prefix_cmp same_by_prefix_cmp (same_prefix p) (default_prefix ∷ (flat_map prefixes_of own ++ flat_map (sender_prefixes old) ss))) ∙ none in
       let parts = or_parts (same_prefix p default_prefix) (list_any (same_prefix p) (flat_map prefixes_of own ++ flat_map (sender_prefixes old) ss)) seen in
       let others = or_parts (list_any (same_prefix p) (flat_map prefixes_of own)) (list_any (same_prefix p) (flat_map (sender_prefixes old) ss)) (sym (any_append (same_prefix p) (flat_map prefixes_of own) (flat_map (sender_prefixes old) ss)) ∙ parts.1) in
-      ap best_of (λ i. none_own own p others.0 i ++ none_heard table ss p parts.0 others.1 i)
+      ap (best_of most) (λ i. none_own own p others.0 i ++ none_heard table ss p parts.0 others.1 i)
 
 module _ (net : Network) (sessions : List (List Session)) (r : ℕ) (changes : List (List Cidr)) (now : List RouterState) where
   keeps : (p : Cidr) (b : Best) → best_at net sessions now r p ≡ Some b → b.path.prefix ≡ p
-  keeps p = among_has net now p (table_of now r) (own_paths net (table_of now r) r) (up_sessions sessions now r)
+  keeps p = among_has net now p (maximum_of net r) (table_of now r) (own_paths net (table_of now r) r) (up_sessions sessions now r)
 
   ordered : IsStrictlySortedBy prefix_cmp (suspects changes (up_sessions sessions now r))
   ordered = in_order-sorted prefix_cmp prefix_cmp_total (flat_map (λ (s : Session). changes_of changes s.sender) (up_sessions sessions now r))
 
   -- what is mended, from its parts
-  pub of_parts : (table : List Route) (own : List (List BgpPath)) (up : List Session) (known paths : List Best) (ps : List Cidr) → table ≡ table_of now r → own ≡ own_paths net (table_of now r) r → up ≡ up_sessions sessions now r
-      → known ≡ paths_of now r → ps ≡ suspects changes (up_sessions sessions now r) → paths ≡ mended best_prefix (best_among net now table own up) known ps → paths ≡ mended_paths net sessions changes now r
-  of_parts table own up known paths ps a b c d e is = is ∙ (λ i. mended best_prefix (best_among net now (a i) (b i) (c i)) (d i) (e i))
+  pub of_parts : (most : MaximumPaths) (table : List Route) (own : List (List BgpPath)) (up : List Session) (known paths : List Best) (ps : List Cidr) → most ≡ maximum_of net r → table ≡ table_of now r → own ≡ own_paths net (table_of now r) r → up ≡ up_sessions sessions now r
+      → known ≡ paths_of now r → ps ≡ suspects changes (up_sessions sessions now r) → paths ≡ mended best_prefix (best_among net now most table own up) known ps → paths ≡ mended_paths net sessions changes now r
+  of_parts most table own up known paths ps m a b c d e is = is ∙ (λ i. mended best_prefix (best_among net now (m i) (a i) (b i) (c i)) (d i) (e i))
 
   -- what is mended is in order; at the prefixes that changed at senders it says what is best now, and at others what is known
   pub mended_in_order : IsBestList (paths_of now r) → (paths : List Best) → paths ≡ mended_paths net sessions changes now r → IsBestList paths
@@ -159,12 +161,12 @@ module _ (net : Network) (sessions : List (List Session)) (r : ℕ) where
       let table = table_of old r in
       let own = own_paths net table r in
       let up = up_sessions sessions old r in
-      at_made best_prefix (best_among net old table own up) (λ q. among_has net old q table own up) (prefixes_seen old own up)
-      (in_order-sorted prefix_cmp prefix_cmp_total (default_prefix ∷ (flat_map prefixes_of own ++ flat_map (sender_prefixes old) up))) p (none_best net old table own up p)
+      at_made best_prefix (best_among net old (maximum_of net r) table own up) (λ q. among_has net old q (maximum_of net r) table own up) (prefixes_seen old own up)
+      (in_order-sorted prefix_cmp prefix_cmp_total (default_prefix ∷ (flat_map prefixes_of own ++ flat_map (sender_prefixes old) up))) p (none_best net old (maximum_of net r) table own up p)
 
   pub best_up : (old : List RouterState) → IsBestList (best_paths net sessions old r)
   unfolding best_paths
-  best_up old = best_in_order net old (table_of old r) (own_paths net (table_of old r) r) (up_sessions sessions old r) (best_paths net sessions old r) refl
+  best_up old = best_in_order net old (maximum_of net r) (table_of old r) (own_paths net (table_of old r) r) (up_sessions sessions old r) (best_paths net sessions old r) refl
 
   module _ (old now : List RouterState) (alike : ReadsAlike net sessions old now r) (changes : List (List Cidr)) (told : AreChanges changes old now) where
     ups_alike : (ss : List Session) → AllByRecursion (IsHeardAlike r old now) ss → AllByRecursion (λ s. is_up old s ≡ is_up now s) ss
@@ -187,8 +189,8 @@ module _ (net : Network) (sessions : List (List Session)) (r : ℕ) where
     stays_best : (p : Cidr) → list_any (same_prefix p) (suspects changes (up_sessions sessions now r)) ≡ false → best_at net sessions old r p ≡ best_at net sessions now r p
     stays_best p none =
         let unsuspected = sym (any-in_order prefix_cmp same_by_prefix_cmp (same_prefix p) (flat_map (λ (s : Session). changes_of changes s.sender) (up_sessions sessions now r))) ∙ none in
-        ap (λ ss. best_of (own_at (own_paths net (table_of old r) r) p ++ filter_map (λ s. heard net old (table_of old r) s p) ss)) same_up
-        ∙ (λ i. best_of (own_at (alike.own i) p ++ all_heard p (up_sessions sessions now r) (all_filter (IsHeardAlike r old now) (is_up now) (sessions_of sessions r) alike.heard) unsuspected i))
+        ap (λ ss. best_of (maximum_of net r) (own_at (own_paths net (table_of old r) r) p ++ filter_map (λ s. heard net old (table_of old r) s p) ss)) same_up
+        ∙ (λ i. best_of (maximum_of net r) (own_at (alike.own i) p ++ all_heard p (up_sessions sessions now r) (all_filter (IsHeardAlike r old now) (is_up now) (sessions_of sessions r) alike.heard) unsuspected i))
 
     pub mended_is_best : (paths : List Best) (changed : List Cidr) → paths_of now r ≡ best_paths net sessions old r → AreMended net sessions changes now r paths changed → paths ≡ best_paths net sessions now r
     mended_is_best paths changed is mended =

@@ -16,7 +16,6 @@ use Rattle.rc_config.specs.declared.bgp.Neighbor.{Neighbor}
 use Rattle.rc_config.specs.declared.bgp.OspfKinds.{OspfKinds}
 use Rattle.rc_config.specs.declared.network.Network.{Network}
 use Rattle.rc_config.specs.declared.router_text.RouterText.{RouterText}
-use Rattle.rc_route.specs.Best.{alone}
 use Rattle.rc_route.specs.declared.best.Best.{Best}
 use Rattle.rc_route.specs.declared.path.BgpPath.{BgpPath}
 use Rattle.rc_route.specs.declared.route.Route.{Route}
@@ -25,13 +24,15 @@ use Rattle.rc_route.specs.declared.path.PathSource.{PathSource}
 use Rattle.rc_route.specs.declared.path.PathSource.TheVariants.{Network as ByNetwork}
 use Rattle.rc_route.specs.Tables.{IsBestList, IsPathList, IsTable, best_for, best_path_for}
 use Rattle.rc_topology.proofs.ListLaws.{all_append, found_passes}
+use Rattle.rc_bgp.specs.Maximum.{number_for}
 use Rattle.rc_bgp.specs.Known.{path_at, paths_of, route_at}
 use Rattle.rc_bgp.specs.Originating.{by_network, by_networks, from_route, is_bgp, originated}
 use Rattle.rc_bgp.specs.Redistributing.{med_of, redistributed, redistributed_paths, takes}
 use Rattle.rc_bgp_session.specs.Passing.{as_sent, as_received, default_path, exported, export, imported, import, is_withheld, mapped_path, originated_default, passes_list, with_med}
 use Rattle.rc_bgp.specs.Reaching.{metric_to}
-use Rattle.rc_bgp.specs.Candidates.{advertised, advertised_best, advertised_default, best_among, candidates_at, heard, own_at, prefixes_of, prefixes_seen, reachable, sender_prefixes}
+use Rattle.rc_bgp.specs.Candidates.{advertised, advertised_best, advertised_default, best_among, best_of, candidates_at, further, heard, own_at, prefixes_of, prefixes_seen, reachable, sender_prefixes, with_further}
 use Rattle.rc_bgp_session.specs.declared.session.Session.{Session}
+use Rattle.rc_config.specs.declared.bgp.MaximumPaths.{MaximumPaths}
 use Rattle.rc_bgp.proofs.PartLaws.{Has, ask_has, either_has, map_has, mapped_has, none_has, or_has, some_has, then_has}
 use Rattle.rc_bgp.proofs.PrefixLaws.{made_from, made_in_order, same_is}
 
@@ -122,17 +123,17 @@ module _ (net : Network) (old : List RouterState) where
       by paths None all found = absurd (cc)
       by paths (Some i) all found = at_index (λ (y : BgpPath). y.prefix ≡ p) paths i x all found
 
-  pub among_has : (p : Cidr) (table : List Route) (own : List (List BgpPath)) (sessions : List Session) (b : Best) → best_among net old table own sessions p ≡ Some b → b.path.prefix ≡ p
-  among_has p table own sessions b e = by (best_path (candidates_at net old table own sessions p)) (chosen_has p table own sessions) e
+  pub among_has : (p : Cidr) (most : MaximumPaths) (table : List Route) (own : List (List BgpPath)) (sessions : List Session) (b : Best) → best_among net old most table own sessions p ≡ Some b → b.path.prefix ≡ p
+  among_has p most table own sessions b e = by (best_path (candidates_at net old table own sessions p)) (chosen_has p table own sessions) e
     where
-      by : (o : Option BgpPath) → Has prefix_of p o → option_map alone o ≡ Some b → b.path.prefix ≡ p
+      by : (o : Option BgpPath) → Has prefix_of p o → option_map (with_further most (candidates_at net old table own sessions p)) o ≡ Some b → b.path.prefix ≡ p
       by None has found = absurd (cc)
-      by (Some x) has found = (let same : alone x ≡ b = cc in ap (λ (c : Best). c.path.prefix) (sym same) ∙ has x refl)
+      by (Some x) has found = (let same : with_further most (candidates_at net old table own sessions p) x ≡ b = cc in ap (λ (c : Best). c.path.prefix) (sym same) ∙ has x refl)
 
   -- the best paths of prefixes in order are in order
-  pub best_in_order : (table : List Route) (own : List (List BgpPath)) (sessions : List Session) (paths : List Best) → paths ≡ filter_map (best_among net old table own sessions) (prefixes_seen old own sessions) → IsBestList paths
-  best_in_order table own sessions paths is = subst IsBestList (sym is)
-      (made_in_order (λ (b : Best). b.path.prefix) (best_among net old table own sessions) (λ p. among_has p table own sessions) (prefixes_seen old own sessions)
+  pub best_in_order : (most : MaximumPaths) (table : List Route) (own : List (List BgpPath)) (sessions : List Session) (paths : List Best) → paths ≡ filter_map (best_among net old most table own sessions) (prefixes_seen old own sessions) → IsBestList paths
+  best_in_order most table own sessions paths is = subst IsBestList (sym is)
+      (made_in_order (λ (b : Best). b.path.prefix) (best_among net old most table own sessions) (λ p. among_has p most table own sessions) (prefixes_seen old own sessions)
       (in_order-sorted prefix_cmp prefix_cmp_total (default_prefix ∷ (flat_map prefixes_of own ++ flat_map (sender_prefixes old) sessions))))
 
 -- ---- own paths
@@ -176,5 +177,15 @@ seen_in_parts old own sessions first second last a b c =
 
 -- ---- the best by its place
 
-pub best_found : (paths : List BgpPath) (i : ℕ) (x y : BgpPath) → Some i ≡ best_place paths → Some x ≡ slice_get paths i → y ≡ x → Some y ≡ best_path paths
-best_found paths i x y place found copied = ap Some copied ∙ found ∙ ap (option_and_then (slice_get paths)) place ∙ sym (best_path_at_place paths)
+pub best_found : (paths : List BgpPath) (i : ℕ) (o : Option BgpPath) → Some i ≡ best_place paths → o ≡ slice_get paths i → o ≡ best_path paths
+best_found paths i o place found = found ∙ ap (option_and_then (slice_get paths)) place ∙ sym (best_path_at_place paths)
+
+-- with the next hops of further paths
+pub best_with : (most : MaximumPaths) (paths : List BgpPath) (x copied : BgpPath) (also : List ℕ) → Some x ≡ best_path paths → also ≡ further (number_for most x.source) paths → copied ≡ x → Some (record { path = copied; also = also }) ≡ best_of most paths
+best_with most paths x copied also found is same = (λ i. Some (record { path = same i; also = is i })) ∙ ap (option_map (with_further most paths)) found
+
+pub none_with : (most : MaximumPaths) (paths : List BgpPath) → None ≡ best_path paths → None ≡ best_of most paths
+none_with most paths none = ap (option_map (with_further most paths)) none
+
+pub none_found : (paths : List BgpPath) → None ≡ best_place paths → None ≡ best_path paths
+none_found paths none = ap (option_and_then (slice_get paths)) none ∙ sym (best_path_at_place paths)

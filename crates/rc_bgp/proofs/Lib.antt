@@ -11,3 +11,4 @@ mod PartLaws
 mod ListedLaws
 mod AlikeLaws
 mod UpLaws
+mod InterfaceLaws

@@ -1,6 +1,7 @@
 -- One element more of a loop that keeps what a function makes.
-use Rattle.std.proofs.Common.{refl, ◌≡◌, ap, sym, ◌∙◌, ℕ, suc, ◌+◌, ◌<◌, List, ◌∷◌, ◌++◌, length, get_or, drop, drop-cons, add-one, append_assoc, Option, Some, None}
+use Rattle.std.proofs.Common.{refl, ◌≡◌, ap, sym, ◌∙◌, ℕ, suc, ◌+◌, ◌-◌, ◌<◌, List, ◌∷◌, ◌++◌, length, get_or, drop, take, drop-cons, add-one, append_assoc, Option, Some, None}
 use Rattle.std.specs.List.{cons_option, filter_map}
+use Rattle.std.proofs.lemmas.List.{take_rest}
 use Rattle.std.specs.Option.{option_to_list}
 
 pub first_left : {X : Type 0} (xs : List X) (i : ℕ) (x : X) → i < length xs → x ≡ get_or xs i x → drop i xs ≡ x ∷ drop (i + 1) xs
@@ -16,3 +17,7 @@ one_made f xs i x all all' done o lt is made pushed kept =
     ap (λ t. t ++ filter_map f (drop (i + 1) xs)) pushed ∙ append_assoc all (option_to_list o) (filter_map f (drop (i + 1) xs))
     ∙ ap (λ t. all ++ t) (in_front o (filter_map f (drop (i + 1) xs)) ∙ ap (λ q. cons_option q (filter_map f (drop (i + 1) xs))) made ∙ ap (filter_map f) (sym (first_left xs i x lt is)))
     ∙ kept
+
+-- what a pattern leaves of a list behind its first element
+pub behind_front : {X : Type 0} (xs : List X) → take (length xs - 1) (drop 1 xs) ≡ drop 1 xs
+behind_front xs = take_rest xs 1

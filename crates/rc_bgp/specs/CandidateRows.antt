@@ -14,6 +14,7 @@ use Rattle.rc_route.specs.declared.route.Route.{Route}
 use Rattle.rc_route.specs.declared.route.Source.TheVariants.{Ebgp, Ospf}
 use Rattle.rc_route.specs.declared.state.RouterState.{RouterState}
 use Rattle.rc_topology.specs.Ports.{links_of}
+use Rattle.rc_bgp_decide.specs.Multipath.{multi_places}
 use Rattle.rc_bgp.specs.Candidates.{best_paths, candidates}
 use Rattle.rc_bgp.specs.Learning.{learned_route}
 use Rattle.rc_bgp_session.specs.Nets.{ip, subnet, gigabit, gigabit_1, on, peer, process, router, two, three, external, internal, connected, static, knows, ninth}
@@ -73,29 +74,29 @@ abbrev heard_by_r2 : BgpPath
 heard_by_r2 = record (ninth 0 External) { next_hop = ip 12 1; weight = 0; as_path = 65001 ∷ []; sender_id = ip 12 1; neighbor = ip 12 1 }
 
 pub r2_hears_r1 : best_paths plain one_session (state (connected 1 (subnet 12) 0 ∷ [])) 1 ≡ map alone (heard_by_r2 ∷ [])
-unfolding best_paths hops_within
+unfolding best_paths hops_within multi_places
 r2_hears_r1 = refl
 
 pub r1_keeps_its_own : best_paths plain one_session (state (connected 1 (subnet 12) 0 ∷ [])) 0 ≡ map alone (ninth 0 ByNetwork ∷ [])
-unfolding best_paths hops_within
+unfolding best_paths hops_within multi_places
 r1_keeps_its_own = refl
 
 -- nothing is heard over a session that isn't there
 pub no_session : best_paths plain ([] ∷ [] ∷ []) (state (connected 1 (subnet 12) 0 ∷ [])) 1 ≡ []
-unfolding best_paths hops_within
+unfolding best_paths hops_within multi_places
 no_session = refl
 
 -- a next hop that doesn't resolve, one that is null-routed, and one that only a default route holds
 pub no_next_hop : best_paths plain one_session (state []) 1 ≡ []
-unfolding best_paths hops_within
+unfolding best_paths hops_within multi_places
 no_next_hop = refl
 
 pub null_next_hop : best_paths plain one_session (state (record (static (subnet 12) 0) { hops = Null ∷ [] } ∷ [])) 1 ≡ []
-unfolding best_paths hops_within
+unfolding best_paths hops_within multi_places
 null_next_hop = refl
 
 pub next_hop_by_default : best_paths plain one_session (state (record (static (prefix_at 0 0) (ip 23 3)) { metric = 6 } ∷ connected 1 (subnet 23) 0 ∷ [])) 1 ≡ map alone (record heard_by_r2 { igp_metric = 6 } ∷ [])
-unfolding best_paths hops_within
+unfolding best_paths hops_within multi_places
 next_hop_by_default = refl
 
 -- `default-originate` sends the default route beside the others, and in place of a best path for it
@@ -103,12 +104,12 @@ abbrev default_of_r1 : BgpPath
 default_of_r1 = record heard_by_r2 { prefix = prefix_at 0 0 }
 
 pub default_originate : best_paths (pair (record (peer (ip 12 2) 65002) { default_originate = true })) one_session (state (connected 1 (subnet 12) 0 ∷ [])) 1 ≡ map alone (default_of_r1 ∷ heard_by_r2 ∷ [])
-unfolding best_paths hops_within
+unfolding best_paths hops_within multi_places
 default_originate = refl
 
 pub default_in_place : best_paths (pair (record (peer (ip 12 2) 65002) { default_originate = true })) one_session
     (knows [] (record (ninth 0 External) { prefix = prefix_at 0 0; med = 70; as_path = 65003 ∷ [] } ∷ []) ∷ knows (connected 1 (subnet 12) 0 ∷ []) [] ∷ []) 1 ≡ map alone (default_of_r1 ∷ [])
-unfolding best_paths hops_within
+unfolding best_paths hops_within multi_places
 default_in_place = refl
 
 -- ---- R1, R2 and R3 of one AS in a chain: R3 doesn't hear of 10.0.9.0/24, though its next hop resolves there
@@ -132,11 +133,11 @@ chain_state second =
     ∷ knows (static (subnet 12) (ip 23 2) ∷ connected 2 (subnet 23) 0 ∷ []) [] ∷ []
 
 pub second_hears : best_paths chain chain_sessions (chain_state []) 1 ≡ map alone (heard_inside ∷ [])
-unfolding best_paths hops_within
+unfolding best_paths hops_within multi_places
 second_hears = refl
 
 pub third_does_not : best_paths chain chain_sessions (chain_state (heard_inside ∷ [])) 2 ≡ []
-unfolding best_paths hops_within
+unfolding best_paths hops_within multi_places
 third_does_not = refl
 
 -- ---- candidates stand by prefix: what the router originates first, then by sender

@@ -1,18 +1,20 @@
 -- The candidates of a router for each prefix, and the best of them (RFC 4271 s.9.1).
-use Rattle.std.specs.Prelude.{ℕ, if◌then◌else◌, List, ◌∷◌, ◌++◌, map, Option, option_and_then}
+use Rattle.std.specs.Prelude.{ℕ, if◌then◌else◌, List, ◌∷◌, ◌++◌, drop, map, Option, option_and_then}
 use Rattle.std.specs.List.{filter_map, flat_map}
 use Rattle.std.specs.Option.{option_map, option_or}
 use Rattle.rc_base.specs.Lists.{in_order}
 use Rattle.rc_base.specs.Prefix.{Cidr, prefix_cmp, same_prefix, default_prefix}
 use Rattle.rc_bgp_decide.specs.Decision.{best_path}
+use Rattle.rc_bgp_decide.specs.Multipath.{multi_places, next_hops_at}
 use Rattle.rc_config.specs.declared.network.Network.{Network}
-use Rattle.rc_route.specs.Best.{alone}
+use Rattle.rc_config.specs.declared.bgp.MaximumPaths.{MaximumPaths}
 use Rattle.rc_route.specs.Tables.{best_path_for}
 use Rattle.rc_route.specs.declared.best.Best.{Best}
 use Rattle.rc_route.specs.declared.path.BgpPath.{BgpPath}
 use Rattle.rc_route.specs.declared.route.Route.{Route}
 use Rattle.rc_route.specs.declared.state.RouterState.{RouterState}
 use Rattle.rc_bgp.specs.Known.{path_at, paths_of, table_of}
+use Rattle.rc_bgp.specs.Maximum.{maximum_of, number_for}
 use Rattle.rc_bgp.specs.Own.{own_paths}
 use Rattle.rc_bgp_session.specs.Passing.{export, import, originated_default}
 use Rattle.rc_bgp.specs.Reaching.{metric_to}
@@ -41,9 +43,16 @@ own_at own p = filter_map (λ paths. path_at paths p) own
 abbrev pub reachable : List Route → BgpPath → Option BgpPath
 reachable table x = option_map (λ metric. record x { igp_metric = metric }) (metric_to table x.next_hop)
 
--- the best of some paths, without further next hops
-abbrev pub best_of : List BgpPath → Option Best
-best_of paths = option_map alone (best_path paths)
+-- the next hops of those of up to so many paths that stand behind the best one
+abbrev pub further : ℕ → List BgpPath → List ℕ
+further n paths = next_hops_at paths (drop 1 (multi_places n paths))
+
+-- the best of some paths, with the next hops of further ones: as many as the router may use of paths of its kind
+abbrev pub with_further : MaximumPaths → List BgpPath → BgpPath → Best
+with_further most paths x = record { path = x; also = further (number_for most x.source) paths }
+
+abbrev pub best_of : MaximumPaths → List BgpPath → Option Best
+best_of most paths = option_map (with_further most paths) (best_path paths)
 
 module _ (net : Network) (old : List RouterState) where
   -- what the sender's best path of a prefix becomes on a session
@@ -70,13 +79,13 @@ module _ (net : Network) (old : List RouterState) where
   abbrev pub all_candidates : List Route → List (List BgpPath) → List Session → List BgpPath
   all_candidates table own sessions = flat_map (candidates_at table own sessions) (prefixes_seen old own sessions)
 
-  -- the best path for a prefix
-  abbrev pub best_among : List Route → List (List BgpPath) → List Session → Cidr → Option Best
-  best_among table own sessions p = best_of (candidates_at table own sessions p)
+  -- the best path for a prefix, with what goes with it
+  abbrev pub best_among : MaximumPaths → List Route → List (List BgpPath) → List Session → Cidr → Option Best
+  best_among most table own sessions p = best_of most (candidates_at table own sessions p)
 
   -- the best path of each prefix that has one, by address, then length
-  abbrev pub all_best : List Route → List (List BgpPath) → List Session → List Best
-  all_best table own sessions = filter_map (best_among table own sessions) (prefixes_seen old own sessions)
+  abbrev pub all_best : MaximumPaths → List Route → List (List BgpPath) → List Session → List Best
+  all_best most table own sessions = filter_map (best_among most table own sessions) (prefixes_seen old own sessions)
 
 -- the candidates of a router in a state, by prefix: what it originates, then what it hears over the sessions that are up in it
 unfoldable pub candidates : Network → List Session → ℕ → List RouterState → List BgpPath
@@ -84,8 +93,8 @@ candidates net sessions r old = all_candidates net old (table_of old r) (own_pat
 
 -- the best path of a router for a prefix, after the state, from the configured sessions
 abbrev pub best_at : Network → List (List Session) → List RouterState → ℕ → Cidr → Option Best
-best_at net sessions old r p = best_among net old (table_of old r) (own_paths net (table_of old r) r) (up_sessions sessions old r) p
+best_at net sessions old r p = best_among net old (maximum_of net r) (table_of old r) (own_paths net (table_of old r) r) (up_sessions sessions old r) p
 
 -- the best path of a router for each prefix that has one, after a state, from the configured sessions
 unfoldable pub best_paths : Network → List (List Session) → List RouterState → ℕ → List Best
-best_paths net sessions old r = all_best net old (table_of old r) (own_paths net (table_of old r) r) (up_sessions sessions old r)
+best_paths net sessions old r = all_best net old (maximum_of net r) (table_of old r) (own_paths net (table_of old r) r) (up_sessions sessions old r)

@@ -9,6 +9,7 @@ use Rattle.rc_route.specs.declared.path.BgpPath.{BgpPath}
 use Rattle.rc_route.specs.declared.path.PathSource.TheVariants.{Network as ByNetwork, External}
 use Rattle.rc_route.specs.declared.route.Route.{Route}
 use Rattle.rc_route.specs.declared.state.RouterState.{RouterState}
+use Rattle.rc_bgp_decide.specs.Multipath.{multi_places}
 use Rattle.rc_bgp.specs.Candidates.{best_paths}
 use Rattle.rc_bgp.specs.Changes.{changes_of, mended_paths, suspects}
 use Rattle.rc_bgp_session.specs.Nets.{ip, subnet, gigabit, gigabit_1, on, peer, process, router, two, external, connected, knows, ninth}
@@ -48,28 +49,28 @@ abbrev made : List Cidr → List BgpPath → List BgpPath → List Best
 made changed first second = mended_paths net all (changed ∷ [] ∷ []) (state first second) 1
 
 pub gains : made (subnet 9 ∷ []) (sent (subnet 9) ∷ []) [] ≡ map alone (heard (subnet 9) ∷ [])
-unfolding hops_within
+unfolding hops_within multi_places
 gains = refl
 
 pub gains_between : made (subnet 9 ∷ []) (sent (subnet 8) ∷ sent (subnet 9) ∷ sent (subnet 10) ∷ []) (heard (subnet 8) ∷ heard (subnet 10) ∷ []) ≡ map alone (heard (subnet 8) ∷ heard (subnet 9) ∷ heard (subnet 10) ∷ [])
-unfolding hops_within
+unfolding hops_within multi_places
 gains_between = refl
 
 pub loses : made (subnet 9 ∷ []) [] (heard (subnet 9) ∷ []) ≡ []
-unfolding hops_within
+unfolding hops_within multi_places
 loses = refl
 
 pub stays : made (subnet 9 ∷ []) (sent (subnet 9) ∷ []) (heard (subnet 9) ∷ []) ≡ map alone (heard (subnet 9) ∷ [])
-unfolding hops_within
+unfolding hops_within multi_places
 stays = refl
 
 pub changes_its_med : made (subnet 9 ∷ []) (record (sent (subnet 9)) { med = 7 } ∷ []) (heard (subnet 9) ∷ []) ≡ map alone (record (heard (subnet 9)) { med = 7 } ∷ [])
-unfolding hops_within
+unfolding hops_within multi_places
 changes_its_med = refl
 
 -- nothing is decided at a prefix of which nobody tells
 pub untold : made (subnet 9 ∷ []) (sent (subnet 9) ∷ []) (heard (subnet 8) ∷ []) ≡ map alone (heard (subnet 8) ∷ heard (subnet 9) ∷ [])
-unfolding hops_within
+unfolding hops_within multi_places
 untold = refl
 
 -- ---- off a shared subnet R2 needs a route to R1: once it has one, it hears what R1 had long before, and R1 tells of nothing
@@ -81,17 +82,17 @@ abbrev with_route : List Route → List RouterState
 with_route routes = knows (connected 0 (subnet 12) 0 ∷ []) (sent (subnet 9) ∷ []) ∷ knows routes [] ∷ []
 
 pub is_down_at_first : is_up (with_route []) far ≡ false
-unfolding hops_within
+unfolding hops_within multi_places
 is_down_at_first = refl
 
 pub comes_up : is_up (with_route (connected 1 (subnet 12) 0 ∷ [])) far ≡ true
-unfolding hops_within
+unfolding hops_within multi_places
 comes_up = refl
 
 pub hears_nothing_at_first : best_paths net ([] ∷ (far ∷ []) ∷ []) (with_route []) 1 ≡ []
-unfolding best_paths hops_within
+unfolding best_paths hops_within multi_places
 hears_nothing_at_first = refl
 
 pub hears_what_was_there : best_paths net ([] ∷ (far ∷ []) ∷ []) (with_route (connected 1 (subnet 12) 0 ∷ [])) 1 ≡ map alone (heard (subnet 9) ∷ [])
-unfolding best_paths hops_within
+unfolding best_paths hops_within multi_places
 hears_what_was_there = refl

@@ -7,12 +7,14 @@ pub mod Ways
 pub mod Originating
 pub mod Redistributing
 pub mod Own
+pub mod Maximum
 pub mod Candidates
 pub mod Learning
 pub mod Mending
 pub mod Changes
 pub mod SessionRows
 pub mod LearningRows
+pub mod FurtherRows
 pub mod CandidateRows
 pub mod RedistributionRows
 pub mod ChangeRows

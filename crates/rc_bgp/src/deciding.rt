@@ -8,8 +8,10 @@ ghost use Rattle.rc_bgp_decide.specs.Decision.{best_path};
 ghost use Rattle.rc_route.specs.Tables.{IsBestList, IsPathList, IsRouterState};
 ghost use Rattle.rc_bgp.specs.Candidates as spec;
 
+use crate::further::further;
 use crate::hearing::candidates_at;
 use crate::known::{paths_of, table_of};
+use crate::maximum::{maximum_of, number_for};
 use crate::originating::{insert, listed};
 use crate::own_paths::own_paths;
 use crate::resolver::Resolver;
@@ -18,7 +20,7 @@ use crate::{ConfiguredSessions, Session, Sessions};
 use rc_as_path::AsPath;
 use rc_base::{Items, Prefix, RouterId};
 use rc_bgp_decide::best;
-use rc_config::Network;
+use rc_config::{MaximumPaths, Network};
 use rc_route::{Best, BgpPath, State};
 use std::alloc::{AllocError, Global};
 use std::collections::BTreeSet;
@@ -30,32 +32,31 @@ fn at_path(paths: &[BgpPath], index: usize) -> Option<&BgpPath>
     paths.get(index)
 }
 
-/// The best of some paths, again.
-#[tactic(auto, using(rc_bgp_decide::proofs::DecisionLaws::best_path_at_place))]
-fn best_path(paths: &[BgpPath]) -> Result<Option<BgpPath>, AllocError>
-    ensures { IfOk result (λ path. path ≡ best_path paths.now) }
+/// The best of some paths.
+#[tactic(auto, using(crate::proofs::BestLaws::best_found, crate::proofs::BestLaws::none_found))]
+fn best_path(paths: &[BgpPath]) -> Option<&BgpPath>
+    ensures { option_copied result ≡ best_path paths.now }
 {
     let place = best(paths);
     match place {
-        None => Ok(None),
-        Some(place) => {
-            let found = at_path(paths, place);
-            match found {
-                None => Ok(None),
-                Some(path) => Ok(Some(path.copy()?)),
-            }
-        }
+        None => None,
+        Some(place) => at_path(paths, place),
     }
 }
 
-/// The same with what goes with it: no further next hops.
-fn best_of(paths: &[BgpPath]) -> Result<Option<Best>, AllocError>
-    ensures { IfOk result (λ best. best ≡ spec.best_of paths.now) }
+/// The best of some paths again, with the next hops of further ones.
+#[tactic(auto, using(crate::proofs::BestLaws::best_with, crate::proofs::BestLaws::none_with))]
+fn best_of(alloc: Global, most: MaximumPaths, paths: &[BgpPath]) -> Result<Option<Best>, AllocError>
+    ensures { IfOk result (λ best. best ≡ spec.best_of most paths.now) }
 {
-    let path = best_path(paths)?;
-    match path {
+    let found = best_path(paths);
+    match found {
         None => Ok(None),
-        Some(path) => Ok(Some(Best::alone(path))),
+        Some(path) => {
+            let also = further(alloc, number_for(most, path.source), paths)?;
+            let path = path.copy()?;
+            Ok(Some(Best { path, also }))
+        }
     }
 }
 
@@ -64,6 +65,7 @@ pub(crate) fn best_among(
     alloc: Global,
     net: &Network,
     state: &State,
+    most: MaximumPaths,
     resolver: &mut Resolver<'_>,
     own: &[Items<BgpPath>],
     sessions: &[Session],
@@ -71,11 +73,11 @@ pub(crate) fn best_among(
 ) -> Result<Option<Best>, AllocError>
     requires state { All IsRouterState state.now }
     requires own { All IsPathList own.now }
-    ensures value { IfOk result (λ best. best ≡ spec.best_among net.now state.now resolver.old own.now sessions.now prefix.now) }
+    ensures value { IfOk result (λ best. best ≡ spec.best_among net.now state.now most resolver.old own.now sessions.now prefix.now) }
     ensures same { OnOk result (resolver.new ≡ resolver.old) }
 {
     let paths = candidates_at(alloc, net, state, resolver, own, sessions, prefix)?;
-    best_of(paths.as_slice())
+    best_of(alloc, most, paths.as_slice())
 }
 
 /// Puts the prefixes of paths into a set.
@@ -194,6 +196,7 @@ fn best_for(
     alloc: Global,
     net: &Network,
     state: &State,
+    most: MaximumPaths,
     resolver: &mut Resolver<'_>,
     own: &[Items<BgpPath>],
     sessions: &[Session],
@@ -201,11 +204,11 @@ fn best_for(
 ) -> Result<Items<Best>, AllocError>
     requires state { All IsRouterState state.now }
     requires own { All IsPathList own.now }
-    ensures { IfOk result (λ paths. paths ≡ filter_map (spec.best_among net.now state.now resolver.old own.now sessions.now) prefixes.now) }
+    ensures { IfOk result (λ paths. paths ≡ filter_map (spec.best_among net.now state.now most resolver.old own.now sessions.now) prefixes.now) }
 {
     let mut paths = Items::new(alloc);
     for prefix in prefixes {
-        let best = best_among(alloc, net, state, resolver, own, sessions, prefix)?;
+        let best = best_among(alloc, net, state, most, resolver, own, sessions, prefix)?;
         push_some(&mut paths, best)?;
     }
     Ok(paths)
@@ -234,6 +237,7 @@ pub(crate) fn best_paths(
         alloc,
         net,
         previous,
+        maximum_of(net, router),
         &mut resolver,
         own.as_slice(),
         up.as_slice(),

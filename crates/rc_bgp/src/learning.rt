@@ -1,5 +1,5 @@
 //! The routes that best paths give.
-ghost use Rattle.std.specs.Prelude.{◌≡◌, IfOk, OnOk, Some, map};
+ghost use Rattle.std.specs.Prelude.{◌≡◌, ◌≢◌, [], IfErr, IfOk, OnOk, Some, map};
 ghost use Rattle.std.specs.BTreeSet.{keys, insert_key};
 ghost use Rattle.std.specs.List.{fold};
 ghost use Rattle.std.specs.Ordering.{nat_cmp};
@@ -50,25 +50,30 @@ fn all_hops(alloc: Global, best: &Best) -> Result<Hops, AllocError>
     gateways(alloc, set)
 }
 
-/// The next hop of a best path and those beside it.
-#[tactic(auto, using(crate::proofs::LearningLaws::no_further))]
+/// The next hop of a best path and those beside it. It errs only where there are some.
+#[inline(always)]
+#[tactic(auto, using(crate::proofs::LearningLaws::no_further, crate::proofs::LearningLaws::some_further))]
 fn hops_of(alloc: Global, best: &Best) -> Result<Hops, AllocError>
-    ensures { IfOk result (λ hops. hops ≡ spec.hops_of best.now) }
+    ensures value { IfOk result (λ hops. hops ≡ spec.hops_of best.now) }
+    ensures err { IfErr result (λ error. best.now.also ≢ []) }
 {
     if best.also.is_empty() {
         return Ok(Hops::one(Hop::Via(best.path.next_hop, None)));
     }
-    all_hops(alloc, best)
+    let hops = all_hops(alloc, best)?;
+    Ok(hops)
 }
 
-/// The route of a best path over its next hops.
+/// The route of a best path over its next hops. It errs only where there are further ones.
+#[inline(always)]
 fn route_by(
     alloc: Global,
     best: &Best,
     source: Source,
     distance: u8,
 ) -> Result<Option<Route>, AllocError>
-    ensures { IfOk result (λ route. route ≡ Some (spec.route_by best.now source distance)) }
+    ensures value { IfOk result (λ route. route ≡ Some (spec.route_by best.now source distance)) }
+    ensures err { IfErr result (λ error. best.now.also ≢ []) }
 {
     let hops = hops_of(alloc, best)?;
     Ok(Some(Route {
@@ -81,10 +86,12 @@ fn route_by(
 }
 
 /// The route that a best path gives its router's table: over its next hop and those that go with it, with the MED as metric, and with
-/// the administrative distance 20 from another AS and 200 from the own one. What the router originates gives none. It takes no memory
-/// where no further next hop goes with the path, and errs only where memory runs out.
+/// the administrative distance 20 from another AS and 200 from the own one. What the router originates gives none. It takes no memory,
+/// and doesn't err, where no further next hop goes with the path; else it errs only where memory runs out.
+#[inline(always)]
 pub fn learned_route(alloc: Global, best: &Best) -> Result<Option<Route>, AllocError>
-    ensures { IfOk result (λ route. route ≡ spec.learned_route best.now) }
+    ensures value { IfOk result (λ route. route ≡ spec.learned_route best.now) }
+    ensures err { IfErr result (λ error. best.now.also ≢ []) }
 {
     match best.path.source {
         PathSource::External => route_by(alloc, best, Source::Ebgp, 20),

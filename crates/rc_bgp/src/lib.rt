@@ -5,14 +5,23 @@
 //! the sessions of a network that are up in a state as a list, and a router's candidates and best paths as functions of the
 //! network, the sessions and what all routers knew before, in their order. Rounds keep the sessions that are configured, which no state
 //! changes, and see in each state which are up.
+//!
+//! The crate goes one way: what a router says of itself and its neighbours (`speaker`, `own`, `statement`), the sessions that two such
+//! statements make (`pairing`) and those that are up in a state (`up`, by `reaching` and `resolver`); the paths that a router originates
+//! (`originating`, `redistributing`, `own_paths`), what it hears of what others knew (`known`, `hearing`), its candidates and the best of
+//! them (`deciding`) with as many further next hops as it may use (`maximum`, `further`), and the routes that these give (`learning`).
+//! From one round to the next it decides again only where something that it read has changed (`alike`, `changes`, `mending`,
+//! `renewing`).
 #![tactic(auto)]
 
 mod alike;
 mod changes;
 mod deciding;
+mod further;
 mod hearing;
 mod known;
 mod learning;
+mod maximum;
 mod mending;
 mod originating;
 mod own;

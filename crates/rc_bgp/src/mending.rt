@@ -9,7 +9,7 @@ use crate::Session;
 use crate::deciding::{best_among, push_some};
 use crate::resolver::Resolver;
 use rc_base::{Items, Prefix};
-use rc_config::Network;
+use rc_config::{MaximumPaths, Network};
 use rc_route::{Best, BgpPath, State};
 use std::alloc::{AllocError, Global};
 
@@ -47,6 +47,7 @@ pub(crate) fn mended(
     alloc: Global,
     net: &Network,
     state: &State,
+    most: MaximumPaths,
     resolver: &mut Resolver<'_>,
     own: &[Items<BgpPath>],
     sessions: &[Session],
@@ -56,7 +57,7 @@ pub(crate) fn mended(
     requires state { All IsRouterState state.now }
     requires own { All IsPathList own.now }
     requires known { IsBestList known.now }
-    ensures { IfOk result (λ paths. paths ≡ spec.mended (λ (b : BestModel). b.path.prefix) (best_among net.now state.now resolver.old own.now sessions.now) known.now prefixes.now) }
+    ensures { IfOk result (λ paths. paths ≡ spec.mended (λ (b : BestModel). b.path.prefix) (best_among net.now state.now most resolver.old own.now sessions.now) known.now prefixes.now) }
 {
     let room = known.len().saturating_add(prefixes.len());
     let mut paths = Items::with_room(alloc, room)?;
@@ -64,7 +65,7 @@ pub(crate) fn mended(
     for prefix in prefixes {
         append_copies(&mut paths, before(left, prefix))?;
         left = behind(left, prefix);
-        let best = best_among(alloc, net, state, resolver, own, sessions, prefix)?;
+        let best = best_among(alloc, net, state, most, resolver, own, sessions, prefix)?;
         push_some(&mut paths, best)?;
     }
     append_copies(&mut paths, left)?;

@@ -15,7 +15,7 @@ use rc_config::{
     BgpProcess, BgpRedistribution, IfAddr, Interface, Network, OspfKinds, OspfRedistribution,
     RouterText,
 };
-use rc_ospf_interfaces::{OspfInterface, ospf_interfaces};
+use rc_ospf_interfaces::{OspfInterface, add_router};
 use rc_route::{BgpPath, PathSource, Route, Source};
 use std::alloc::{AllocError, Global};
 
@@ -230,7 +230,8 @@ fn ospf_prefixes(
 ) -> Result<Items<Prefix>, AllocError>
     ensures { IfOk result (λ all. all ≡ spec.ospf_prefixes net.now router) }
 {
-    let interfaces = ospf_interfaces(alloc, net)?;
+    let mut interfaces = Items::new(alloc);
+    add_router(&mut interfaces, net, router)?;
     prefixes_among(alloc, net, router, interfaces.as_slice())
 }
 

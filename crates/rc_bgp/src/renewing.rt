@@ -14,6 +14,7 @@ ghost use Rattle.rc_bgp.specs.Known as known_spec;
 use crate::alike::reads_alike;
 use crate::deciding::{add_best_prefixes, best_paths};
 use crate::known::{paths_of, table_of};
+use crate::maximum::maximum_of;
 use crate::mending::mended;
 use crate::originating::{insert_all, listed};
 use crate::own_paths::own_paths;
@@ -173,6 +174,7 @@ fn mended_paths(
         alloc,
         net,
         previous,
+        maximum_of(net, router),
         &mut resolver,
         own.as_slice(),
         up.as_slice(),

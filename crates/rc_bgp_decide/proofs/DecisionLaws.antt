@@ -70,23 +70,23 @@ standings_decide paths =
 
 -- ---- where the best stands
 
-in_eliminate : {X : Type 0} (of : X → Standing) (bs : List Test) (xs : List X) (x : X) → In x (eliminate of bs xs) → In x xs
+pub in_eliminate : {X : Type 0} (of : X → Standing) (bs : List Test) (xs : List X) (x : X) → In x (eliminate of bs xs) → In x xs
 in_eliminate of [] xs x there = there
 in_eliminate of (b ∷ bs) xs x there =
     (in_filter (λ z. not (list_any (λ y. b (of y) (of z)) xs)) xs x (in_eliminate of bs (keep (λ x y. b (of x) (of y)) xs) x there)).0
 
-first_is_in : {X : Type 0} (xs : List X) (x : X) → slice_get xs 0 ≡ Some x → In x xs
+pub first_is_in : {X : Type 0} (xs : List X) (x : X) → slice_get xs 0 ≡ Some x → In x xs
 first_is_in [] x e = absurd (cc)
 first_is_in (y ∷ ys) x e = inl (cc)
 
 -- a member of an enumeration stands at its place
-record IsPlaced {X : Type 0} (n : ℕ) (xs : List X) (e : ℕ × X) : Type 0 where
-  offset : ℕ
-  place : e.0 ≡ n + offset
-  below : offset < length xs
-  found : slice_get xs offset ≡ Some e.1
+pub record IsPlaced {X : Type 0} (n : ℕ) (xs : List X) (e : ℕ × X) : Type 0 where
+  pub offset : ℕ
+  pub place : e.0 ≡ n + offset
+  pub below : offset < length xs
+  pub found : slice_get xs offset ≡ Some e.1
 
-member_is_placed : {X : Type 0} (n : ℕ) (xs : List X) (e : ℕ × X) → In e (enumerate_from n xs) → IsPlaced n xs e
+pub member_is_placed : {X : Type 0} (n : ℕ) (xs : List X) (e : ℕ × X) → In e (enumerate_from n xs) → IsPlaced n xs e
 member_is_placed n [] e there = absurd there
 member_is_placed n (x ∷ xs) e (inl same) = record {
   offset = 0;
@@ -104,7 +104,7 @@ module _ {X : Type 0} (of : X → Standing) (xs : List X) where
   abbrev placed_best : Option (ℕ × X)
   placed_best = first_left (λ (e : ℕ × X). of e.1) (enumerate_from 0 xs)
 
-  best_is_placed : (e : ℕ × X) → placed_best ≡ Some e → IsPlaced 0 xs e
+  pub best_is_placed : (e : ℕ × X) → placed_best ≡ Some e → IsPlaced 0 xs e
   best_is_placed e is =
       member_is_placed 0 xs e (in_eliminate (λ (e : ℕ × X). of e.1) eliminations (enumerate_from 0 xs) e (first_is_in (eliminate (λ (e : ℕ × X). of e.1) eliminations (enumerate_from 0 xs)) e is))
 
@@ -205,7 +205,7 @@ some_in : {X : Type 0} (x : X) (xs : List X) → In x xs → HasSome xs
 some_in x [] there = there
 some_in x (y ∷ ys) there = tt
 
-stays_in : {X : Type 0} (p : X → Bool) (xs : List X) (x : X) → In x xs → p x ≡ true → In x (filter p xs)
+pub stays_in : {X : Type 0} (p : X → Bool) (xs : List X) (x : X) → In x xs → p x ≡ true → In x (filter p xs)
 stays_in p [] x there passes = there
 stays_in {X} p (y ∷ ys) x there passes = by_test (p y) refl there (λ t. stays_in p ys x t passes)
   where

@@ -10,7 +10,7 @@ use rc_base::Origin;
 use rc_route::PathSource;
 
 /// Whether the router originates a path of this source.
-fn is_originated(source: PathSource) -> bool
+pub(crate) fn is_originated(source: PathSource) -> bool
     ensures { result ≡ is_originated source }
 {
     !matches!(source, PathSource::External | PathSource::Internal)
@@ -24,7 +24,7 @@ fn is_internal(source: PathSource) -> bool
 }
 
 /// The number of an origin, the lowest preferred (RFC 4271 s.9.1.2.2 b).
-fn origin_number(origin: Origin) -> u8
+pub(crate) fn origin_number(origin: Origin) -> u8
     ensures { result ≡ origin_number origin }
 {
     match origin {
@@ -35,7 +35,7 @@ fn origin_number(origin: Origin) -> u8
 }
 
 /// The place of a source among those that are equal otherwise.
-fn source_rank(source: PathSource) -> u8
+pub(crate) fn source_rank(source: PathSource) -> u8
     ensures { result ≡ path_source_rank source }
 {
     match source {

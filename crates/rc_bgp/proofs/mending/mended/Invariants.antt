@@ -7,8 +7,8 @@ use Rattle.rc_bgp.proofs.mending.mended.Given as goal
 
 abbrev pub invariant-loop-prefix : goal.invariant-loop-prefix
 invariant-loop-prefix l = record {
-  kept : l.paths ++ mended (λ (b : Best). b.path.prefix) (best_among l.net l.state l.fn.resolver l.own l.sessions) l.left (drop l.prefix-index l.prefixes)
-      ≡ mended (λ (b : Best). b.path.prefix) (best_among l.net l.state l.fn.resolver l.own l.sessions) l.known l.prefixes;
+  kept : l.paths ++ mended (λ (b : Best). b.path.prefix) (best_among l.net l.state l.most l.fn.resolver l.own l.sessions) l.left (drop l.prefix-index l.prefixes)
+      ≡ mended (λ (b : Best). b.path.prefix) (best_among l.net l.state l.most l.fn.resolver l.own l.sessions) l.known l.prefixes;
   up : IsBestList l.left;
   same : l.resolver ≡ l.fn.resolver;
 }

@@ -12,8 +12,8 @@ differing-requires-clause-new c =
     let changes = c.args.changes.now in
     let table = c.table_of-table.ensures.value in
     let these = c.as_slice-4.ensures ∙ c.in_ok-prefixes.ensures ∙ ap (suspects changes) (c.as_slice.ensures ∙ c.in_ok-up.ensures) in
-    let value = of_parts net c.args.sessions.now c.args.router changes c.args.previous.now c.new-resolver.result c.as_slice-2.result.now c.as_slice-3.result.now c.paths_of-known.result.now c.in_ok-paths.paths c.as_slice-4.result.now
-    (c.new-resolver.ensures ∙ table) (c.as_slice-2.ensures ∙ c.in_ok-own.ensures.value ∙ ap (λ t. own_paths net t c.args.router) table) (c.as_slice-3.ensures ∙ c.in_ok-up.ensures) c.paths_of-known.ensures.value these c.in_ok-paths.ensures in
+    let value = of_parts net c.args.sessions.now c.args.router changes c.args.previous.now c.maximum_of.result c.new-resolver.result c.as_slice-2.result.now c.as_slice-3.result.now c.paths_of-known.result.now c.in_ok-paths.paths c.as_slice-4.result.now
+    c.maximum_of.ensures (c.new-resolver.ensures ∙ table) (c.as_slice-2.ensures ∙ c.in_ok-own.ensures.value ∙ ap (λ t. own_paths net t c.args.router) table) (c.as_slice-3.ensures ∙ c.in_ok-up.ensures) c.paths_of-known.ensures.value these c.in_ok-paths.ensures in
     subst IsBestList (sym c.as_slice-5.ensures) (mended_in_order net c.args.sessions.now c.args.router changes c.args.previous.now (subst IsBestList c.paths_of-known.ensures.value c.paths_of-known.ensures.in_order) c.in_ok-paths.paths value)
 
 pub returns : goal.returns
@@ -26,7 +26,7 @@ returns c =
     let told = subst (λ paths. AreToldAmong c.as_slice-6.result.now c.in_ok-changed.changed c.paths_of-known.result.now paths) c.as_slice-5.ensures c.in_ok-changed.ensures in
     let told_of = subst (λ known. AreToldAmong c.as_slice-6.result.now c.in_ok-changed.changed known c.in_ok-paths.paths) c.paths_of-known.ensures.value told in
     record {
-      value = of_parts net c.args.sessions.now c.args.router changes c.args.previous.now c.new-resolver.result c.as_slice-2.result.now c.as_slice-3.result.now c.paths_of-known.result.now c.in_ok-paths.paths c.as_slice-4.result.now
-          (c.new-resolver.ensures ∙ table) (c.as_slice-2.ensures ∙ c.in_ok-own.ensures.value ∙ ap (λ t. own_paths net t c.args.router) table) (c.as_slice-3.ensures ∙ c.in_ok-up.ensures) c.paths_of-known.ensures.value these c.in_ok-paths.ensures;
+      value = of_parts net c.args.sessions.now c.args.router changes c.args.previous.now c.maximum_of.result c.new-resolver.result c.as_slice-2.result.now c.as_slice-3.result.now c.paths_of-known.result.now c.in_ok-paths.paths c.as_slice-4.result.now
+          c.maximum_of.ensures (c.new-resolver.ensures ∙ table) (c.as_slice-2.ensures ∙ c.in_ok-own.ensures.value ∙ ap (λ t. own_paths net t c.args.router) table) (c.as_slice-3.ensures ∙ c.in_ok-up.ensures) c.paths_of-known.ensures.value these c.in_ok-paths.ensures;
       told = subst (λ ps. AreToldAmong ps c.in_ok-changed.changed (paths_of c.args.previous.now c.args.router) c.in_ok-paths.paths) those told_of;
     }
