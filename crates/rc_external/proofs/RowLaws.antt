@@ -1,5 +1,5 @@
 -- The rows that are made by putting what is sent under its prefix are the prefixes that are sent, each with what is sent for it.
-use Rattle.std.proofs.Common.{refl, ◌≡◌, ap, sym, ◌∙◌, List, [], ◌∷◌, ◌++◌, map, Some, append_assoc}
+use Rattle.std.proofs.Common.{refl, ◌≡◌, ap, ◌∙◌, List, [], ◌∷◌, ◌++◌, map, Some, append_assoc}
 use Rattle.std.specs.List.{fold, filter_map, cons_option}
 use Rattle.std.specs.Option.{option_map}
 use Rattle.rc_base.specs.Lists.{in_order}

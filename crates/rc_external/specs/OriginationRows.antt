@@ -7,6 +7,7 @@ use Rattle.rc_config.specs.declared.access_list.Action.{Action}
 use Rattle.rc_config.specs.declared.access_list.Action.TheVariants.{Permit, Deny}
 use Rattle.rc_config.specs.declared.command.Command.{Command}
 use Rattle.rc_config.specs.declared.command.Command.TheVariants as command
+use Rattle.rc_config.specs.declared.lists.ListLine.TheVariants as list_line
 use Rattle.rc_config.specs.declared.map_line.MapLine.TheVariants.{Match, Set}
 use Rattle.rc_config.specs.declared.map_line.MatchKind.TheVariants.{PrefixList, CommunityList}
 use Rattle.rc_config.specs.declared.map_line.SetLine.{SetLine}
@@ -156,7 +157,7 @@ pub denied : through (entry Deny []) ≡ []
 denied = refl
 
 abbrev listed : Cidr → List Command
-listed p = command.PrefixLine (codes "P") (record { sequence = 5; action = Permit; prefix = p; ge = None; le = None }) ∷ command.MapLine (codes "M") 10 (Match PrefixList (codes "P" ∷ []) 9) ∷ []
+listed p = command.ListLine (codes "P") (list_line.PrefixLine (record { sequence = 5; action = Permit; prefix = p; ge = None; le = None })) ∷ command.MapLine (codes "M") 10 (Match PrefixList (codes "P" ∷ []) 9) ∷ []
 
 pub matched : through (entry Permit (listed office)) ≡ sent office 30 Type2 ∷ []
 matched = refl
@@ -213,7 +214,7 @@ path p communities = record {
 
 abbrev tagged : Action → List Command
 tagged action =
-    command.CommunityLine (codes "C") (record { action = Permit; communities = 7 ∷ [] }) ∷ command.MapOpened (codes "M") 10 action
+    command.ListLine (codes "C") (list_line.CommunityLine (record { action = Permit; communities = 7 ∷ [] })) ∷ command.MapOpened (codes "M") 10 action
     ∷ command.MapLine (codes "M") 10 (Match CommunityList (codes "C" ∷ []) 9) ∷ setting (set.Metric 5) ∷ []
 
 abbrev through_map : Redistribution → Redistribution

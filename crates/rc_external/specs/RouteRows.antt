@@ -12,7 +12,6 @@ use Rattle.rc_route.specs.declared.route.Source.TheVariants.{OspfE1, OspfE2}
 use Rattle.rc_external.specs.AsExternal.{AsExternal}
 use Rattle.rc_external.specs.OriginationRows.{prefix}
 use Rattle.rc_external.specs.Routes.{routes_over}
-use Rattle.rc_external.specs.declared.as_external.ExternalRow.{ExternalRow}
 
 abbrev via : ℕ → Hop
 via gateway = Via gateway (Some (record { router = 0; index = 1 }))

@@ -1,5 +1,5 @@
 -- The routes of a router to prefixes outside of the AS (RFC 2328 s.16.4).
-use Rattle.std.specs.Prelude.{ℕ, List, [], Option, slice_get, unwrap_or}
+use Rattle.std.specs.Prelude.{ℕ, List, Option}
 use Rattle.std.specs.List.{filter_map}
 use Rattle.std.specs.Option.{option_map}
 use Rattle.rc_base.specs.Lists.{in_order}
@@ -7,6 +7,7 @@ use Rattle.rc_base.specs.Prefix.{Cidr}
 use Rattle.rc_config.specs.declared.sets.MetricType.{MetricType}
 use Rattle.rc_config.specs.declared.sets.MetricType.TheVariants.{Type1, Type2}
 use Rattle.rc_ospf.specs.BoundaryPaths.{BoundaryPath}
+use Rattle.rc_ospf.specs.Internal.{boundaries_of}
 use Rattle.rc_ospf.specs.declared.model.Internal.{Internal}
 use Rattle.rc_route.specs.Hops.{hop_cmp}
 use Rattle.rc_route.specs.Ways.{Way}
@@ -30,10 +31,6 @@ route_to paths row = option_map (route_over row.prefix) (best_external_way paths
 -- a route for each prefix of some rows to which a way leads
 abbrev pub routes_over : List BoundaryPath → List ExternalRow → List Route
 routes_over paths rows = filter_map (route_to paths) rows
-
--- the paths of a router to the others that are AS boundary routers
-abbrev pub boundaries_of : Internal → ℕ → List BoundaryPath
-boundaries_of internal r = unwrap_or (slice_get internal.boundaries r) []
 
 -- the external routes of a router: of what other routers send, its own prefixes and internal ones included
 abbrev pub external_routes : Internal → List ExternalRow → ℕ → List Route

@@ -10,7 +10,7 @@ use crate::way::{ExternalWay, best_external_way};
 use crate::{ExternalRow, Externals};
 use rc_base::{Items, Prefix, RouterId};
 use rc_config::MetricType;
-use rc_ospf::{Boundary, Internal, hops_in_order};
+use rc_ospf::{Internal, hops_in_order};
 use rc_route::{Route, Source, Table};
 use std::alloc::{AllocError, Global};
 
@@ -69,17 +69,6 @@ fn routes_over(
     Ok(routes)
 }
 
-/// The paths of a router to the others that are AS boundary routers, of which it has none past the end.
-fn boundaries_of(internal: &Internal, router: RouterId) -> &[Boundary]
-    ensures { result.now ≡ spec.boundaries_of internal.now router }
-{
-    let found = internal.boundaries.as_slice().get(router.index());
-    match found {
-        Some(paths) => paths.as_slice(),
-        None => &[],
-    }
-}
-
 /// The external routes of a router: of what other routers send, over its paths to them, in order of prefix. Any of type 1 is
 /// preferred to any of type 2; of type 1 the distance and the metric together count, of type 2 the metric, and then the distance.
 /// Its own prefixes and those that it has inside the AS are among them. It errs only where memory runs out.
@@ -93,6 +82,6 @@ pub fn external(
     ensures value { IfOk result (λ routes. routes ≡ spec.external_routes internal.now externals.now router) }
     ensures in_order { IfOk result IsTable }
 {
-    let paths = BoundaryIndex::of(alloc, boundaries_of(internal, router))?;
+    let paths = BoundaryIndex::of(alloc, internal.boundaries_of(router))?;
     routes_over(alloc, &paths, externals.as_slice())
 }

@@ -1,41 +1,32 @@
 -- What is made of each of some things, list by list.
-use Rattle.std.proofs.Common.{refl, ◌≡◌, ap, sym, ◌∙◌, subst, ℕ, ◌+◌, ◌*◌, ◌/◌, ◌<◌, ◌≤◌, List, [], ◌∷◌, ◌++◌, length, get_or, map, take, drop, All, arith}
-use Rattle.std.specs.Prelude.{Result, Ok, Err, IfOk}
+use Rattle.std.proofs.Common.{refl, ◌≡◌, ap, sym, ◌∙◌, subst, ℕ, suc, ◌+◌, ◌<◌, List, [], ◌∷◌, length, map, All, arith}
+use Rattle.std.specs.Prelude.{Result, Ok, Err, IfOk, slice_index_or}
 use Rattle.std.specs.List.{range_with_len}
 use Rattle.std.specs.declared.alloc.AllocError.{AllocError}
-use Rattle.std.proofs.Math.Nat.{mul-le-mul_left, div-mul-le_self}
-use Rattle.std.proofs.lemmas.List.{take-append-drop, take_more}
 use Rattle.std.proofs.lemmas.List.Elements.{All-cons}
 use Rattle.std.proofs.lemmas.List.FromFn.{length-range_with_len, get_or-range_with_len}
+use Rattle.rc_shares.specs.Stretches.{IsStretch}
+use Rattle.rc_shares.proofs.StretchLaws.{stretch_up}
 use Rattle.rc_ospf.specs.Shares.{AreMade, IsGiven}
 
--- not more than all of them
-pub share_in : (n few workers : ℕ) → few ≤ workers → n / workers * few ≤ n
-share_in n few workers le =
-    let each : n / workers * few ≤ n / workers * workers = mul-le-mul_left (n / workers) le in
-    let all : n / workers * workers ≤ n = div-mul-le_self n workers in omega (arith, each, all)
+-- what is made of the things from one number on, by their numbers, is what is made of each of them
+made_of : {X Y : Type 0} (made : X → Y → Type 0) (by_number : ℕ → Y → Type 0) (xs : List X) (a : ℕ) (ys : List Y)
+    → ((i : ℕ) (y : Y) → i < length xs → by_number (a + i) y → (d : X) → made (slice_index_or xs i d) y) → IsStretch by_number a (a + length xs) ys → AreMade made xs ys
+unfolding IsStretch
+made_of made by_number [] a [] each is = tt
+made_of made by_number [] a (y ∷ ys) each is = (let up = stretch_up by_number (a + 1) (a + 0) ys is.1 in absurd (let none : ⊥ = omega (arith, up) in none))
+made_of made by_number (x ∷ xs) a [] each is = absurd (let none : ⊥ = omega (arith, is) in none)
+made_of made by_number (x ∷ xs) a (y ∷ ys) each is =
+    let first : by_number (a + 0) y = subst (λ k. by_number k y) (let e : a ≡ a + 0 = omega arith in e) is.0 in
+    let rest : IsStretch by_number (a + 1) (a + 1 + length xs) ys = subst (λ k. IsStretch by_number (a + 1) k ys) (let e : a + length (x ∷ xs) ≡ a + 1 + length xs = omega arith in e) is.1 in
+    (each 0 y (omega arith) first x, made_of made by_number xs (a + 1) ys (λ i z less there. each (suc i) z (omega (arith, less)) (subst (λ k. by_number k z) (let e : a + 1 + i ≡ a + suc i = omega arith in e) there)) rest)
 
-module _ {X Y : Type 0} (made : X → Y → Type 0) where
-  pub append : (xs xs' : List X) (ys ys' : List Y) → AreMade made xs ys → AreMade made xs' ys' → AreMade made (xs ++ xs') (ys ++ ys')
-  append [] xs' [] ys' l r = r
-  append [] xs' (y ∷ ys) ys' l r = absurd l
-  append (x ∷ xs) xs' [] ys' l r = absurd l
-  append (x ∷ xs) xs' (y ∷ ys) ys' l r = (l.0, append xs xs' ys ys' l.1 r)
-
-  -- of two parts, one behind the other
-  pub put_together : (xs front back : List X) (k : ℕ) (left right all : List Y) → front ≡ take k xs → back ≡ drop k xs → AreMade made front left → AreMade made back right → all ≡ left ++ right → AreMade made xs all
-  put_together xs front back k left right all f b l r is =
-      subst (AreMade made xs) (sym is) (subst (λ zs. AreMade made zs (left ++ right)) (take-append-drop k xs)
-      (append (take k xs) (drop k xs) left right (subst (λ zs. AreMade made zs left) f l) (subst (λ zs. AreMade made zs right) b r)))
-
-  pub nothing_made : (xs : List X) (ys : List Y) → ys ≡ [] → AreMade made (take 0 xs) ys
-  nothing_made xs ys is = subst (AreMade made (take 0 xs)) (sym is) tt
-
-  -- one more
-  pub one_more : (xs : List X) (i : ℕ) (x : X) (old new : List Y) (y : Y) → i < length xs → get_or xs i x ≡ x → AreMade made (take i xs) old → made x y → new ≡ old ++ y ∷ [] → AreMade made (take (i + 1) xs) new
-  one_more xs i x old new y lt at all last is =
-      subst (AreMade made (take (i + 1) xs)) (sym is) (subst (λ zs. AreMade made zs (old ++ y ∷ []))
-      (sym (take_more xs i x lt ∙ ap (λ z. take i xs ++ z ∷ []) at)) (append (take i xs) (x ∷ []) old (y ∷ []) all (last, tt)))
+-- from the first on
+pub made_of_all : {X Y : Type 0} (made : X → Y → Type 0) (xs : List X) (ys : List Y) → IsStretch (λ i y. (d : X) → made (slice_index_or xs i d) y) 0 (length xs) ys → AreMade made xs ys
+made_of_all {X} made xs ys is =
+    made_of made (λ i y. (d : X) → made (slice_index_or xs i d) y) xs 0 ys
+    (λ i y less there. subst (λ k. (d : X) → made (slice_index_or xs k d) y) (let e : 0 + i ≡ i = omega arith in e) there)
+    (subst (λ n. IsStretch (λ i y. (d : X) → made (slice_index_or xs i d) y) 0 n ys) (let e : length xs ≡ 0 + length xs = omega arith in e) is)
 
 module _ {X Y : Type 0} (give : X → Y) (kind : Y → Type 0) where
   pub is_given : (x : X) (r : Result Y AllocError) → IfOk r (λ y. y ≡ give x) → IfOk r kind → IfOk r (IsGiven give kind x)

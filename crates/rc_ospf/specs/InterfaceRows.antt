@@ -6,7 +6,8 @@ use Rattle.rc_base.specs.Prefix.{Cidr}
 use Rattle.rc_config.specs.IfType.{type_of}
 use Rattle.rc_config.specs.Update.{after, empty}
 use Rattle.rc_config.specs.declared.command.Command.{Command}
-use Rattle.rc_config.specs.declared.command.Command.TheVariants.{Address, Shutdown, Bandwidth, InterfaceOspf, OspfOpened, OspfLine}
+use Rattle.rc_config.specs.declared.command.Command.TheVariants.{OspfOpened, OspfLine, InterfaceLine}
+use Rattle.rc_config.specs.declared.interface.InterfaceLine.TheVariants as interface_line
 use Rattle.rc_config.specs.declared.network.Network.{Network}
 use Rattle.rc_config.specs.declared.ospf.NetworkType.{NetworkType as Kind}
 use Rattle.rc_config.specs.declared.ospf.NetworkType.TheVariants.{Broadcast, PointToPoint}
@@ -39,10 +40,10 @@ abbrev pub ten : ℕ → ℕ
 ten n = 10 * 16777216 + n
 
 abbrev pub primary : List ℕ → ℕ → ℕ → Command
-primary name n len = Address name (record { addr = ten n; len = len }) false
+primary name n len = InterfaceLine name (interface_line.Address (record { addr = ten n; len = len }) false)
 
 abbrev pub secondary : List ℕ → ℕ → ℕ → Command
-secondary name n len = Address name (record { addr = ten n; len = len }) true
+secondary name n len = InterfaceLine name (interface_line.Address (record { addr = ten n; len = len }) true)
 
 -- `network 10.0.0.0+n W area N`
 abbrev pub network : ℕ → ℕ → ℕ → Command
@@ -95,11 +96,11 @@ unfolding ospf_interfaces type_of
 no_area = refl
 
 -- an interface that is shut is none, nor is one whose parent is shut
-pub shut : areas (primary eth 1 24 ∷ Shutdown eth true ∷ everywhere 0) ≡ []
+pub shut : areas (primary eth 1 24 ∷ InterfaceLine eth (interface_line.Shutdown true) ∷ everywhere 0) ≡ []
 unfolding ospf_interfaces type_of
 shut = refl
 
-pub parent_shut : areas (Shutdown eth true ∷ primary sub 1 24 ∷ everywhere 0) ≡ []
+pub parent_shut : areas (InterfaceLine eth (interface_line.Shutdown true) ∷ primary sub 1 24 ∷ everywhere 0) ≡ []
 unfolding ospf_interfaces type_of
 parent_shut = refl
 
@@ -128,17 +129,17 @@ unfolding ospf_interfaces type_of
 bits_under_wildcard = refl
 
 -- `ip ospf P area N` wins over the lines, where it names the process
-pub setting_wins : areas (primary eth 1 24 ∷ InterfaceOspf eth (setting.Area (record { process = 1; area = 9 })) ∷ everywhere 0) ≡ 9 ∷ []
+pub setting_wins : areas (primary eth 1 24 ∷ InterfaceLine eth (interface_line.Ospf (setting.Area (record { process = 1; area = 9 }))) ∷ everywhere 0) ≡ 9 ∷ []
 unfolding ospf_interfaces type_of
 setting_wins = refl
 
-pub other_process : areas (primary eth 1 24 ∷ InterfaceOspf eth (setting.Area (record { process = 2; area = 9 })) ∷ everywhere 0) ≡ 0 ∷ []
+pub other_process : areas (primary eth 1 24 ∷ InterfaceLine eth (interface_line.Ospf (setting.Area (record { process = 2; area = 9 }))) ∷ everywhere 0) ≡ 0 ∷ []
 unfolding ospf_interfaces type_of
 other_process = refl
 
 -- and a line of another process neither sets nor erases that of the own one, whichever stands first
 abbrev with_areas : List (ℕ × ℕ) → List Command
-with_areas lines = map (λ (l : ℕ × ℕ). InterfaceOspf eth (setting.Area (record { process = l.0; area = l.1 }))) lines
+with_areas lines = map (λ (l : ℕ × ℕ). InterfaceLine eth (interface_line.Ospf (setting.Area (record { process = l.0; area = l.1 })))) lines
 
 pub other_process_later : areas (primary eth 1 24 ∷ with_areas ((1, 9) ∷ (2, 5) ∷ []) ++ everywhere 0) ≡ 9 ∷ []
 unfolding ospf_interfaces type_of
@@ -169,7 +170,7 @@ pub rounded_down : costs (primary serial 1 24 ∷ everywhere 0) ≡ 64 ∷ []
 unfolding ospf_interfaces type_of
 rounded_down = refl
 
-pub configured_bandwidth : costs (primary eth 1 24 ∷ Bandwidth eth 64 ∷ everywhere 0) ≡ 1562 ∷ []
+pub configured_bandwidth : costs (primary eth 1 24 ∷ InterfaceLine eth (interface_line.Bandwidth 64) ∷ everywhere 0) ≡ 1562 ∷ []
 unfolding ospf_interfaces type_of
 configured_bandwidth = refl
 
@@ -177,7 +178,7 @@ pub at_least_one : costs (primary loopback 1 24 ∷ everywhere 0) ≡ 1 ∷ []
 unfolding ospf_interfaces type_of
 at_least_one = refl
 
-pub at_most : costs (primary eth 1 24 ∷ Bandwidth eth 1 ∷ everywhere 0) ≡ 65535 ∷ []
+pub at_most : costs (primary eth 1 24 ∷ InterfaceLine eth (interface_line.Bandwidth 1) ∷ everywhere 0) ≡ 65535 ∷ []
 unfolding ospf_interfaces type_of
 at_most = refl
 
@@ -189,7 +190,7 @@ pub greatest_reference : costs (primary eth 1 24 ∷ everywhere 0 ++ OspfLine (l
 unfolding ospf_interfaces type_of
 greatest_reference = refl
 
-pub configured_cost : costs (primary eth 1 24 ∷ InterfaceOspf eth (setting.Cost 17) ∷ everywhere 0) ≡ 17 ∷ []
+pub configured_cost : costs (primary eth 1 24 ∷ InterfaceLine eth (interface_line.Ospf (setting.Cost 17)) ∷ everywhere 0) ≡ 17 ∷ []
 unfolding ospf_interfaces type_of
 configured_cost = refl
 
@@ -216,7 +217,7 @@ pub by_type : networks (primary eth 1 24 ∷ primary serial 257 24 ∷ primary l
 unfolding ospf_interfaces type_of
 by_type = refl
 
-pub configured_network : networks (primary serial 1 24 ∷ InterfaceOspf serial (setting.NetworkType Broadcast) ∷ everywhere 0) ≡ Broadcast ∷ []
+pub configured_network : networks (primary serial 1 24 ∷ InterfaceLine serial (interface_line.Ospf (setting.NetworkType Broadcast)) ∷ everywhere 0) ≡ Broadcast ∷ []
 unfolding ospf_interfaces type_of
 configured_network = refl
 
@@ -224,11 +225,11 @@ pub dead_by_default : dead (primary eth 1 24 ∷ everywhere 0) ≡ 40 ∷ []
 unfolding ospf_interfaces type_of
 dead_by_default = refl
 
-pub dead_by_hello : dead (primary eth 1 24 ∷ InterfaceOspf eth (setting.HelloInterval 5) ∷ everywhere 0) ≡ 20 ∷ []
+pub dead_by_hello : dead (primary eth 1 24 ∷ InterfaceLine eth (interface_line.Ospf (setting.HelloInterval 5)) ∷ everywhere 0) ≡ 20 ∷ []
 unfolding ospf_interfaces type_of
 dead_by_hello = refl
 
-pub dead_given : dead (primary eth 1 24 ∷ InterfaceOspf eth (setting.DeadInterval 7) ∷ InterfaceOspf eth (setting.HelloInterval 5) ∷ everywhere 0) ≡ 7 ∷ []
+pub dead_given : dead (primary eth 1 24 ∷ InterfaceLine eth (interface_line.Ospf (setting.DeadInterval 7)) ∷ InterfaceLine eth (interface_line.Ospf (setting.HelloInterval 5)) ∷ everywhere 0) ≡ 7 ∷ []
 unfolding ospf_interfaces type_of
 dead_given = refl
 
@@ -244,7 +245,7 @@ pub loopback_hosts : offered (primary loopback 9 24 ∷ everywhere 0) ≡ record
 unfolding ospf_interfaces type_of
 loopback_hosts = refl
 
-pub loopback_whole : offered (primary loopback 9 24 ∷ InterfaceOspf loopback (setting.NetworkType PointToPoint) ∷ everywhere 0) ≡ record { network = ten 0; len = 24 } ∷ []
+pub loopback_whole : offered (primary loopback 9 24 ∷ InterfaceLine loopback (interface_line.Ospf (setting.NetworkType PointToPoint)) ∷ everywhere 0) ≡ record { network = ten 0; len = 24 } ∷ []
 unfolding ospf_interfaces type_of
 loopback_whole = refl
 
@@ -268,28 +269,28 @@ abbrev second : List Command → List Command
 second more = primary eth 2 24 ∷ more ++ everywhere 0
 
 -- a step costs what the interface costs by which it leaves
-pub both_ways : steps first (second (InterfaceOspf eth (setting.Cost 3) ∷ [])) ≡ (0 ∷ 1 ∷ 10 ∷ ten 2 ∷ []) ∷ (1 ∷ 0 ∷ 3 ∷ ten 1 ∷ []) ∷ []
+pub both_ways : steps first (second (InterfaceLine eth (interface_line.Ospf (setting.Cost 3)) ∷ [])) ≡ (0 ∷ 1 ∷ 10 ∷ ten 2 ∷ []) ∷ (1 ∷ 0 ∷ 3 ∷ ten 1 ∷ []) ∷ []
 unfolding ospf_interfaces adjacencies links_of type_of
 both_ways = refl
 
 -- one side's setting is enough to have none
-pub other_hello : steps first (second (InterfaceOspf eth (setting.HelloInterval 5) ∷ InterfaceOspf eth (setting.DeadInterval 40) ∷ [])) ≡ []
+pub other_hello : steps first (second (InterfaceLine eth (interface_line.Ospf (setting.HelloInterval 5)) ∷ InterfaceLine eth (interface_line.Ospf (setting.DeadInterval 40)) ∷ [])) ≡ []
 unfolding ospf_interfaces adjacencies links_of type_of
 other_hello = refl
 
-pub other_dead : steps first (second (InterfaceOspf eth (setting.DeadInterval 41) ∷ [])) ≡ []
+pub other_dead : steps first (second (InterfaceLine eth (interface_line.Ospf (setting.DeadInterval 41)) ∷ [])) ≡ []
 unfolding ospf_interfaces adjacencies links_of type_of
 other_dead = refl
 
-pub same_dead : steps first (second (InterfaceOspf eth (setting.DeadInterval 40) ∷ [])) ≡ (0 ∷ 1 ∷ 10 ∷ ten 2 ∷ []) ∷ (1 ∷ 0 ∷ 10 ∷ ten 1 ∷ []) ∷ []
+pub same_dead : steps first (second (InterfaceLine eth (interface_line.Ospf (setting.DeadInterval 40)) ∷ [])) ≡ (0 ∷ 1 ∷ 10 ∷ ten 2 ∷ []) ∷ (1 ∷ 0 ∷ 10 ∷ ten 1 ∷ []) ∷ []
 unfolding ospf_interfaces adjacencies links_of type_of
 same_dead = refl
 
-pub other_network : steps first (second (InterfaceOspf eth (setting.NetworkType PointToPoint) ∷ [])) ≡ []
+pub other_network : steps first (second (InterfaceLine eth (interface_line.Ospf (setting.NetworkType PointToPoint)) ∷ [])) ≡ []
 unfolding ospf_interfaces adjacencies links_of type_of
 other_network = refl
 
-pub other_area : steps first (second (InterfaceOspf eth (setting.Area (record { process = 1; area = 1 })) ∷ [])) ≡ []
+pub other_area : steps first (second (InterfaceLine eth (interface_line.Ospf (setting.Area (record { process = 1; area = 1 }))) ∷ [])) ≡ []
 unfolding ospf_interfaces adjacencies links_of type_of
 other_area = refl
 
@@ -354,7 +355,7 @@ pub loopback_side : steps first (primary loopback 2 24 ∷ everywhere 0) ≡ []
 unfolding ospf_interfaces adjacencies links_of type_of
 loopback_side = refl
 
-pub shut_side : steps first (second (Shutdown eth true ∷ [])) ≡ []
+pub shut_side : steps first (second (InterfaceLine eth (interface_line.Shutdown true) ∷ [])) ≡ []
 unfolding ospf_interfaces adjacencies links_of type_of
 shut_side = refl
 
@@ -364,8 +365,8 @@ shut_side = refl
 abbrev both : List OspfInterface
 both =
     ospf_interfaces (two
-    (primary serial 257 30 ∷ InterfaceOspf serial (setting.Cost 7) ∷ primary eth 513 24 ∷ primary loopback 2305 24 ∷ OspfOpened 1 ∷ network 0 16777215 3 ∷ [])
-    (primary eth 514 24 ∷ InterfaceOspf eth (setting.HelloInterval 5) ∷ primary serial 258 30 ∷ OspfOpened 1 ∷ network 0 16777215 3 ∷ []))
+    (primary serial 257 30 ∷ InterfaceLine serial (interface_line.Ospf (setting.Cost 7)) ∷ primary eth 513 24 ∷ primary loopback 2305 24 ∷ OspfOpened 1 ∷ network 0 16777215 3 ∷ [])
+    (primary eth 514 24 ∷ InterfaceLine eth (interface_line.Ospf (setting.HelloInterval 5)) ∷ primary serial 258 30 ∷ OspfOpened 1 ∷ network 0 16777215 3 ∷ []))
 
 -- router, index, area, cost and dead interval
 pub values_of_both : map (λ (i : OspfInterface). i.id.router ∷ i.id.index ∷ i.area ∷ i.cost ∷ i.dead ∷ []) both ≡ (0 ∷ 0 ∷ 3 ∷ 7 ∷ 40 ∷ []) ∷ (0 ∷ 1 ∷ 3 ∷ 10 ∷ 40 ∷ []) ∷ (0 ∷ 2 ∷ 3 ∷ 1 ∷ 40 ∷ []) ∷ (1 ∷ 0 ∷ 3 ∷ 10 ∷ 20 ∷ []) ∷ (1 ∷ 1 ∷ 3 ∷ 64 ∷ 40 ∷ []) ∷ []

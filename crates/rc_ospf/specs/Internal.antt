@@ -1,6 +1,7 @@
 -- What OSPF gives without a state: the routes of each router inside and between areas, and its paths to AS boundary routers.
-use Rattle.std.specs.Prelude.{◌≡◌, List, All, map, length}
-use Rattle.std.specs.List.{flat_map}
+use Rattle.std.specs.Prelude.{◌≡◌, ℕ, Bool, List, [], All, map, length, slice_get, unwrap_or}
+use Rattle.std.specs.List.{flat_map, list_any}
+use Rattle.rc_base.specs.Prefix.{Cidr, same_prefix}
 use Rattle.rc_config.specs.Members.{router_ids}
 use Rattle.rc_config.specs.declared.network.Network.{Network}
 use Rattle.rc_topology.specs.Topology.{Topology}
@@ -8,12 +9,13 @@ use Rattle.rc_ospf.specs.Adjacency.{adjacencies}
 use Rattle.rc_ospf.specs.Adverts.{adverts_of}
 use Rattle.rc_ospf.specs.Areas.{OspfRouter, AreOspfRouters}
 use Rattle.rc_ospf.specs.Boundaries.{boundary_paths}
-use Rattle.rc_ospf.specs.BoundaryPaths.{IsNear}
+use Rattle.rc_ospf.specs.BoundaryPaths.{BoundaryPath, IsNear}
 use Rattle.rc_ospf_interfaces.specs.Interfaces.{ospf_interfaces}
 use Rattle.rc_ospf.specs.Routes.{IsShortRoute, internal_routes, own_prefixes}
 use Rattle.rc_ospf.specs.declared.adjacency.Step.{Step}
 use Rattle.rc_ospf.specs.declared.model.Internal.{Internal}
 use Rattle.rc_ospf.specs.declared.offer.Advert.{Advert}
+use Rattle.rc_route.specs.declared.route.Route.{Route}
 
 -- the steps between the adjacent routers of a network
 abbrev pub steps_of : Network → Topology → List Step
@@ -41,3 +43,19 @@ pub record HasSmallSums (i : Internal) : Type 0 where
 -- a network with its links has one answer
 abbrev pub HasOneInternal : Type 0
 HasOneInternal = (net : Network) (these those : Internal) → these.links ≡ those.links → IsInternal net these → IsInternal net those → these ≡ those
+
+-- a router's routes inside and between areas, of which there are none past the end
+abbrev pub routes_of : Internal → ℕ → List Route
+routes_of i r = unwrap_or (slice_get i.routes r) []
+
+-- its paths to the other routers that are AS boundary routers
+abbrev pub boundaries_of : Internal → ℕ → List BoundaryPath
+boundaries_of i r = unwrap_or (slice_get i.boundaries r) []
+
+-- the prefixes that it advertises itself
+abbrev pub own_of : Internal → ℕ → List Cidr
+own_of i r = unwrap_or (slice_get i.own r) []
+
+-- whether a prefix is one of those
+abbrev pub advertises : Internal → ℕ → Cidr → Bool
+advertises i r p = list_any (same_prefix p) (own_of i r)

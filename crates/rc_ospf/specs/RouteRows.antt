@@ -3,7 +3,8 @@ use Rattle.std.specs.Prelude.{◌≡◌, true, ℕ, List, [], ◌∷◌, ◌++�
 use Rattle.rc_base.specs.Prefix.{Cidr}
 use Rattle.rc_config.specs.IfType.{type_of}
 use Rattle.rc_config.specs.declared.command.Command.{Command}
-use Rattle.rc_config.specs.declared.command.Command.TheVariants.{Shutdown, InterfaceOspf}
+use Rattle.rc_config.specs.declared.command.Command.TheVariants.{InterfaceLine}
+use Rattle.rc_config.specs.declared.interface.InterfaceLine.TheVariants as interface_line
 use Rattle.rc_config.specs.declared.network.Network.{Network}
 use Rattle.rc_config.specs.declared.ospf.OspfSetting.TheVariants as setting
 use Rattle.rc_route.specs.declared.route.Hop.{Hop}
@@ -27,10 +28,10 @@ abbrev pub loopback : List ℕ
 loopback = codes "Loopback0"
 
 abbrev pub cost : List ℕ → ℕ → Command
-cost name n = InterfaceOspf name (setting.Cost n)
+cost name n = InterfaceLine name (interface_line.Ospf (setting.Cost n))
 
 abbrev pub area : List ℕ → ℕ → Command
-area name n = InterfaceOspf name (setting.Area (record { process = 1; area = n }))
+area name n = InterfaceLine name (interface_line.Ospf (setting.Area (record { process = 1; area = n })))
 
 abbrev pub prefix : ℕ → ℕ → Cidr
 prefix n len = record { network = ten n; len = len }
@@ -67,16 +68,16 @@ unfolding ospf_interfaces adjacencies links_of type_of offered_rows internal_rou
 cost_of_leaving = refl
 
 -- a line without adjacency carries nothing
-pub one_line_left : routes_within 2 (two left (right (InterfaceOspf first (setting.HelloInterval 5) ∷ []))) 0 ≡ route (prefix 2313 32) 65 (via 0 258 1 ∷ []) ∷ []
+pub one_line_left : routes_within 2 (two left (right (InterfaceLine first (interface_line.Ospf (setting.HelloInterval 5)) ∷ []))) 0 ≡ route (prefix 2313 32) 65 (via 0 258 1 ∷ []) ∷ []
 unfolding ospf_interfaces adjacencies links_of type_of offered_rows internal_routes
 one_line_left = refl
 
-pub one_line_shut : routes_within 2 (two left (right (Shutdown second true ∷ []))) 0 ≡ route (prefix 2313 32) 65 (via 0 2 0 ∷ []) ∷ []
+pub one_line_shut : routes_within 2 (two left (right (InterfaceLine second (interface_line.Shutdown true) ∷ []))) 0 ≡ route (prefix 2313 32) 65 (via 0 2 0 ∷ []) ∷ []
 unfolding ospf_interfaces adjacencies links_of type_of offered_rows internal_routes
 one_line_shut = refl
 
 -- who isn't reached has no route, at whatever cost it offers
-pub not_reached : routes_within 2 (two left (right (Shutdown first true ∷ Shutdown second true ∷ []))) 0 ≡ []
+pub not_reached : routes_within 2 (two left (right (InterfaceLine first (interface_line.Shutdown true) ∷ InterfaceLine second (interface_line.Shutdown true) ∷ []))) 0 ≡ []
 unfolding ospf_interfaces adjacencies links_of type_of offered_rows internal_routes
 not_reached = refl
 

@@ -1,8 +1,12 @@
 //! What OSPF gives without a state.
-ghost use Rattle.std.specs.Prelude.{◌≡◌, ◌<◌, ◌^◌};
+ghost use Rattle.std.specs.Prelude.{◌≡◌, ◌<◌, ◌^◌, All};
+ghost use Rattle.std.specs.List.{list_any};
+ghost use Rattle.std.specs.List.Sorted.{IsStrictlySortedBy};
+ghost use Rattle.rc_base.specs.Prefix.{prefix_cmp, same_prefix};
+ghost use Rattle.rc_ospf.specs.Internal as spec;
 
 use rc_base::{Items, Prefix, RouterId};
-use rc_route::{Hops, Table};
+use rc_route::{Hops, Route, Table};
 use rc_topology::Links;
 use std::marker::Model;
 
@@ -77,5 +81,49 @@ impl Drop for Internal {
             boundaries: _,
             own: _,
         } = self;
+    }
+}
+
+/// Whether a prefix is one of some in order, by bisection.
+fn is_in(prefix: &Prefix, prefixes: &[Prefix]) -> bool
+    requires { IsStrictlySortedBy prefix_cmp prefixes.now }
+    ensures { result ≡ list_any (same_prefix prefix.now) prefixes.now }
+{
+    prefixes.binary_search(prefix).is_ok()
+}
+
+impl Internal {
+    /// The routes of a router inside and between areas, of which it has none past the end.
+    pub fn routes_of(&self, router: RouterId) -> &[Route]
+        ensures { result.now ≡ spec.routes_of self.now router }
+    {
+        let found = self.routes.as_slice().get(router.index());
+        match found {
+            Some(routes) => routes.as_slice(),
+            None => &[],
+        }
+    }
+
+    /// The paths of a router to the others that are AS boundary routers, of which it has none past the end.
+    pub fn boundaries_of(&self, router: RouterId) -> &[Boundary]
+        ensures { result.now ≡ spec.boundaries_of self.now router }
+    {
+        let found = self.boundaries.as_slice().get(router.index());
+        match found {
+            Some(paths) => paths.as_slice(),
+            None => &[],
+        }
+    }
+
+    /// Whether a router advertises a prefix itself, by bisection. One past the end advertises none.
+    pub fn advertises(&self, router: RouterId, prefix: &Prefix) -> bool
+        requires { All (IsStrictlySortedBy prefix_cmp) self.now.own }
+        ensures { result ≡ spec.advertises self.now router prefix.now }
+    {
+        let found = self.own.as_slice().get(router.index());
+        match found {
+            Some(own) => is_in(prefix, own.as_slice()),
+            None => false,
+        }
     }
 }

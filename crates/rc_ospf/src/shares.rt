@@ -1,18 +1,18 @@
-//! Work on each of some things, shared among workers.
+//! Work on each of some things, which workers share.
 //!
-//! The things are shared by halves: the workers of one half and those of the other work side by side, until a worker stands alone
-//! or so few things are left that it takes longer to start a thread. All of them read what nobody changes, and each makes a list
-//! of its own, so nothing has to be locked; the lists are put together in order.
-ghost use Rattle.std.specs.Prelude.{◌≡◌, [], ◌++◌, ◌≤◌, ◌<◌, IfOk, All};
-ghost use Rattle.std.specs.Thread.{IsSync};
+//! All of them read what nobody changes, so nothing has to be locked; what they make stands in the order of the things. Nobody watches
+//! these workers: their gate is an open one.
+ghost use Rattle.std.specs.Prelude.{◌≡◌, [], IfOk, All};
 ghost use Rattle.rc_ospf.specs.Shares.{AreMade};
 
 use rc_base::Items;
+use rc_outside::OpenGate;
+use rc_shares::{Each, each_at_once};
 use std::alloc::{AllocError, Global};
-use std::thread::{Threads, join};
+use std::thread::Threads;
 
-/// Fewer things than these are seen to by one worker: to start a thread takes longer.
-const FEW: usize = 32;
+/// So many things, or fewer, are left to one worker: to start a thread takes longer.
+const FEW: usize = 31;
 
 /// What is made of each thing by itself, from what all workers read.
 pub(crate) trait Makes: Sync {
@@ -42,39 +42,35 @@ pub(crate) fn with_room<T: Drop>(alloc: Global, elements: usize) -> Result<Items
     Ok(Items::from_vec(items))
 }
 
-/// What one worker makes of some things.
-fn in_turn<W: Makes>(
-    alloc: Global,
-    work: &W,
-    things: &[W::Thing],
-) -> Result<Items<W::Made>, AllocError>
-    requires fits { All (W.fits work.now) things.now }
-    ensures { IfOk result (AreMade (W.made work.now) things.now) }
-{
-    let mut made = with_room(alloc, things.len())?;
-    for thing in things {
-        made.push(work.make(alloc, thing)?)?;
+/// Some things, and the work on each.
+#[derive(Drop)]
+struct Things<'a, W: Makes> {
+    work: &'a W,
+    things: &'a [W::Thing],
+}
+
+impl<'a, W: Makes> Each for Things<'a, W> {
+    ghost use Rattle.std.specs.Prelude.{All, length, slice_index_or};
+
+    type Made = W::Made;
+
+    ghost count = { λ s. length s.things.now };
+
+    ghost ready = { λ s. All (W.fits s.work.now) s.things.now };
+
+    ghost makes = { λ s i m. (d : W.Thing) → W.made s.work.now (slice_index_or s.things.now i d) m };
+
+    fn items(&self) -> usize {
+        self.things.len()
     }
-    Ok(made)
-}
 
-/// Two lists, one behind the other.
-fn appended<T: Drop>(left: Items<T>, right: Items<T>) -> Result<Items<T>, AllocError>
-    ensures { IfOk result (λ all. all ≡ left ++ right) }
-{
-    let mut all = left.into_vec();
-    let mut right = right.into_vec();
-    all.append(&mut right)?;
-    Ok(Items::from_vec(all))
-}
+    fn few(&self) -> usize {
+        FEW
+    }
 
-/// How many of some things are for the first few of some workers.
-fn share_of(things: usize, few: u32, workers: u32) -> usize
-    requires some { 0 < workers }
-    requires few { few ≤ workers }
-    ensures { result ≤ things }
-{
-    things / workers as usize * few as usize
+    fn make(&self, alloc: Global, item: usize) -> Result<W::Made, AllocError> {
+        self.work.make(alloc, &self.things[item])
+    }
 }
 
 /// What is made of each of some things, in order. The workers work side by side; one, or none, is the caller alone. It errs only
@@ -89,24 +85,7 @@ pub(crate) fn made_by<R: Threads + Sync, W: Makes>(
     requires fits { All (W.fits work.now) things.now }
     ensures { IfOk result (AreMade (W.made work.now) things.now) }
 {
-    if workers <= 1 || things.len() < FEW {
-        return in_turn(alloc, work, things);
-    }
-    let few = workers / 2;
-    let others = workers - few;
-    let (front, back) = things.split_at(share_of(things.len(), few, workers));
-    let (left, right) = join(
-        rt,
-        || -> Result<Items<W::Made>, AllocError>
-            requires { IsSync R.row × IsSync W.row × All (W.fits work.now) front.now }
-            ensures { IfOk result (AreMade (W.made work.entry.now) front.entry.now) }
-        { made_by(rt, alloc, work, front, few) },
-        || -> Result<Items<W::Made>, AllocError>
-            requires { IsSync R.row × IsSync W.row × All (W.fits work.now) back.now }
-            ensures { IfOk result (AreMade (W.made work.entry.now) back.entry.now) }
-        { made_by(rt, alloc, work, back, others) },
-    );
-    let left = left?;
-    let right = right?;
-    appended(left, right)
+    let things = Things { work, things };
+    let (_passed, made) = each_at_once(rt, alloc, &things, workers.max(1), 0, &OpenGate);
+    made
 }

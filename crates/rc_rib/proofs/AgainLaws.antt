@@ -8,6 +8,7 @@ use Rattle.std.proofs.Math.Decide.{dec_lt}
 use Rattle.rc_base.specs.Prefix.{Cidr}
 use Rattle.rc_bgp.specs.Candidates.{all_best, best_paths}
 use Rattle.rc_bgp.specs.Changes.{CoversChange}
+use Rattle.rc_bgp.specs.Maximum.{maximum_of}
 use Rattle.rc_bgp.specs.Known.{paths_of, table_of}
 use Rattle.rc_bgp.specs.Own.{own_paths, paths_of_process}
 use Rattle.rc_bgp.specs.Sessions.{configured_sessions, is_up, sessions_of}
@@ -27,12 +28,13 @@ use Rattle.rc_ospf.specs.declared.model.Internal.{Internal}
 use Rattle.rc_route.specs.Tables.{IsRouterState, best_for}
 use Rattle.rc_route.specs.Ways.{best_of}
 use Rattle.rc_route.specs.declared.best.Best.{Best}
+use Rattle.rc_ospf.specs.Internal.{routes_of}
 use Rattle.rc_route.specs.declared.route.Route.{Route}
 use Rattle.rc_route.specs.declared.state.RouterState.{RouterState}
 use Rattle.rc_rib.specs.Again.{AreUnchanged, IsUnchanged, ReadsNoOthers}
 use Rattle.rc_rib.specs.Best.{best_routes}
 use Rattle.rc_rib.specs.Connected.{connected}
-use Rattle.rc_rib.specs.Next.{learned_routes, next_router, next_state, own_of, router_after, routes_of, to_others}
+use Rattle.rc_rib.specs.Next.{learned_routes, next_router, next_state, router_after, to_others}
 use Rattle.rc_rib.specs.Static.{active_lines, static_routes}
 
 numbered : (n r : ℕ) → r < n → slice_get (range_with_len 0 n) r ≡ Some r
@@ -64,8 +66,8 @@ none_originated net r table none = by (router_at net r) none
 no_paths : (net : Network) (all : List (List Session)) (old : List RouterState) (r : ℕ) → IfSome (router_at net r) (λ (file : RouterText). file.bgp ≡ None) → sessions_of all r ≡ [] → best_paths net all old r ≡ []
 unfolding best_paths
 no_paths net all old r none silent =
-    ap (λ own. all_best net old (table_of old r) own (filter (is_up old) (sessions_of all r))) (none_originated net r (table_of old r) none)
-    ∙ ap (λ ss. all_best net old (table_of old r) [] (filter (is_up old) ss)) silent
+    ap (λ own. all_best net old (maximum_of net r) (table_of old r) own (filter (is_up old) (sessions_of all r))) (none_originated net r (table_of old r) none)
+    ∙ ap (λ ss. all_best net old (maximum_of net r) (table_of old r) [] (filter (is_up old) ss)) silent
 
 module _ (net : Network) (internal : Internal) (all : List (List Session)) (r : ℕ) (here : r < length net.routers) where
   -- what the router knows after a round
@@ -97,13 +99,13 @@ module _ (net : Network) (internal : Internal) (all : List (List Session)) (r : 
   -- with this file, from its previous table, its best paths and what comes from outside of the AS
   after : RouterText → List Route → List Best → List Route → RouterState
   after file table paths outside = record {
-    table = best_routes (connected r file.interfaces ++ (static_routes (active_lines r file.interfaces (resolved table) file.static_routes) ++ (learned_routes paths ++ (routes_of internal r ++ to_others (own_of internal r) outside))));
+    table = best_routes (connected r file.interfaces ++ (static_routes (active_lines r file.interfaces (resolved table) file.static_routes) ++ (learned_routes paths ++ (routes_of internal r ++ to_others internal r outside))));
     paths = paths;
   }
 
   with_lines : RouterText → List Route → List StaticRoute → RouterState
   with_lines file table lines = record {
-    table = best_routes (connected r file.interfaces ++ (static_routes (active_lines r file.interfaces (resolved table) lines) ++ (learned_routes [] ++ (routes_of internal r ++ to_others (own_of internal r) []))));
+    table = best_routes (connected r file.interfaces ++ (static_routes (active_lines r file.interfaces (resolved table) lines) ++ (learned_routes [] ++ (routes_of internal r ++ to_others internal r []))));
     paths = [];
   }
 

@@ -1,15 +1,14 @@
 -- A table is merged with routes that come one after another.
-use Rattle.std.proofs.Common.{refl, ◌≡◌, ap, sym, ◌∙◌, ℕ, suc, ◌+◌, ◌<◌, ◌==◌, true, List, [], ◌∷◌, ◌++◌, drop, drop-cons, add-one, length, get_or, arith, append_assoc, Option, Some, None}
+use Rattle.std.proofs.Common.{refl, ◌≡◌, ap, sym, ◌∙◌, ℕ, suc, ◌+◌, ◌<◌, ◌==◌, true, List, [], ◌∷◌, ◌++◌, drop, drop-cons, add-one, length, get_or, arith, append_assoc, Some, None}
 use Rattle.std.proofs.lemmas.Grind.{common_steps}
 use Rattle.std.proofs.lemmas.Bool.Decides.{nat_tests}
 use Rattle.std.specs.List.{cons_option}
-use Rattle.std.specs.declared.cmp.Ordering.{Ordering}
 use Rattle.std.specs.declared.cmp.Ordering.TheVariants.{Less, Equal, Greater}
 use Rattle.rc_bgp.specs.Learning.{learned_route}
 use Rattle.rc_route.specs.declared.best.Best.{Best}
 use Rattle.rc_route.specs.declared.route.Route.{Route}
 use Rattle.rc_rib.specs.Best.{better}
-use Rattle.rc_rib.specs.Merging.{merged, which, front_prefix, IsFront, HasMoved, IsPlaced, IsLearned}
+use Rattle.rc_rib.specs.Merging.{merged, which, front_prefix, HasMoved, IsPlaced, IsLearned}
 use Rattle.rc_rib.specs.Next.{learned_routes}
 use Rattle.rc_rib.proofs.MergingLaws.{first_is_next, second_is_next, both_are_next, with_none}
 

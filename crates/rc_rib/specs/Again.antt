@@ -6,7 +6,7 @@ use Rattle.rc_bgp_session.specs.declared.session.Session.{Session}
 use Rattle.rc_config.specs.Members.{router_at}
 use Rattle.rc_config.specs.declared.network.Network.{Network}
 use Rattle.rc_config.specs.declared.router_text.RouterText.{RouterText}
-use Rattle.rc_external.specs.Routes.{boundaries_of}
+use Rattle.rc_ospf.specs.Internal.{boundaries_of}
 use Rattle.rc_ospf.specs.declared.model.Internal.{Internal}
 use Rattle.rc_route.specs.declared.state.RouterState.{RouterState}
 

@@ -1,8 +1,7 @@
 -- The next table and best paths of one router, from what all routers know.
-use Rattle.std.specs.Prelude.{ℕ, Bool, not, List, [], ◌++◌, filter, map, slice_get, unwrap_or}
-use Rattle.std.specs.List.{filter_map, list_any}
+use Rattle.std.specs.Prelude.{ℕ, not, List, [], ◌++◌, filter, map}
+use Rattle.std.specs.List.{filter_map}
 use Rattle.std.specs.Option.{option_map_or}
-use Rattle.rc_base.specs.Prefix.{Cidr, same_prefix}
 use Rattle.rc_bgp.specs.Candidates.{best_paths}
 use Rattle.rc_bgp.specs.Known.{table_of}
 use Rattle.rc_bgp.specs.Learning.{learned_route}
@@ -14,6 +13,7 @@ use Rattle.rc_external.specs.Externals.{externals}
 use Rattle.rc_external.specs.Routes.{external_routes}
 use Rattle.rc_external.specs.declared.as_external.ExternalRow.{ExternalRow}
 use Rattle.rc_fib.specs.Forwarding.{resolved}
+use Rattle.rc_ospf.specs.Internal.{advertises, routes_of}
 use Rattle.rc_ospf.specs.declared.model.Internal.{Internal}
 use Rattle.rc_rib.specs.Best.{best_routes}
 use Rattle.rc_rib.specs.Connected.{connected}
@@ -22,25 +22,14 @@ use Rattle.rc_route.specs.declared.best.Best.{Best}
 use Rattle.rc_route.specs.declared.route.Route.{Route}
 use Rattle.rc_route.specs.declared.state.RouterState.{RouterState}
 
--- the OSPF routes of a router inside and between areas, among those of all
-abbrev pub routes_of : Internal → ℕ → List Route
-routes_of internal r = unwrap_or (slice_get internal.routes r) []
-
--- the prefixes that a router advertises itself
-abbrev pub own_of : Internal → ℕ → List Cidr
-own_of internal r = unwrap_or (slice_get internal.own r) []
-
-abbrev pub is_own : List Cidr → Cidr → Bool
-is_own own p = list_any (same_prefix p) own
-
--- routes to prefixes other than a router's own ones
-abbrev pub to_others : List Cidr → List Route → List Route
-to_others own routes = filter (λ (x : Route). not (is_own own x.prefix)) routes
+-- those of some routes whose prefix a router doesn't advertise itself
+abbrev pub to_others : Internal → ℕ → List Route → List Route
+to_others internal r routes = filter (λ (x : Route). not (advertises internal r x.prefix)) routes
 
 -- the OSPF routes of a router: inside and between areas, and from outside of the AS to what it doesn't advertise itself. Where both
 -- are there for a prefix, the order of sources decides
 abbrev pub ospf_routes : Internal → List ExternalRow → ℕ → List Route
-ospf_routes internal rows r = routes_of internal r ++ to_others (own_of internal r) (external_routes internal rows r)
+ospf_routes internal rows r = routes_of internal r ++ to_others internal r (external_routes internal rows r)
 
 -- the candidates of a router: the connected routes of its file, its static routes that the previous table makes active, and the
 -- routes that it learned by BGP and by OSPF

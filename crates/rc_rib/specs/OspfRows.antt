@@ -8,8 +8,9 @@ use Rattle.rc_config.specs.declared.static_route.StaticRoute.{StaticRoute}
 use Rattle.rc_config.specs.declared.static_route.Target.TheVariants as target
 use Rattle.rc_fib.specs.Forwarding.{hops_within}
 use Rattle.rc_rib.specs.Best.{best_routes}
+use Rattle.rc_ospf.specs.Internal.{routes_of}
 use Rattle.rc_rib.specs.Connected.{connected, route_over}
-use Rattle.rc_rib.specs.Next.{learned_routes, own_of, routes_of, table_after, to_others}
+use Rattle.rc_rib.specs.Next.{learned_routes, table_after, to_others}
 use Rattle.rc_rib.specs.Static.{static_routes}
 use Rattle.rc_route.specs.declared.route.Hop.{Hop}
 use Rattle.rc_route.specs.declared.route.Hop.TheVariants.{Null, Via}
@@ -93,7 +94,7 @@ pub of_no_router : (links : Links) → routes_of (internal links) 2 ≡ []
 of_no_router links = refl
 
 -- what a router advertises itself gets no route from outside, also where it has no connected one, as a loopback with a mask of its own
-pub own_prefixes : (links : Links) → to_others (own_of (internal links) 1) (outside (subnet 1) ∷ outside (subnet 2) ∷ outside (subnet 3) ∷ outside (subnet 4) ∷ []) ≡ outside (subnet 1) ∷ outside (subnet 4) ∷ []
+pub own_prefixes : (links : Links) → to_others (internal links) 1 (outside (subnet 1) ∷ outside (subnet 2) ∷ outside (subnet 3) ∷ outside (subnet 4) ∷ []) ≡ outside (subnet 1) ∷ outside (subnet 4) ∷ []
 own_prefixes links = refl
 
 -- of one prefix inside an area before between areas, and both before outside, wherever they stand

@@ -9,8 +9,9 @@ ghost use Rattle.rc_bgp.specs.Sessions.{sessions_of};
 ghost use Rattle.rc_config.specs.Lawful.{IsRouter};
 ghost use Rattle.rc_config.specs.Members.{router_at};
 ghost use Rattle.rc_config.specs.declared.static_route.StaticRoute.{StaticRoute as Line};
-ghost use Rattle.rc_external.specs.Routes.{boundaries_of, external_routes};
+ghost use Rattle.rc_external.specs.Routes.{external_routes};
 ghost use Rattle.rc_fib.specs.Forwarding.{resolved};
+ghost use Rattle.rc_ospf.specs.Internal.{boundaries_of, routes_of};
 ghost use Rattle.rc_route.specs.Tables.{IsBestList, IsRouterState, IsTable};
 ghost use Rattle.rc_rib.specs.Connected as connected_spec;
 ghost use Rattle.rc_rib.specs.Again.{HasNoLines, IsUnchanged, ReadsNoOthers};
@@ -24,7 +25,7 @@ use crate::connected_routes::connected;
 use crate::grouping::static_routes;
 use crate::learned::with_learned;
 use crate::merging::merged;
-use crate::outside::{outside_routes, routes_of};
+use crate::outside::outside_routes;
 use crate::{Inputs, Made};
 use rc_base::{Items, RouterId};
 use rc_bgp::{ConfiguredSessions, Renewed, first_paths, renewed_paths};
@@ -136,10 +137,9 @@ fn with_internal(
     internal: &Internal,
     router: RouterId,
 ) -> Result<Table, AllocError>
-    requires { All IsTable internal.now.routes }
-    ensures { IfOk result (λ made. made ≡ merging_spec.merged table (spec.routes_of internal.now router)) }
+    ensures { IfOk result (λ made. made ≡ merging_spec.merged table (routes_of internal.now router)) }
 {
-    let routes = copied(alloc, routes_of(internal, router))?;
+    let routes = copied(alloc, internal.routes_of(router))?;
     merged(alloc, table, routes)
 }
 
@@ -151,7 +151,7 @@ fn with_outside(
     router: RouterId,
 ) -> Result<Table, AllocError>
     requires { AreInputs inputs.now }
-    ensures { IfOk result (λ made. made ≡ merging_spec.merged table (spec.to_others (spec.own_of inputs.now.internal.now router) (external_routes inputs.now.internal.now inputs.now.externals.now router))) }
+    ensures { IfOk result (λ made. made ≡ merging_spec.merged table (spec.to_others inputs.now.internal.now router (external_routes inputs.now.internal.now inputs.now.externals.now router))) }
 {
     let routes = outside_routes(alloc, inputs.internal, inputs.externals, router)?;
     merged(alloc, table, routes)
@@ -296,11 +296,7 @@ fn has_no_sessions(sessions: &ConfiguredSessions, router: RouterId) -> bool
 fn has_no_boundaries(internal: &Internal, router: RouterId) -> bool
     ensures { IsTrue result → boundaries_of internal.now router ≡ [] }
 {
-    let found = internal.boundaries.as_slice().get(router.index());
-    match found {
-        Some(boundaries) => boundaries.is_empty(),
-        None => true,
-    }
+    internal.boundaries_of(router).is_empty()
 }
 
 /// Whether what other routers know changes nothing for this one.

@@ -1,9 +1,7 @@
--- What the workers of a round make, put together, and where shares begin.
-use Rattle.std.proofs.Common.{◌≡◌, ℕ, zero, suc, ◌+◌, ◌-◌, ◌*◌, ◌<◌, ◌≤◌, List, [], ◌∷◌, ◌++◌, length, map, refl, sym, ap, subst, ◌∙◌, arith, All}
+-- What the workers of a round make, put together.
+use Rattle.std.proofs.Common.{◌≡◌, ℕ, zero, suc, ◌+◌, ◌-◌, ◌≤◌, List, [], ◌∷◌, ◌++◌, length, map, refl, sym, ap, subst, ◌∙◌, arith, All}
 use Rattle.std.specs.List.{AllByRecursion, range_with_len}
 use Rattle.std.specs.Option.{option_map_or}
-use Rattle.std.proofs.Math.Nat.{mul-le-mul_left, div-mul-le_self, mul-div_cancel, zero-div}
-use Rattle.std.proofs.lemmas.Nat.{le-div}
 use Rattle.std.specs.List.Sorted.{IsStrictlySortedBy}
 use Rattle.std.proofs.lemmas.List.Elements.{All-from_recursion, All-map}
 use Rattle.std.proofs.lemmas.List.FromFn.{map-range_with_len_more, length-map-range_with_len}
@@ -18,22 +16,9 @@ use Rattle.rc_rib.specs.Next.{next_router, next_state}
 use Rattle.rc_rib.specs.declared.made.Made.{Made}
 use Rattle.rc_route.specs.Tables.{IsRouterState, IsStateOf, best_for}
 use Rattle.rc_rounds.specs.Rounds.{empty_state}
-use Rattle.rc_outside.specs.Shares.{share_start}
-use Rattle.rc_rounds.specs.Shares.{IsMade, IsShare, IsStretch}
-
-pub share_start-up : (n w a b : ℕ) → 0 < w → a ≤ b → share_start n w a ≤ share_start n w b
-share_start-up n w a b pos le =
-    let low : share_start n w a * w ≤ n * a = div-mul-le_self (n * a) w in let up : n * a ≤ n * b = mul-le-mul_left n le in
-    le-div (share_start n w a) (n * b) w pos (omega arith)
-
-pub share_start-end : (n w : ℕ) → 0 < w → share_start n w w ≡ n
-share_start-end n w pos = mul-div_cancel n pos
-
-pub share_start-first : (n w : ℕ) → 0 < w → share_start n w 0 ≡ 0
-share_start-first n w pos = let e : n * 0 ≡ 0 = omega arith in rw e (zero-div w)
-
-pub share_start-in : (n w a : ℕ) → 0 < w → a ≤ w → share_start n w a ≤ n
-share_start-in n w a pos le = let u = share_start-up n w a w pos le in let e = share_start-end n w pos in omega arith
+use Rattle.rc_rounds.specs.Shares.{IsMade}
+use Rattle.rc_shares.specs.Stretches.{IsStretch}
+use Rattle.rc_shares.proofs.StretchLaws.{stretch_up}
 
 -- ---- states in order
 
@@ -62,40 +47,6 @@ empty-in_order net = record {
   as_long = length-map-range_with_len (λ _. record { table = []; paths = [] }) 0 (length net.routers);
   each = All-map IsRouterState (λ _. record { table = []; paths = [] }) (range_with_len 0 (length net.routers)) (λ k d less. nothing-in_order);
 }
-
--- ---- what is made of routers, stretch by stretch
-
-module _ (makes : ℕ → Made → Type 0) where
-  pub nothing_made : (a : ℕ) → IsStretch makes a a []
-  unfolding IsStretch
-  nothing_made a = refl
-
-  -- two neighbouring stretches
-  pub stretches_join : (a b c : ℕ) (xs ys : List Made) → IsStretch makes a b xs → IsStretch makes b c ys → IsStretch makes a c (xs ++ ys)
-  unfolding IsStretch
-  stretches_join a b c [] ys left right = subst (λ k. IsStretch makes k c ys) (sym left) right
-  stretches_join a b c (x ∷ xs) ys left right = (left.0, stretches_join (a + 1) b c xs ys left.1 right)
-
-  -- one router more
-  pub one_made : (a b : ℕ) (xs : List Made) (m : Made) → IsStretch makes a b xs → makes b m → IsStretch makes a (b + 1) (xs ++ m ∷ [])
-  unfolding IsStretch
-  one_made a b xs m so_far is = stretches_join a b (b + 1) xs (m ∷ []) so_far (is, refl)
-
-  stretch_up : (a b : ℕ) (xs : List Made) → IsStretch makes a b xs → a ≤ b
-  unfolding IsStretch
-  stretch_up a b [] is = omega (arith, is)
-  stretch_up a b (x ∷ xs) is = (let up = stretch_up (a + 1) b xs is.1 in omega (arith, up))
-
-  -- ---- the shares of workers
-
-  -- those of two neighbouring stretches of workers, one behind the other
-  pub put_together : (n workers first middle last : ℕ) (left right all : List Made) → IsShare makes n workers first middle left → IsShare makes n workers middle last right → all ≡ left ++ right → IsShare makes n workers first last all
-  put_together n workers first middle last left right all l r e =
-      subst (IsShare makes n workers first last) (sym e) (stretches_join (share_start n workers first) (share_start n workers middle) (share_start n workers last) left right l r)
-
-  -- that of all workers
-  pub whole : (n workers : ℕ) (s : List Made) → 0 < workers → IsShare makes n workers 0 workers s → IsStretch makes 0 n s
-  whole n workers s some share = subst (λ k. IsStretch makes k n s) (share_start-first n workers some) (subst (λ k. IsStretch makes (share_start n workers 0) k s) (share_start-end n workers some) share)
 
 -- ---- what is made of all routers is the next state, in order, and what changed
 

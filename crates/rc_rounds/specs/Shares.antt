@@ -1,9 +1,8 @@
 -- What the workers of a round make.
-use Rattle.std.specs.Prelude.{◌≡◌, ℕ, ◌+◌, List, [], ◌∷◌}
+use Rattle.std.specs.Prelude.{◌≡◌, ℕ, List}
 use Rattle.rc_bgp.specs.Changes.{CoversChange}
 use Rattle.rc_bgp.specs.Known.{paths_of}
 use Rattle.rc_config.specs.declared.network.Network.{Network}
-use Rattle.rc_outside.specs.Shares.{share_start}
 use Rattle.rc_ospf.specs.declared.model.Internal.{Internal}
 use Rattle.rc_route.specs.Tables.{IsRouterState}
 use Rattle.rc_route.specs.declared.state.RouterState.{RouterState}
@@ -15,12 +14,3 @@ pub record IsMade (net : Network) (internal : Internal) (old : List RouterState)
   pub state : m.state ≡ next_router net internal old r
   pub in_order : IsRouterState m.state
   pub changed : CoversChange m.changed (paths_of old r) m.state.paths
-
--- what is made of the routers from one index up to another, in order
-unfoldable pub IsStretch : (ℕ → Made → Type 0) → ℕ → ℕ → List Made → Type 0
-IsStretch makes from to [] = from ≡ to
-IsStretch makes from to (m ∷ ms) = makes from m × IsStretch makes (from + 1) to ms
-
--- what is made of the n routers of the workers from one up to another
-abbrev pub IsShare : (ℕ → Made → Type 0) → ℕ → ℕ → ℕ → ℕ → List Made → Type 0
-IsShare makes n workers first last s = IsStretch makes (share_start n workers first) (share_start n workers last) s

@@ -34,13 +34,13 @@ pub(crate) fn empty_state(alloc: Global, net: &Network) -> Result<State, AllocEr
 }
 
 /// What was made of each router, as one state and what changed in it.
-fn put_together(alloc: Global, all: Vec<Made>) -> Result<Round, AllocError>
-    ensures state { IfOk result (λ r. r.state ≡ map (λ (m : MadeModel). m.state) all.items) }
-    ensures changes { IfOk result (λ r. r.changes ≡ map (λ (m : MadeModel). m.changed) all.items) }
+fn put_together(alloc: Global, all: Items<Made>) -> Result<Round, AllocError>
+    ensures state { IfOk result (λ r. r.state ≡ map (λ (m : MadeModel). m.state) all) }
+    ensures changes { IfOk result (λ r. r.changes ≡ map (λ (m : MadeModel). m.changed) all) }
 {
     let mut state = Items::from_vec(Vec::with_capacity(alloc, all.len())?);
     let mut changes = Items::from_vec(Vec::with_capacity(alloc, all.len())?);
-    for made in all {
+    for made in all.into_vec() {
         let Made {
             state: known,
             changed,

@@ -1,6 +1,5 @@
 use Rattle.std.proofs.Common.{arith, ◌≡◌, ap, sym, ◌∙◌, drop, [], ◌++◌}
 use Rattle.std.proofs.lemmas.List.{drop_all}
-use Rattle.std.specs.Prelude.{IfOk}
 use Rattle.rc_rib.specs.Merging.{merged}
 use Rattle.rc_rib.specs.Next.{learned_routes}
 use Rattle.rc_rib.proofs.LearnedLaws.{all_learned, no_path}

@@ -3,11 +3,12 @@ use Rattle.std.proofs.lemmas.Result.{IfOk-weaker}
 use Rattle.rc_bgp.specs.Known.{table_of}
 use Rattle.rc_external.specs.Routes.{external_routes}
 use Rattle.rc_fib.specs.Forwarding.{resolved}
+use Rattle.rc_ospf.specs.Internal.{routes_of}
 use Rattle.rc_route.specs.Tables.{IsTable}
 use Rattle.rc_route.specs.declared.route.Route.{Route}
 use Rattle.rc_rib.specs.Connected.{connected}
 use Rattle.rc_rib.specs.Merging.{merged}
-use Rattle.rc_rib.specs.Next.{candidates, learned_routes, ospf_routes, own_of, routes_of, table_after, to_others}
+use Rattle.rc_rib.specs.Next.{candidates, learned_routes, ospf_routes, table_after, to_others}
 use Rattle.rc_rib.specs.Static.{active_lines, static_routes}
 use Rattle.rc_rib.proofs.BestLaws.{best_is_table}
 use Rattle.rc_rib.proofs.ConnectedLaws.{connected_is_table}
@@ -25,7 +26,7 @@ returns-clause-value c =
     let active : List Route = static_routes (active_lines r entries (resolved old) c.args.file.now.static_routes) in
     let learned : List Route = learned_routes c.args.paths.now in
     let inside : List Route = routes_of internal r in
-    let outside : List Route = to_others (own_of internal r) (external_routes internal inputs.externals.now r) in
+    let outside : List Route = to_others internal r (external_routes internal inputs.externals.now r) in
     let before = c.in_ok-table-3.ensures ∙ ap (λ t. merged t inside) (c.in_ok-table-2.ensures ∙ ap (λ t. merged t learned) c.in_ok-table.ensures) in
     let all =
     five_merged own active learned inside outside (connected_is_table r entries) (static_is_table _) (learned_in_order c.args.paths.now c.requires.paths)

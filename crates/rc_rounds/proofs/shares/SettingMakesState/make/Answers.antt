@@ -1,11 +1,11 @@
 use Rattle.std.proofs.Common.{refl}
 use Rattle.rc_rounds.specs.Parts.{AreRead, IsReady}
 use Rattle.rc_rounds.proofs.SettingLaws.{are_inputs, told_earlier}
-use Rattle.rc_rounds.proofs.shares.SettingMakesState.share.Goals as goal
+use Rattle.rc_rounds.proofs.shares.SettingMakesState.make.Goals as goal
 
-pub share_of-requires-clause-read : goal.share_of-requires-clause-read
+pub table-requires-clause-inputs : goal.table-requires-clause-inputs
 unfolding IsReady
-share_of-requires-clause-read c =
+table-requires-clause-inputs c =
     let s = c.args.self.now in
     let r : AreRead s c.args.read.now c.args.earlier.now = c.requires.ready in
     are_inputs _ s.network.now s.internal.now s.sessions.now s.externals.now c.args.read.now refl refl refl refl refl r.setting r.state r.externals r.by_prefix
