@@ -12,7 +12,7 @@ use Rattle.rc_edges.specs.Edges.{onto_link, takes, towards, union}
 use Rattle.rc_edges.specs.Given.{Gives, IsRow, MayGet, MayGive, joined, leads_onto, with_sets}
 use Rattle.rc_edges.specs.Sent.{leaving, to_interface, to_subnets, untaken}
 use Rattle.rc_edges.specs.Steps.{device}
-use Rattle.rc_edges.specs.declared.rows.Row.{Row}
+use Rattle.rc_edges.specs.declared.outgoing.Row.{Row}
 use Rattle.rc_nodes.specs.Seats.{TableView, SeatView, Keeps, SeatKnows}
 use Rattle.rc_route.specs.declared.route.Hop.{Hop}
 use Rattle.rc_route.specs.declared.route.Hop.TheVariants.{Null, Dev, Via}

@@ -7,8 +7,8 @@ use Rattle.rc_edges.specs.Made.{IsKnownIfMade, IsMade}
 use Rattle.rc_edges.specs.HopParts.{no_parts, part_in, parts_of, with_part}
 use Rattle.rc_edges.specs.Sent.{forwarded, hops_at, to_router}
 use Rattle.rc_edges.specs.Steps.{fixed}
-use Rattle.rc_edges.specs.declared.parts.Part.{Part}
-use Rattle.rc_edges.specs.declared.parts.Part.TheVariants.{Over, LetOut, Taken, Subnets}
+use Rattle.rc_edges.specs.declared.hop_steps.Part.{Part}
+use Rattle.rc_edges.specs.declared.hop_steps.Part.TheVariants.{Over, LetOut, Taken, Subnets}
 use Rattle.rc_edges.specs.declared.router_sets.HopParts.{HopParts}
 use Rattle.rc_edges.specs.declared.router_sets.RouterSets.{RouterSets}
 use Rattle.rc_nodes.specs.Seats.{TableView, SeatView, IsSeatOf, Keeps, SeatKnows}

@@ -10,33 +10,33 @@ use Rattle.rc_base.specs.declared.position.Pos.{Pos}
 use Rattle.rc_config.specs.Members.{positions}
 use Rattle.rc_config.specs.declared.network.Network.{Network}
 use Rattle.rc_edges.proofs.AskedLaws.{asked_there, known-kept, stops_put}
-use Rattle.rc_edges.proofs.FlowLaws.{flows-kept, numbers-more}
+use Rattle.rc_jobs.proofs.FlowLaws.{numbers-more}
 use Rattle.rc_edges.proofs.LikeLaws.{edge_like, end_like, forwarded_like, hops_like}
 use Rattle.rc_edges.proofs.MadeLaws.{made_kept}
 use Rattle.rc_edges.proofs.RowLaws.{flushed_rows, row_kept, row_like}
-use Rattle.rc_edges.proofs.ShareLaws.{flat-append}
+use Rattle.rc_jobs.proofs.CollectLaws.{flat-append}
 use Rattle.rc_edges.specs.Edges.{edge}
-use Rattle.rc_edges.specs.Given.{AreFlows, AreFlushed, AreRows, IsRow, numbers, real, with_flow}
+use Rattle.rc_edges.specs.Given.{AreFlushed, IsRow}
 use Rattle.rc_edges.specs.HopParts.{no_parts, part_in, parts_of}
 use Rattle.rc_edges.specs.Likes.{IsLike}
 use Rattle.rc_edges.specs.Made.{IsKnownIfMade, IsMade}
-use Rattle.rc_edges.specs.Prepare.{edge_at, ends_at}
-use Rattle.rc_base.specs.Endings.{all_kinds}
+use Rattle.rc_edges.specs.Prepare.{edge_at, end_trees, ends_at}
+use Rattle.rc_edges.specs.Query.{kinds_of}
 use Rattle.rc_edges.specs.Sendings.{IsSending}
 use Rattle.rc_edges.specs.Sent.{forwarded, hops_at, to_router}
 use Rattle.rc_edges.specs.Shares.{IsShare}
 use Rattle.rc_edges.specs.Steps.{fixed}
-use Rattle.rc_edges.specs.Stops.{AreKnown, asked_of}
-use Rattle.rc_edges.specs.declared.parts.Part.{Part}
-use Rattle.rc_edges.specs.declared.parts.Part.TheVariants.{Over, LetOut, Taken, Subnets}
+use Rattle.rc_edges.specs.Stops.{AreKnown}
+use Rattle.rc_edges.specs.declared.hop_steps.Part.{Part}
+use Rattle.rc_edges.specs.declared.hop_steps.Part.TheVariants.{Over, LetOut, Taken, Subnets}
 use Rattle.rc_edges.specs.declared.router_sets.HopParts.{HopParts}
 use Rattle.rc_edges.specs.declared.router_sets.RouterSets.{RouterSets}
-use Rattle.rc_edges.specs.declared.rows.Row.{Row}
-use Rattle.rc_edges.specs.declared.sending.Sending.{Sending}
-use Rattle.rc_edges.specs.declared.share.Share.{Share}
+use Rattle.rc_edges.specs.declared.outgoing.Row.{Row}
+use Rattle.rc_edges.specs.declared.position_sets.Sending.{Sending}
+use Rattle.rc_jobs.specs.declared.collected.Collected.{Collected}
 use Rattle.rc_bdd.specs.declared.work.SetError.{SetError}
 use Rattle.rc_fib.specs.declared.entry.Entry.{Entry}
-use Rattle.rc_jobs.specs.Flows.{edges_to, endings_of}
+use Rattle.rc_jobs.specs.Flows.{KnowsFlows, edges_to, endings_of, real}
 use Rattle.rc_jobs.specs.declared.flow.Flow.{Flow}
 use Rattle.rc_nodes.specs.Seats.{TableView, SeatView, IsSeatOf, Keeps, SeatKnows}
 use Rattle.rc_nodes.specs.declared.words.Ref.{Ref}
@@ -47,6 +47,7 @@ use Rattle.rc_sets.specs.Stretches.{AreStretches}
 use Rattle.rc_trees.specs.Recipes.{tree}
 use Rattle.rc_trees.specs.Trees.{Tree}
 use Rattle.rc_walk.specs.Moves.{DataPlane, fib_of, router_of}
+use Rattle.rc_jobs.specs.Collecting.{AreRows, numbers, with_flow}
 
 -- whatever follows where a step is done
 pub on_ok : {A E : Type 0} (result : Result A E) (P Q : Type 0) → (P → Q) → OnOk result P → IfOk result (λ _. Q)
@@ -99,28 +100,28 @@ made_again nodes seat plane q t made next same m hops stretches parts owned none
   forwarded = subst (λ o. IsKnownIfMade seat o (forwarded plane t)) (sym none) tt;
 }
 
-pub nothing_shared : (seat : SeatView) (plane : DataPlane) (ends : Ends) (a : ℕ) (share : Share) → share.into.items ≡ replicate (length (positions plane.network)) [] → share.ends ≡ [] → IsShare seat plane ends a a share
+pub nothing_shared : (seat : SeatView) (plane : DataPlane) (ends : Ends) (a : ℕ) (share : Collected) → share.into.items ≡ replicate (length (positions plane.network)) [] → share.ends ≡ [] → IsShare seat plane ends a a share
 nothing_shared seat plane ends a share into last = record {
   order = omega arith;
   as_many = ap length into ∙ length-replicate (length (positions plane.network)) [];
-  rows = record { each = λ t d less. subst (λ fs. AreFlows seat fs (real (edges_to (edge_at plane) (numbers a a) t))) (sym (ap (λ xs. slice_index_or xs t d) into ∙ get_or-replicate (length (positions plane.network)) t [] d (let e = ap length into ∙ length-replicate (length (positions plane.network)) [] in omega arith))) (none t) };
-  endings = subst (λ fs. AreFlows seat fs (real (endings_of (ends_at plane ends) (numbers a a)))) (sym last) no_ends;
+  rows = record { each = λ t d less. subst (λ fs. KnowsFlows seat fs (real (edges_to (edge_at plane) (numbers a a) t))) (sym (ap (λ xs. slice_index_or xs t d) into ∙ get_or-replicate (length (positions plane.network)) t [] d (let e = ap length into ∙ length-replicate (length (positions plane.network)) [] in omega arith))) (none t) };
+  endings = subst (λ fs. KnowsFlows seat fs (real (endings_of (ends_at plane ends) (numbers a a)))) (sym last) no_ends;
 }
   where
     empty : numbers a a ≡ []
     empty = ap (range_with_len a) (let e : a - a ≡ 0 = omega arith in e)
 
-    none : (t : ℕ) → AreFlows seat [] (real (edges_to (edge_at plane) (numbers a a) t))
-    none t = subst (λ ns. AreFlows seat [] (real (edges_to (edge_at plane) ns t))) (sym empty) tt
+    none : (t : ℕ) → KnowsFlows seat [] (real (edges_to (edge_at plane) (numbers a a) t))
+    none t = subst (λ ns. KnowsFlows seat [] (real (edges_to (edge_at plane) ns t))) (sym empty) tt
 
-    no_ends : AreFlows seat [] (real (endings_of (ends_at plane ends) (numbers a a)))
-    no_ends = subst (λ ns. AreFlows seat [] (real (endings_of (ends_at plane ends) ns))) (sym empty) tt
+    no_ends : KnowsFlows seat [] (real (endings_of (ends_at plane ends) (numbers a a)))
+    no_ends = subst (λ ns. KnowsFlows seat [] (real (endings_of (ends_at plane ends) ns))) (sym empty) tt
 
 -- ---- what goes on from positions that are like each other
 
 module _ (nodes : TableView) (seat : SeatView) (plane : DataPlane) (ends : Ends) (q t : Pos) (like : IsLike plane.network q t) (s : Sending) (is : IsSending nodes seat plane ends q s) where
-  asked_like : (ks : List Kind) → asked_of plane q ends ks ≡ asked_of plane t ends ks
-  asked_like ks = λ n. flat_map (λ k. cond (is_among ends k) (tree (end_like plane q t like k n) ∷ []) []) ks
+  asked_like : (ks : List Kind) → end_trees plane q ks ≡ end_trees plane t ks
+  asked_like ks = λ n. map (λ k. tree (end_like plane q t like k n)) ks
 
   pub sending_like : IsSending nodes seat plane ends t s
   sending_like = record {
@@ -133,13 +134,13 @@ module _ (nodes : TableView) (seat : SeatView) (plane : DataPlane) (ends : Ends)
       forwarded = subst (IsKnownIfMade seat s.made.forwarded) (forwarded_like plane q t like) is.made.forwarded;
     };
     row = row_like seat s.row (length (positions plane.network)) (λ n. tree (edge plane q (position_at plane.network n))) (λ n. tree (edge plane t (position_at plane.network n))) (λ n less. ap tree (edge_like plane q t like (position_at plane.network n))) is.row;
-    stops = subst (AreKnown seat s.stops.items) (asked_like all_kinds) is.stops;
+    stops = subst (AreKnown seat s.stops.items) (asked_like (kinds_of ends)) is.stops;
   }
 
 -- what a position sends and the endings at it, made one after the other
 module _ (nodes : TableView) (v w : SeatView) (plane : DataPlane) (ends : Ends) (q : Pos) (places : Network) (same : places ≡ plane.network) (old : List Ref) (none : old ≡ []) where
   pub filled : (s : Sending) (result : Result (Unit {0}) SetError) → IsRow v s.row (length (positions places)) (λ t. tree (edge plane q (position_at places t))) → Keeps v w → IfOk result (λ _. IsMade nodes w plane q s.made)
-      → OnOk result ((done : List Tree) → AreKnown v old done → AreKnown w s.stops.items (done ++ asked_of plane q ends all_kinds)) → IfOk result (λ _. IsSending nodes w plane ends q s)
+      → OnOk result ((done : List Tree) → AreKnown v old done → AreKnown w s.stops.items (done ++ end_trees plane q (kinds_of ends))) → IfOk result (λ _. IsSending nodes w plane ends q s)
   filled s (Err e) row keeps made stops = tt
   filled s (Ok x) row keeps made stops = record {
     made = made;
@@ -151,7 +152,7 @@ pub sending_kept : (nodes : TableView) (v w : SeatView) (plane : DataPlane) (end
 sending_kept nodes v w plane ends q s is table keeps = record {
   made = made_kept nodes plane q s.made v w is.made table keeps;
   row = row_kept v w keeps s.row (length (positions plane.network)) (λ t. tree (edge plane q (position_at plane.network t))) is.row;
-  stops = known-kept v w keeps s.stops.items (asked_of plane q ends all_kinds) is.stops;
+  stops = known-kept v w keeps s.stops.items (end_trees plane q (kinds_of ends)) is.stops;
 }
 
 -- ---- one position more
@@ -159,27 +160,18 @@ sending_kept nodes v w plane ends q s is table keeps = record {
 pub endings-more : (plane : DataPlane) (ends : Ends) (a n : ℕ) → a ≤ n → endings_of (ends_at plane ends) (numbers a (n + 1)) ≡ endings_of (ends_at plane ends) (numbers a n) ++ endings_of (ends_at plane ends) (n ∷ [])
 endings-more plane ends a n le = ap (endings_of (ends_at plane ends)) (numbers-more a n le) ∙ flat-append (λ q. map (λ e. (q, e)) (ends_at plane ends q)) (numbers a n) (n ∷ [])
 
-module _ (nodes : TableView) (seat : SeatView) (plane : DataPlane) (ends : Ends) (from n : ℕ) (before after : Share) (s : Sending) (share : IsShare seat plane ends from n before) (is : IsSending nodes seat plane ends (position_at plane.network n) s) where
+module _ (nodes : TableView) (seat : SeatView) (plane : DataPlane) (ends : Ends) (from n : ℕ) (before after : Collected) (s : Sending) (share : IsShare seat plane ends from n before) (is : IsSending nodes seat plane ends (position_at plane.network n) s) where
   pub share_more : AreFlushed before.into.items s.row n after.into.items → after.ends ≡ fold (λ fs r. with_flow fs n r) before.ends s.stops.items → IsShare seat plane ends from (n + 1) after
   share_more flushed put = record {
     order = let le = share.order in omega arith;
     as_many = flushed.as_many ∙ share.as_many;
     rows = flushed_rows seat (edge_at plane) from n share.order before.into.items after.into.items s.row flushed share.rows (subst (λ k. IsRow seat s.row k (edge_at plane n)) (sym share.as_many) is.row);
-    endings = subst (λ fs. AreFlows seat fs (real (endings_of (ends_at plane ends) (numbers from (n + 1))))) (sym put)
-        (subst (λ ps. AreFlows seat (fold (λ fs r. with_flow fs n r) before.ends s.stops.items) (real ps))
+    endings = subst (λ fs. KnowsFlows seat fs (real (endings_of (ends_at plane ends) (numbers from (n + 1))))) (sym put)
+        (subst (λ ps. KnowsFlows seat (fold (λ fs r. with_flow fs n r) before.ends s.stops.items) (real ps))
         (ap (λ ps. endings_of (ends_at plane ends) (numbers from n) ++ ps) (asked_there plane ends n) ∙ sym (endings-more plane ends from n share.order))
-        (stops_put seat n s.stops.items (asked_of plane (position_at plane.network n) ends all_kinds) is.stops before.ends (endings_of (ends_at plane ends) (numbers from n)) share.endings));
+        (stops_put seat n s.stops.items (ends_at plane ends n) is.stops before.ends (endings_of (ends_at plane ends) (numbers from n)) share.endings));
   }
 
   -- each number that a flow is put to has its list
   pub within_share : All (λ t. t < length before.into.items) s.row.touched.items
   within_share = subst (λ k. All (λ t. t < k) s.row.touched.items) (sym share.as_many) is.row.within
-
--- what a share is stays known
-pub share_still : (v w : SeatView) → Keeps v w → (plane : DataPlane) (ends : Ends) (a b : ℕ) (share : Share) → IsShare v plane ends a b share → IsShare w plane ends a b share
-share_still v w keeps plane ends a b share s = record {
-  order = s.order;
-  as_many = s.as_many;
-  rows = record { each = λ t d less. flows-kept v w keeps (slice_index_or share.into.items t d) (real (edges_to (edge_at plane) (numbers a b) t)) (s.rows.each t d less) };
-  endings = flows-kept v w keeps share.ends (real (endings_of (ends_at plane ends) (numbers a b))) s.endings;
-}

@@ -10,7 +10,8 @@ use Rattle.rc_base.specs.Prefix.{Cidr, IsCidr, prefix_cmp}
 use Rattle.rc_base.specs.declared.position.IfId.{IfId}
 use Rattle.rc_config.specs.Down.{is_down, prefix_of, prefixes_of}
 use Rattle.rc_config.specs.Interface.{declared_addresses}
-use Rattle.rc_config.specs.Lawful.{IsLawful, IsLawfulFile, IsLawfulInterface}
+use Rattle.rc_config.specs.Lawful.{IsLawful, IsLawfulFile}
+use Rattle.rc_config.specs.LawfulInterface.{IsLawfulInterface}
 use Rattle.rc_config.specs.MaskedAddr.{IsMaskLen}
 use Rattle.rc_config.specs.Members.{interface_at, interfaces_of}
 use Rattle.rc_config.specs.declared.interface.IfAddr.{IfAddr}

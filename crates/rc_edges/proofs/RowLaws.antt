@@ -5,13 +5,13 @@ use Rattle.std.specs.List.{fold, list_any}
 use Rattle.std.proofs.lemmas.Bool.{cases_eq, eq-eqb, ne_eqb}
 use Rattle.std.proofs.lemmas.List.{length-replicate}
 use Rattle.std.proofs.lemmas.List.Elements.{All-nil, All-push}
-use Rattle.rc_edges.proofs.FlowLaws.{edges-more, flow-more}
+use Rattle.rc_jobs.proofs.FlowLaws.{edges-more, flow-more}
 use Rattle.rc_edges.proofs.JoinLaws.{may_like, may_or, one_more, take-whole, taken_at}
 use Rattle.rc_edges.proofs.MadeLaws.{get-set}
 use Rattle.rc_edges.specs.Edges.{union}
-use Rattle.rc_edges.specs.Given.{AreFlows, AreFlushed, AreRows, Gives, IsRow, MayGet, MayGive, flows_with, joined, no_header, nothing, numbers, or_none, real, set_at, those, touch_of, touched_with, with_flow, with_sets}
-use Rattle.rc_edges.specs.declared.rows.Row.{Row}
-use Rattle.rc_jobs.specs.Flows.{edges_to}
+use Rattle.rc_edges.specs.Given.{AreFlushed, Gives, IsRow, MayGet, MayGive, flows_with, joined, nothing, or_none, set_at, those, touch_of, touched_with, with_sets}
+use Rattle.rc_edges.specs.declared.outgoing.Row.{Row}
+use Rattle.rc_jobs.specs.Flows.{KnowsFlows, edges_to, no_header, real}
 use Rattle.rc_jobs.specs.declared.flow.Flow.{Flow}
 use Rattle.rc_bdd.specs.Work.{MayCombine}
 use Rattle.rc_nodes.proofs.KnownLaws.{knows_never}
@@ -20,6 +20,7 @@ use Rattle.rc_nodes.specs.declared.words.Ref.{Ref}
 use Rattle.rc_trees.specs.Combine as trees
 use Rattle.rc_trees.specs.Recipes.{Recipe, given, or, parts, tree}
 use Rattle.rc_trees.specs.Trees.{Tree, never}
+use Rattle.rc_jobs.specs.Collecting.{AreRows, numbers, with_flow}
 
 -- ---- sets by number
 
@@ -204,8 +205,8 @@ flushed_rows seat edge start from le into after row f rows is = record {
   each = λ t d less.
       let many = f.as_many in
       let there : t < length into = omega arith in
-      subst (λ fs. AreFlows seat fs (real (edges_to edge (numbers start (from + 1)) t))) (sym (f.each t d there ∙ ap (flows_with row.sets.items from (slice_index_or into t [])) (is.once t there) ∙ one t (set_at row.sets.items t) refl))
-      (subst (λ ps. AreFlows seat (with_flow (slice_index_or into t []) from (or_none (set_at row.sets.items t))) (real ps)) (sym (edges-more edge start from t le))
+      subst (λ fs. KnowsFlows seat fs (real (edges_to edge (numbers start (from + 1)) t))) (sym (f.each t d there ∙ ap (flows_with row.sets.items from (slice_index_or into t [])) (is.once t there) ∙ one t (set_at row.sets.items t) refl))
+      (subst (λ ps. KnowsFlows seat (with_flow (slice_index_or into t []) from (or_none (set_at row.sets.items t))) (real ps)) (sym (edges-more edge start from t le))
       (flow-more seat (slice_index_or into t []) (edges_to edge (numbers start from) t) from (or_none (set_at row.sets.items t)) (rows.each t [] there) (edge from t) (is.sets t there)));
 }
   where

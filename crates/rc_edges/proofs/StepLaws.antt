@@ -14,10 +14,10 @@ use Rattle.rc_edges.specs.Endings.{is_none}
 use Rattle.rc_edges.specs.Ends.{ends_over}
 use Rattle.rc_edges.specs.Sent.{forwarded, leaving, let_out, sent, taken, to_interface, to_subnets, untaken}
 use Rattle.rc_edges.specs.Steps.{device, earlier, fixed, if_so, is_everything, is_first, operation, part_at, parted, second, step_at, step_sets, stop_step, takes_away}
-use Rattle.rc_edges.specs.declared.parts.Part.{Part}
-use Rattle.rc_edges.specs.declared.parts.Part.TheVariants.{Over, LetOut, Taken, Subnets}
-use Rattle.rc_edges.specs.declared.parts.Step.{Step}
-use Rattle.rc_edges.specs.declared.parts.Step.TheVariants.{Forwarded, Sent, Leaving, Stopped, Untaken, Kept, Rest}
+use Rattle.rc_edges.specs.declared.hop_steps.Part.{Part}
+use Rattle.rc_edges.specs.declared.hop_steps.Part.TheVariants.{Over, LetOut, Taken, Subnets}
+use Rattle.rc_edges.specs.declared.hop_steps.Step.{Step}
+use Rattle.rc_edges.specs.declared.hop_steps.Step.TheVariants.{Forwarded, Sent, Leaving, Stopped, Untaken, Kept, Rest}
 use Rattle.rc_nodes.specs.Seats.{TableView, SeatView, SeatKnows}
 use Rattle.rc_nodes.specs.declared.words.Ref.{Ref}
 use Rattle.rc_route.specs.declared.route.Hop.{Hop}

@@ -6,8 +6,9 @@ use Rattle.rc_base.specs.declared.position.IfId.{IfId}
 use Rattle.rc_base.specs.declared.position.Pos.{Pos}
 use Rattle.rc_base.specs.declared.position.Pos.TheVariants.{Own, Entering}
 use Rattle.rc_edges.specs.Edges.{takes, towards, union}
-use Rattle.rc_edges.specs.declared.rows.Row.{Row}
-use Rattle.rc_jobs.specs.Flows.{edges_to, is_something}
+use Rattle.rc_edges.specs.declared.outgoing.Row.{Row}
+use Rattle.rc_jobs.specs.Collecting.{with_flow}
+use Rattle.rc_jobs.specs.Flows.{no_header}
 use Rattle.rc_jobs.specs.declared.flow.Flow.{Flow}
 use Rattle.rc_nodes.specs.Seats.{TableView, SeatView, SeatKnows}
 use Rattle.rc_nodes.specs.declared.words.Ref.{Ref}
@@ -22,9 +23,6 @@ use Rattle.rc_trees.specs.Trees.{Tree, HasNodes}
 use Rattle.rc_walk.specs.Moves.{DataPlane}
 
 -- ---- what one position sends
-
-abbrev pub no_header : Ref
-no_header = record { index = 0 }
 
 -- the set of a number, where there is one
 abbrev pub set_at : List (Option Ref) → ℕ → Option Ref
@@ -122,29 +120,6 @@ given_onto plane q xs x ts t =
     given_by plane q xs t ++ (if is_entry ts (position_at plane.network t) then sets_to plane q (position_at plane.network t) x else [])
 
 -- ---- flows
-
--- each flow is known as what is sent from a position, in order
-abbrev pub AreFlows : SeatView → List Flow → List (ℕ × Tree) → Type 0
-AreFlows seat [] [] = Unit {0}
-AreFlows seat [] (p ∷ ps) = ⊥
-AreFlows seat (f ∷ fs) [] = ⊥
-AreFlows seat (f ∷ fs) (p ∷ ps) = (f.from ≡ p.0) × SeatKnows seat f.set.index p.1 × AreFlows seat fs ps
-
--- a set that may hold some header stands behind the others
-abbrev pub with_flow : List Flow → ℕ → Ref → List Flow
-with_flow flows from set = if set.index == 0 then flows else flows ++ record { from = from; set = set } ∷ []
-
--- those that let some header pass
-abbrev pub real : List (ℕ × Tree) → List (ℕ × Tree)
-real sent = filter (λ f. is_something f.1) sent
-
--- the numbers from one up to another
-abbrev pub numbers : ℕ → ℕ → List ℕ
-numbers start end = range_with_len start (end - start)
-
--- to each position the edges from the positions of some numbers are known, where they let some header pass
-pub record AreRows (seat : SeatView) (into : List (List Flow)) (edge : ℕ → ℕ → Tree) (start end : ℕ) : Type 0 where
-  pub each : (t : ℕ) (d : List Flow) → t < length into → AreFlows seat (slice_index_or into t d) (real (edges_to edge (numbers start end) t))
 
 -- behind some flows those of the sets of some numbers
 abbrev pub flows_with : List (Option Ref) → ℕ → List Flow → List ℕ → List Flow

@@ -1,7 +1,7 @@
 -- The parts of a hop that were made.
 use Rattle.std.specs.Prelude.{ℕ, List, Option, Some, None, slice_get, unwrap_or}
-use Rattle.rc_edges.specs.declared.parts.Part.{Part}
-use Rattle.rc_edges.specs.declared.parts.Part.TheVariants.{Over, LetOut, Taken, Subnets}
+use Rattle.rc_edges.specs.declared.hop_steps.Part.{Part}
+use Rattle.rc_edges.specs.declared.hop_steps.Part.TheVariants.{Over, LetOut, Taken, Subnets}
 use Rattle.rc_edges.specs.declared.router_sets.HopParts.{HopParts}
 use Rattle.rc_nodes.specs.declared.words.Ref.{Ref}
 

@@ -7,7 +7,7 @@ use Rattle.rc_base.specs.declared.position.Pos.{Pos}
 use Rattle.rc_edges.specs.HopParts.{part_in, parts_of}
 use Rattle.rc_edges.specs.Sent.{forwarded, hops_at, to_router}
 use Rattle.rc_edges.specs.Steps.{fixed}
-use Rattle.rc_edges.specs.declared.parts.Part.{Part}
+use Rattle.rc_edges.specs.declared.hop_steps.Part.{Part}
 use Rattle.rc_edges.specs.declared.router_sets.RouterSets.{RouterSets}
 use Rattle.rc_nodes.specs.Seats.{TableView, SeatView, IsSeatOf, SeatKnows}
 use Rattle.rc_nodes.specs.declared.words.Ref.{Ref}

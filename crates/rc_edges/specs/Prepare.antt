@@ -17,9 +17,13 @@ use Rattle.rc_walk.specs.Moves.{DataPlane}
 abbrev pub edge_at : DataPlane → ℕ → ℕ → Tree
 edge_at plane p q = tree (edge plane (position_at plane.network p) (position_at plane.network q))
 
+-- the trees of some endings at a position
+abbrev pub end_trees : DataPlane → Pos → List Kind → List Tree
+end_trees plane q ks = map (λ k. tree (end plane q k)) ks
+
 -- the trees of the endings asked for at a place
 abbrev pub ends_at : DataPlane → Ends → ℕ → List Tree
-ends_at plane ends p = map (λ k. tree (end plane (position_at plane.network p) k)) (kinds_of ends)
+ends_at plane ends p = end_trees plane (position_at plane.network p) (kinds_of ends)
 
 -- the parts of each edge from a position may be made
 pub record MaySend (may : List Tree) (plane : DataPlane) (q : Pos) : Type 0 where

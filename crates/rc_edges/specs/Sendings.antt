@@ -6,9 +6,10 @@ use Rattle.rc_config.specs.Members.{positions}
 use Rattle.rc_edges.specs.Edges.{edge}
 use Rattle.rc_edges.specs.Given.{IsRow}
 use Rattle.rc_edges.specs.Made.{IsMade}
-use Rattle.rc_base.specs.Endings.{all_kinds}
-use Rattle.rc_edges.specs.Stops.{AreKnown, asked_of}
-use Rattle.rc_edges.specs.declared.sending.Sending.{Sending}
+use Rattle.rc_edges.specs.Prepare.{end_trees}
+use Rattle.rc_edges.specs.Query.{kinds_of}
+use Rattle.rc_edges.specs.Stops.{AreKnown}
+use Rattle.rc_edges.specs.declared.position_sets.Sending.{Sending}
 use Rattle.rc_nodes.specs.Seats.{TableView, SeatView}
 use Rattle.rc_places.specs.Places.{position_at}
 use Rattle.rc_trees.specs.Recipes.{tree}
@@ -18,4 +19,4 @@ use Rattle.rc_walk.specs.Moves.{DataPlane}
 pub record IsSending (nodes : TableView) (seat : SeatView) (plane : DataPlane) (ends : Ends) (q : Pos) (s : Sending) : Type 0 where
   pub made : IsMade nodes seat plane q s.made
   pub row : IsRow seat s.row (length (positions plane.network)) (λ t. tree (edge plane q (position_at plane.network t)))
-  pub stops : AreKnown seat s.stops.items (asked_of plane q ends all_kinds)
+  pub stops : AreKnown seat s.stops.items (end_trees plane q (kinds_of ends))

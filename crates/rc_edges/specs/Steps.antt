@@ -8,10 +8,10 @@ use Rattle.rc_base.specs.declared.position.Pos.TheVariants.{Own, Entering}
 use Rattle.rc_config.specs.declared.interface.Direction.TheVariants.{Out}
 use Rattle.rc_edges.specs.Endings.{is_none}
 use Rattle.rc_edges.specs.Sent.{forwarded, leaving, let_out, passing_at, sent, taken, to_subnets}
-use Rattle.rc_edges.specs.declared.parts.Part.{Part}
-use Rattle.rc_edges.specs.declared.parts.Part.TheVariants.{Over, LetOut, Taken, Subnets}
-use Rattle.rc_edges.specs.declared.parts.Step.{Step}
-use Rattle.rc_edges.specs.declared.parts.Step.TheVariants.{Forwarded, Sent, Leaving, Stopped, Untaken, Kept, Rest}
+use Rattle.rc_edges.specs.declared.hop_steps.Part.{Part}
+use Rattle.rc_edges.specs.declared.hop_steps.Part.TheVariants.{Over, LetOut, Taken, Subnets}
+use Rattle.rc_edges.specs.declared.hop_steps.Step.{Step}
+use Rattle.rc_edges.specs.declared.hop_steps.Step.TheVariants.{Forwarded, Sent, Leaving, Stopped, Untaken, Kept, Rest}
 use Rattle.rc_route.specs.declared.route.Hop.{Hop}
 use Rattle.rc_route.specs.declared.route.Hop.TheVariants.{Null, Dev, Via}
 use Rattle.rc_sets.specs.Regions.{hop_set}

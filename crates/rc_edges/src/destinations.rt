@@ -11,8 +11,8 @@ ghost use Rattle.rc_trees.specs.Recipes.{parts, tree, union_of};
 ghost use Rattle.rc_trees.specs.Trees.{HasNodes};
 ghost use Rattle.rc_walk.specs.Moves.{router_of};
 
+use crate::hop_sets::Site;
 use crate::neighbors::linked_of;
-use crate::sent::Site;
 use rc_base::{Addr, IfId, Prefix};
 use rc_bdd::{SetError, Work};
 use rc_nodes::{May, NEVER, Nodes, Ref};

@@ -18,9 +18,9 @@ ghost use Rattle.rc_walk.specs.Moves.{fib_of, router_of};
 
 use crate::edges::hop_at;
 use crate::groups::let_in_set;
-use crate::parts::{Part, Step};
+use crate::hop_sets::{HopAt, Site, forwarded_set, step_set};
+use crate::hop_steps::{Part, Step};
 use crate::router_sets::{RouterSets, over_set, owned_set, part_set};
-use crate::sent::{HopAt, Site, forwarded_set, step_set};
 use rc_base::{Addr, IfId, Kind};
 use rc_bdd::{SetError, Work};
 use rc_nodes::{ALWAYS, May, NEVER, Nodes, Ref};

@@ -1,17 +1,20 @@
 //! All edges and endings of a plane.
 ghost use Rattle.std.specs.Prelude.{◌≡◌, ◌≤◌, IfOk, IfErr, length};
+ghost use Rattle.rc_base.specs.declared.ending.Ends.{Ends as Asked};
 ghost use Rattle.rc_bdd.specs.Work.{IsCause};
 ghost use Rattle.rc_config.specs.Lawful.{IsLawful};
 ghost use Rattle.rc_config.specs.Members.{positions};
 ghost use Rattle.rc_edges.specs.Prepare.{MayPrepare, edge_at, ends_at};
+ghost use Rattle.rc_edges.specs.Shares.{IsShare};
 ghost use Rattle.rc_jobs.specs.Flows.{IsPrepared};
-ghost use Rattle.rc_nodes.specs.Seats.{IsSeatOf, Keeps};
+ghost use Rattle.rc_nodes.specs.Seats.{IsSeatOf, Keeps, SeatView};
 ghost use Rattle.rc_topology.specs.Ports.{links_of};
+ghost use Rattle.rc_walk.specs.Moves.{DataPlane};
 
-use crate::sharing::Sharing;
+use crate::edges_job::Sharing;
 use rc_base::Ends;
 use rc_bdd::SetError;
-use rc_jobs::{Prepared, by_workers};
+use rc_jobs::{Collected, Prepared, by_workers};
 use rc_nodes::{May, Nodes, Seat};
 use rc_outside::OpenGate;
 use rc_places::Places;
@@ -35,19 +38,33 @@ fn workers_for(workers: u32, positions: usize) -> u32
     workers
 }
 
-/// The edges of a plane that let some header pass, and the endings asked for that some header may have, made by workers at once.
+/// The sets of a query, of the share of all positions, if it was made.
+fn prepared_of(share: Result<Collected, SetError>) -> Result<Prepared, SetError>
+    ensures prepared { (seat : SeatView) (plane : DataPlane) (ends : Asked) → IfOk share (IsShare seat plane ends 0 (length (positions plane.network))) → IfOk result (IsPrepared seat (edge_at plane) (ends_at plane ends) (length (positions plane.network))) }
+    ensures error { IfErr result (λ e. share ≡ Err e) }
+{
+    match share {
+        Ok(share) => Ok(share.prepared()),
+        Err(error) => Err(error),
+    }
+}
+
+/// The edges of a plane that let some header pass, and the endings asked for that some header may have, made by workers at once. `places`
+/// are those of the plane's network.
 pub fn prepare<R: Threads + Sync, M: May + Send + Sync>(
     rt: &R,
     alloc: Global,
     nodes: &Nodes<M>,
     seat: Seat<M>,
     plane: &Plane<'_>,
+    places: &Places<'_>,
     ends: Ends,
     workers: u32,
 ) -> (Seat<M>, Result<Prepared, SetError>)
     requires seat { IsSeatOf nodes.now seat }
     requires plane { IsLawful plane.now.network }
     requires links { plane.now.links ≡ links_of plane.now.network }
+    requires places { places.now ≡ plane.now.network }
     requires may { MayPrepare nodes.now.may plane.now ends }
     requires some { 1 ≤ workers }
     requires most { workers ≤ 64 }
@@ -56,21 +73,14 @@ pub fn prepare<R: Threads + Sync, M: May + Send + Sync>(
     ensures prepared { IfOk result.1 (IsPrepared result.0 (edge_at plane.now) (ends_at plane.now ends) (length (positions plane.now.network))) }
     ensures cause { IfErr result.1 (IsCause nodes.now result.0) }
 {
-    let places = match Places::of(alloc, plane.network()) {
-        Ok(places) => places,
-        Err(_) => return (seat, Err(SetError::Memory)),
-    };
     let workers = workers_for(workers, places.len());
     let sharing = Sharing {
         plane,
-        places: &places,
+        places,
         ends,
     };
     let (seat, _passed, share) = by_workers(
         rt, alloc, nodes, seat, &sharing, 0, workers, &OpenGate,
     );
-    match share {
-        Ok(share) => (seat, Ok(share.prepared())),
-        Err(error) => (seat, Err(error)),
-    }
+    (seat, prepared_of(share))
 }

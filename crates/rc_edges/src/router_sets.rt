@@ -14,8 +14,8 @@ ghost use Rattle.rc_walk.specs.Moves.{fib_of, router_of};
 
 use crate::destinations::{router_set, subnets_set, taken_set};
 use crate::groups::let_out_set;
-use crate::parts::{Part, device, is_everything};
-use crate::sent::{HopAt, Site};
+use crate::hop_sets::{HopAt, Site};
+use crate::hop_steps::{Part, device, is_everything};
 use rc_base::{Items, RouterId};
 use rc_bdd::{SetError, Work};
 use rc_fib::Entry;

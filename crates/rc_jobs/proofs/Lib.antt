@@ -1,1 +1,3 @@
 mod ShareLaws
+pub mod FlowLaws
+pub mod CollectLaws

@@ -1,5 +1,5 @@
 -- Causes that stay, and two shares as one.
-use Rattle.std.proofs.Common.{◌≡◌, ℕ, Result, Ok, Err, IfOk, IfErr}
+use Rattle.std.proofs.Common.{ℕ, Result, Ok, Err, IfOk, IfErr}
 use Rattle.std.proofs.lemmas.Result.{IfOk-weaker}
 use Rattle.rc_nodes.specs.Seats.{TableView, SeatView, IsSeatOf, Keeps, IsFull}
 use Rattle.rc_bdd.specs.Work.{IsCause}

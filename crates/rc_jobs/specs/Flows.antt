@@ -1,7 +1,8 @@
 -- What positions send to one another and what may end at them, as trees, and what a seat knows of it. Positions are numbers from 0 on.
-use Rattle.std.specs.Prelude.{◌≡◌, ℕ, ◌<◌, Bool, true, false, List, length, map, filter, flat_map, slice_index_or}
+use Rattle.std.specs.Prelude.{◌≡◌, ℕ, ◌<◌, Bool, true, false, List, [], ◌∷◌, length, map, filter, flat_map, slice_index_or}
 use Rattle.std.specs.List.{range_with_len}
 use Rattle.rc_nodes.specs.Seats.{SeatView, SeatKnows}
+use Rattle.rc_nodes.specs.declared.words.Ref.{Ref}
 use Rattle.rc_trees.specs.Trees.{Tree, never, always, node}
 use Rattle.rc_jobs.specs.declared.flow.Flow.{Flow}
 use Rattle.rc_jobs.specs.declared.flow.Prepared.{Prepared}
@@ -24,21 +25,33 @@ is_something never = false
 is_something always = true
 is_something (node v low high) = true
 
+-- those that let some header pass
+abbrev pub real : List (ℕ × Tree) → List (ℕ × Tree)
+real flows = filter (λ f. is_something f.1) flows
+
 -- the edges to a position that let some header pass
 abbrev pub real_edges_to : (ℕ → ℕ → Tree) → ℕ → ℕ → List (ℕ × Tree)
-real_edges_to edge count q = filter (λ f. is_something f.1) (edges_to edge (positions count) q)
+real_edges_to edge count q = real (edges_to edge (positions count) q)
 
 -- the endings that some header may have
 abbrev pub real_endings : (ℕ → List Tree) → ℕ → List (ℕ × Tree)
-real_endings ends count = filter (λ f. is_something f.1) (endings_of ends (positions count))
+real_endings ends count = real (endings_of ends (positions count))
 
 -- ---- what a seat knows
 
--- the seat knows the flows as sets of these trees, from these positions
-pub record KnowsFlows (seat : SeatView) (flows : List Flow) (through : List (ℕ × Tree)) : Type 0 where
-  pub count : length flows ≡ length through
-  pub from : (i : ℕ) (d : Flow) (e : ℕ × Tree) → i < length flows → (slice_index_or flows i d).from ≡ (slice_index_or through i e).0
-  pub set : (i : ℕ) (d : Flow) (e : ℕ × Tree) → i < length flows → SeatKnows seat (slice_index_or flows i d).set.index (slice_index_or through i e).1
+-- the references of no header and of every header
+abbrev pub no_header : Ref
+no_header = record { index = 0 }
+
+abbrev pub any_header : Ref
+any_header = record { index = 1 }
+
+-- the seat knows the flows as sets of these trees, from these positions, in order
+abbrev pub KnowsFlows : SeatView → List Flow → List (ℕ × Tree) → Type 0
+KnowsFlows seat [] [] = Unit {0}
+KnowsFlows seat [] (p ∷ ps) = ⊥
+KnowsFlows seat (f ∷ fs) [] = ⊥
+KnowsFlows seat (f ∷ fs) (p ∷ ps) = (f.from ≡ p.0) × SeatKnows seat f.set.index p.1 × KnowsFlows seat fs ps
 
 -- it knows the edges to each position that let some header pass
 pub record KnowsEdges (seat : SeatView) (into : List (List Flow)) (edge : ℕ → ℕ → Tree) : Type 0 where

@@ -1,2 +1,4 @@
+pub mod Collecting
 pub mod Flows
+pub mod Kept
 pub mod Shares

@@ -5,10 +5,12 @@
 //! every outcome.
 #![tactic(auto)]
 
+mod collected;
 mod flow;
 mod job;
 mod workers;
 
+pub use collected::{Collected, push_flow};
 pub use flow::{Flow, Prepared};
 pub use job::Job;
 pub use workers::{at_once_or_in_turn, by_workers, in_turn};

@@ -8,10 +8,10 @@ use Rattle.rc_trees.specs.Combine.{and}
 use Rattle.rc_nodes.specs.Seats.{TableView, SeatView, IsSeatOf, SeatKnows}
 use Rattle.rc_nodes.specs.declared.words.Ref.{Ref}
 use Rattle.rc_nodes.proofs.KnownLaws.{known_reduced, knows_always, knows_never}
-use Rattle.rc_jobs.specs.Flows.{KnowsFlows, KnowsEdges, edges_to, positions, real_edges_to}
+use Rattle.rc_jobs.specs.Flows.{KnowsFlows, KnowsEdges, edges_to, positions, real_edges_to, no_header, any_header}
 use Rattle.rc_jobs.specs.declared.flow.Flow.{Flow}
 use Rattle.rc_reach.specs.Rounds.{gathered, IsInside, MayGather}
-use Rattle.rc_reach.specs.Known.{AreSent, MayGatherRefs, IsAfter, any_header, no_header}
+use Rattle.rc_reach.specs.Known.{AreSent, MayGatherRefs, IsAfter}
 use Rattle.rc_reach.proofs.GatherLaws.{AreReduced, gathered_without, may_without}
 use Rattle.rc_reach.proofs.PositionLaws.{edges_all, edges_own}
 use Rattle.rc_reach.proofs.RealLaws.{all_reduced, all_spared, is_real}

@@ -6,16 +6,16 @@ use Rattle.rc_trees.specs.Trees.{Tree, never}
 use Rattle.rc_nodes.specs.Seats.{TableView, SeatView, IsSeatOf}
 use Rattle.rc_nodes.specs.declared.words.Ref.{Ref}
 use Rattle.rc_nodes.proofs.KnownLaws.{known_reduced, knows_never}
-use Rattle.rc_jobs.specs.Flows.{KnowsFlows, endings_of, positions, real_endings}
+use Rattle.rc_jobs.specs.Flows.{KnowsFlows, endings_of, positions, real_endings, no_header}
 use Rattle.rc_jobs.specs.declared.flow.Flow.{Flow}
 use Rattle.rc_reach.specs.Rounds.{gathered, MayGather}
-use Rattle.rc_reach.specs.Known.{KnowsShare, AreSent, MayGatherRefs, no_header}
+use Rattle.rc_reach.specs.Known.{KnowsShare, AreSent, MayGatherRefs}
 use Rattle.rc_reach.proofs.GatherLaws.{AreReduced, gathered_without, may_without}
 use Rattle.rc_reach.proofs.PositionLaws.{endings_all}
 use Rattle.rc_reach.proofs.RealLaws.{all_reduced, all_spared, is_real}
 use Rattle.rc_reach.proofs.Rounding.{known_at}
 
-module _ {nodes : TableView} {seat : SeatView} {refs : List Ref} {flows : List Flow} (ends : ℕ → List Tree) (count : ℕ) (last : ℕ → Tree) (mine : IsSeatOf nodes seat) (sets : KnowsShare seat refs last 0 count) (known : KnowsFlows seat flows (real_endings ends count)) where
+module _ {nodes : TableView} {seat : SeatView} {refs : List Ref} (flows : List Flow) (ends : ℕ → List Tree) (count : ℕ) (last : ℕ → Tree) (mine : IsSeatOf nodes seat) (sets : KnowsShare seat refs last 0 count) (known : KnowsFlows seat flows (real_endings ends count)) where
   abbrev endings : List (ℕ × Tree)
   endings = endings_of ends (positions count)
 

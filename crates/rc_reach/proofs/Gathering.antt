@@ -11,8 +11,10 @@ use Rattle.rc_nodes.specs.declared.words.Ref.{Ref}
 use Rattle.rc_nodes.proofs.KnownLaws.{known_reduced}
 use Rattle.rc_bdd.specs.Work.{MayCombine}
 use Rattle.rc_jobs.specs.declared.flow.Flow.{Flow}
+use Rattle.rc_jobs.proofs.FlowLaws.{as_many_flows, flow_from, flow_set}
 use Rattle.rc_reach.specs.Rounds.{gathered, IsInside, MayGather}
-use Rattle.rc_reach.specs.Known.{AreSent, no_header}
+use Rattle.rc_reach.specs.Known.{AreSent}
+use Rattle.rc_jobs.specs.Flows.{no_header}
 use Rattle.rc_reach.proofs.GatherLaws.{gathered-append, gathered_reduced, gathered_inside, passed, AreReduced}
 
 abbrev no_flow : Flow
@@ -33,10 +35,10 @@ module _ {nodes : TableView} {seat : SeatView} {refs : List Ref} {fresh : List B
   at = slice_index_or through i (0, never)
 
   fits : i < length through
-  fits = let count = sent.knows_flows.count in omega arith
+  fits = let count = as_many_flows seat flows through sent.knows_flows in omega arith
 
   pub source : (d : Flow) → (slice_index_or flows i d).from ≡ at.0
-  source d = sent.knows_flows.from i d (0, never) less
+  source d = flow_from seat flows through sent.knows_flows i d (0, never) less
 
   pub from_set : (d : Flow) → (slice_index_or flows i d).from < length refs
   from_set d = let e = source d in let below : at.0 < length refs = sent.from i (0, never) fits in omega arith
@@ -55,14 +57,14 @@ module _ {nodes : TableView} {seat : SeatView} {refs : List Ref} {fresh : List B
     -- what `and` answers at the seat after it
     pub knows_passed : (after : SeatView) (got : ℕ) (d : Flow) (n : Ref) → ((s t : Tree) → SeatKnows now (slice_index_or refs (slice_index_or flows i d).from n).index s → SeatKnows now (slice_index_or flows i d).set.index t → SeatKnows after got (and s t)) → SeatKnows after got (passed sets at)
     knows_passed after got d n made =
-        made (sets at.0) at.1 (keeps (slice_index_or refs (slice_index_or flows i d).from n).index (sets at.0) (knows_source d n)) (keeps (slice_index_or flows i d).set.index at.1 (sent.knows_flows.set i d (0, never) less))
+        made (sets at.0) at.1 (keeps (slice_index_or refs (slice_index_or flows i d).from n).index (sets at.0) (knows_source d n)) (keeps (slice_index_or flows i d).set.index at.1 (flow_set seat flows through sent.knows_flows i d (0, never) less))
 
     pub may_and : MayGather nodes.may sets start through → (d : Flow) (n : Ref) → MayCombine nodes now and (slice_index_or refs (slice_index_or flows i d).from n).index (slice_index_or flows i d).set.index
     may_and allowed d n = record {
       left = sets at.0;
       right = at.1;
       knows_left = keeps (slice_index_or refs (slice_index_or flows i d).from n).index (sets at.0) (knows_source d n);
-      knows_right = keeps (slice_index_or flows i d).set.index at.1 (sent.knows_flows.set i d (0, never) less);
+      knows_right = keeps (slice_index_or flows i d).set.index at.1 (flow_set seat flows through sent.knows_flows i d (0, never) less);
       allowed = (may_at nodes.may sets start through i (0, never) fits allowed).0;
     }
 
@@ -83,12 +85,12 @@ module _ {nodes : TableView} {seat : SeatView} {refs : List Ref} {fresh : List B
 module _ {nodes : TableView} {seat : SeatView} {refs : List Ref} {fresh : List Bool} {flows : List Flow} {here : ℕ} {sets : ℕ → Tree} {start : Tree} {through : List (ℕ × Tree)} (mine : IsSeatOf nodes seat) (sent : AreSent seat refs fresh flows here sets start through) where
   each_reduced : All (AreReduced sets) through
   each_reduced i d less =
-      let count = sent.knows_flows.count in
+      let count = as_many_flows seat flows through sent.knows_flows in
       let f : Flow = slice_index_or flows i no_flow in
       let e : ℕ × Tree = slice_index_or through i d in
       let fits : i < length flows = omega arith in
       let below : e.0 < length refs = sent.from i d less in
-      let filter : SeatKnows seat f.set.index e.1 = sent.knows_flows.set i no_flow d fits in
+      let filter : SeatKnows seat f.set.index e.1 = flow_set seat flows through sent.knows_flows i no_flow d fits in
       let known : SeatKnows seat (slice_index_or refs e.0 no_header).index (sets (0 + e.0)) = sent.knows_sets.at e.0 no_header below in
       let same : 0 + e.0 ≡ e.0 = omega arith in
       (known_reduced seat mine.sound (slice_index_or refs e.0 no_header).index (sets e.0) (subst (λ n. SeatKnows seat (slice_index_or refs e.0 no_header).index (sets n)) same known), known_reduced seat mine.sound f.set.index e.1 filter)
@@ -96,7 +98,7 @@ module _ {nodes : TableView} {seat : SeatView} {refs : List Ref} {fresh : List B
   -- adds nothing
   pub stays : (i : ℕ) → i < length flows → (d : Flow) → slice_index_or fresh (slice_index_or flows i d).from false ≡ false → gathered sets start (take (i + 1) through) ≡ gathered sets start (take i through)
   stays i less d stale =
-      let fits : i < length through = (let count = sent.knows_flows.count in omega arith) in
+      let fits : i < length through = (let count = as_many_flows seat flows through sent.knows_flows in omega arith) in
       let e : ℕ × Tree = slice_index_or through i (0, never) in
       let from : (slice_index_or flows i d).from ≡ e.0 = source mine sent i less d in
       let before : Tree = gathered sets start (take i through) in
@@ -107,4 +109,4 @@ module _ {nodes : TableView} {seat : SeatView} {refs : List Ref} {fresh : List B
       gathered_more sets start through i (0, never) fits ∙ or-inside before (passed sets e) all (reduced-and (sets e.0) e.1 both.0 both.1) (gathered_inside sets (take i through) start (passed sets e) inside)
 
   pub at_end : (n : ℕ) → n ≡ length flows → gathered sets start (take n through) ≡ gathered sets start through
-  at_end n e = let count = sent.knows_flows.count in let all : length through ≤ n = omega arith in ap (gathered sets start) (take_all n through all)
+  at_end n e = let count = as_many_flows seat flows through sent.knows_flows in let all : length through ≤ n = omega arith in ap (gathered sets start) (take_all n through all)

@@ -20,7 +20,7 @@ use Rattle.rc_nodes.specs.Seats.{TableView, SeatView, IsSeatOf, SeatKnows, Keeps
 use Rattle.rc_places.proofs.PlaceLaws.{number_there}
 use Rattle.rc_places.specs.Places.{number_of, position_at}
 use Rattle.rc_reach.proofs.JoinLaws.{reached-first}
-use Rattle.rc_reach.specs.Kept.{edges_kept, flows_kept}
+use Rattle.rc_jobs.specs.Kept.{edges_kept, flows_kept}
 use Rattle.rc_reach.specs.Reaching.{IsReachingSet}
 use Rattle.rc_reach.specs.Rounds.{reached_at}
 use Rattle.rc_trees.specs.Recipes.{tree}
@@ -35,7 +35,7 @@ place_first plane place there n m is many q less =
 
 -- what was known of the sets of a query is so for good
 pub prepared_kept : (v w : SeatView) → Keeps v w → {edge : ℕ → ℕ → Tree} {ends : ℕ → List Tree} {count : ℕ} {prepared : Prepared} → IsPrepared v edge ends count prepared → IsPrepared w edge ends count prepared
-prepared_kept v w keeps p = record { as_many = p.as_many; edges = edges_kept v w keeps p.edges; endings = flows_kept v w keeps p.endings }
+prepared_kept v w keeps p = record { as_many = p.as_many; edges = edges_kept v w keeps p.edges; endings = flows_kept v w keeps _ _ p.endings }
 
 -- a known result says what reaches
 pub known_reaches : (plane : DataPlane) → IsPlane plane → (place : Pos) → IsPosition plane.network place → (ends : Ends) (nodes : TableView) (seat : SeatView) → IsSeatOf nodes seat → (r : ℕ) → SeatKnows seat r (tree (reaching plane place ends)) → (t : Tree) → SeatKnows seat r t → IsReachingSet plane place ends t

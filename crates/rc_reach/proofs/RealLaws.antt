@@ -6,10 +6,10 @@ use Rattle.rc_trees.specs.Trees.{Tree, never, always, node, IsReduced}
 use Rattle.rc_trees.specs.Combine.{and}
 use Rattle.rc_nodes.specs.Seats.{TableView, SeatView, IsSeatOf}
 use Rattle.rc_nodes.proofs.KnownLaws.{known_reduced}
-use Rattle.rc_jobs.specs.Flows.{KnowsFlows, is_something}
+use Rattle.rc_jobs.specs.Flows.{KnowsFlows, is_something, no_header}
 use Rattle.rc_jobs.specs.declared.flow.Flow.{Flow}
+use Rattle.rc_jobs.proofs.FlowLaws.{as_many_flows, flow_set}
 use Rattle.rc_reach.specs.Rounds.{IsInside}
-use Rattle.rc_reach.specs.Known.{no_header}
 use Rattle.rc_reach.proofs.GatherLaws.{IsSpared, nothing_passes}
 
 abbrev pub no_flow : Flow
@@ -36,8 +36,8 @@ pub all_reduced : (nodes : TableView) (seat : SeatView) → IsSeatOf nodes seat 
 all_reduced nodes seat mine flows through known =
     unfiltered (λ (f : ℕ × Tree). IsReduced f.1) is_real (λ f e. subst IsReduced (sym (nothing_is f.1 e)) tt) through
     (λ i d less.
-    let count = known.count in
-    known_reduced seat mine.sound (slice_index_or flows i no_flow).set.index (slice_index_or (filter is_real through) i d).1 (known.set i no_flow d (omega arith)))
+    let count = as_many_flows seat flows (filter is_real through) known in
+    known_reduced seat mine.sound (slice_index_or flows i no_flow).set.index (slice_index_or (filter is_real through) i d).1 (flow_set seat flows (filter is_real through) known i no_flow d (omega arith)))
 
 -- and what isn't real is inside
 pub all_spared : (sets : ℕ → Tree) (here : Tree) (through : List (ℕ × Tree)) → All (IsSpared sets is_real here) through

@@ -8,7 +8,8 @@ use Rattle.rc_trees.specs.Trees.{Tree}
 use Rattle.rc_nodes.specs.Seats.{TableView, SeatView, IsSeatOf, SeatKnows, Keeps}
 use Rattle.rc_nodes.specs.declared.words.Ref.{Ref}
 use Rattle.rc_nodes.proofs.KnownLaws.{one_known}
-use Rattle.rc_reach.specs.Known.{KnowsSets, KnowsShare, IsAfter, StaysStill, no_header}
+use Rattle.rc_reach.specs.Known.{KnowsSets, KnowsShare, IsAfter, StaysStill}
+use Rattle.rc_jobs.specs.Flows.{no_header}
 use Rattle.rc_reach.specs.Kept.{sets_kept}
 use Rattle.rc_reach.specs.Rounds.{before}
 use Rattle.rc_reach.proofs.StillLaws.{still_later}

@@ -4,7 +4,7 @@ use Rattle.rc_base.specs.declared.position.Pos.{Pos}
 use Rattle.rc_nodes.specs.Seats.{TableView, SeatView, Keeps}
 use Rattle.rc_nodes.specs.declared.words.Ref.{Ref}
 use Rattle.rc_trees.specs.Trees.{Tree}
-use Rattle.rc_jobs.specs.Flows.{KnowsFlows, KnowsEdges}
+use Rattle.rc_jobs.specs.Kept.{edges_kept}
 use Rattle.rc_jobs.specs.declared.flow.Flow.{Flow}
 use Rattle.rc_reach.specs.Known.{KnowsSets, KnowsShare, IsAfter, IsAtHand, MayCome}
 use Rattle.rc_walk.specs.Moves.{DataPlane}
@@ -16,12 +16,6 @@ module _ (v w : SeatView) (keeps : Keeps v w) where
   pub share_kept : {refs : List Ref} {sets : ℕ → Tree} {a b : ℕ} → KnowsShare v refs sets a b → KnowsShare w refs sets a b
   share_kept k = record { count = k.count; each = sets_kept k.each }
 
-  pub flows_kept : {flows : List Flow} {through : List (ℕ × Tree)} → KnowsFlows v flows through → KnowsFlows w flows through
-  flows_kept k = record { count = k.count; from = k.from; set = λ i d e less. keeps _ _ (k.set i d e less) }
-
-  pub edges_kept : {into : List (List Flow)} {edge : ℕ → ℕ → Tree} → KnowsEdges v into edge → KnowsEdges w into edge
-  edges_kept k = record { each = λ q d less. flows_kept (k.each q d less) }
-
   pub after_kept : {refs : List Ref} {fresh : List Bool} {sets : ℕ → ℕ → Tree} {count k : ℕ} → IsAfter v refs fresh sets count k → IsAfter w refs fresh sets count k
   after_kept a = record { as_many = a.as_many; known = sets_kept a.known; marks = a.marks; stale = a.stale }
 
@@ -29,4 +23,4 @@ module _ (v w : SeatView) (keeps : Keeps v w) where
   at_hand_kept stays a = record { ready = stays a.ready; after = after_kept a.after; further = a.further }
 
   pub coming_kept : {nodes : TableView} {plane : DataPlane} {place : Pos} {into : List (List Flow)} → MayCome nodes v plane place into → MayCome nodes w plane place into
-  coming_kept m = record { as_many = m.as_many; edges = edges_kept m.edges; may = m.may }
+  coming_kept m = record { as_many = m.as_many; edges = edges_kept v w keeps m.edges; may = m.may }

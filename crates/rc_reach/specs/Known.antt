@@ -12,12 +12,6 @@ use Rattle.rc_jobs.specs.declared.flow.Flow.{Flow}
 use Rattle.rc_reach.specs.Rounds.{before, IsInside, MayGather, MayRounds}
 use Rattle.rc_walk.specs.Moves.{DataPlane}
 
-abbrev pub no_header : Ref
-no_header = record { index = 0 }
-
-abbrev pub any_header : Ref
-any_header = record { index = 1 }
-
 -- the seat knows the references as the sets of the positions from a on
 pub record KnowsSets (seat : SeatView) (refs : List Ref) (sets : ℕ → Tree) (a : ℕ) : Type 0 where
   pub at : (i : ℕ) (d : Ref) → i < length refs → SeatKnows seat (slice_index_or refs i d).index (sets (a + i))

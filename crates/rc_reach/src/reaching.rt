@@ -28,7 +28,7 @@ use rc_nodes::{May, NEVER, Nodes, Ref, Seat};
 use rc_outside::Gate;
 use rc_places::Places;
 use rc_walk::Plane;
-use std::alloc::{AllocError, AllocGlobal, Global};
+use std::alloc::{AllocGlobal, Global};
 use std::thread::Threads;
 
 /// Whether some ending is asked for.
@@ -43,15 +43,6 @@ fn is_asking(ends: &Ends) -> bool
         || ends.unreachable
         || ends.exits
         || ends.delivered
-}
-
-/// The place of a position in the list of the network's positions.
-fn number_of_place(alloc: Global, plane: &Plane<'_>, place: &Pos) -> Result<usize, AllocError>
-    requires { IsPosition plane.now.network place.now }
-    ensures { IfOk result (λ n. n ≡ number_of plane.now.network place.now) }
-{
-    let places = Places::of(alloc, plane.network())?;
-    Ok(places.number(place))
 }
 
 /// The headers that reach, by the edges and endings that were prepared, from the place of a number. Where these failed it makes nothing.
@@ -98,42 +89,6 @@ fn reach_prepared<R: Threads + Sync, M: May + Send + Sync, G: Gate>(
     (work.into_seat(), made)
 }
 
-/// The set of the headers that reach, without a word on walks.
-fn reach_within<R: Threads + Sync, M: May + Send + Sync, G: Gate>(
-    rt: &R,
-    alloc: Global,
-    plane: &Plane<'_>,
-    place: Pos,
-    ends: Ends,
-    nodes: &Nodes<M>,
-    seat: Seat<M>,
-    workers: u32,
-    gate: &G,
-) -> (Seat<M>, Result<Ref, SetError>)
-    requires lawful { IsLawful plane.now.network }
-    requires links { plane.now.links ≡ links_of plane.now.network }
-    requires place { IsPosition plane.now.network place }
-    requires seat { IsSeatOf nodes.now seat }
-    requires may { HasNodes nodes.now.may (query_nodes plane.now place ends) }
-    requires some { 1 ≤ workers }
-    requires most { workers ≤ 64 }
-    ensures seat { IsSeatOf nodes.now result.0 }
-    ensures keeps { Keeps seat result.0 }
-    ensures set { IfOk result.1 (λ r. SeatKnows result.0 r.index (tree (reaching plane.now place ends))) }
-    ensures cause { IfErr result.1 (IsCause nodes.now result.0) }
-{
-    if !is_asking(&ends) {
-        return (seat, Ok(NEVER));
-    }
-    let Ok(number) = number_of_place(alloc, plane, &place) else {
-        return (seat, Err(SetError::Memory));
-    };
-    let (seat, prepared) = prepare(rt, alloc, nodes, seat, plane, ends, workers);
-    reach_prepared(
-        rt, alloc, plane, place, number, ends, nodes, seat, prepared, workers, gate,
-    )
-}
-
 /// The headers that some loop-free walk brings from a place to one of the endings asked for: the walks are those of rc_walk.
 ///
 /// The workers, from 1 to 64, make the edges and the endings first, and then each round of propagation; each passes the gate once in each
@@ -165,15 +120,16 @@ pub fn reach<R: Threads + Sync + AllocGlobal, M: May + Send + Sync, G: Gate>(
 {
     // Each of its tables is in order.
     let _fibs = plane.fibs();
-    reach_within(
-        rt,
-        rt.alloc(),
-        plane,
-        place,
-        ends,
-        nodes,
-        seat,
-        workers,
-        gate,
+    if !is_asking(&ends) {
+        return (seat, Ok(NEVER));
+    }
+    let alloc = rt.alloc();
+    let Ok(places) = Places::of(alloc, plane.network()) else {
+        return (seat, Err(SetError::Memory));
+    };
+    let number = places.number(&place);
+    let (seat, prepared) = prepare(rt, alloc, nodes, seat, plane, &places, ends, workers);
+    reach_prepared(
+        rt, alloc, plane, place, number, ends, nodes, seat, prepared, workers, gate,
     )
 }

@@ -2,7 +2,8 @@
 ghost use Rattle.std.specs.Prelude.{◌≡◌, ◌==◌, ℕ, ◌+◌, ◌<◌, ◌≤◌, not, false, length, slice_index_or, IfOk, IfErr};
 ghost use Rattle.rc_bdd.specs.Work.{IsCause};
 ghost use Rattle.rc_nodes.specs.Seats.{IsSeatOf, Keeps};
-ghost use Rattle.rc_reach.specs.Known.{IsAfter, KnowsShare, StaysStill, no_header};
+ghost use Rattle.rc_reach.specs.Known.{IsAfter, KnowsShare, StaysStill};
+ghost use Rattle.rc_jobs.specs.Flows.{no_header};
 
 use crate::first::mark;
 use crate::round::Round;

@@ -18,14 +18,14 @@ use Rattle.rc_walk.specs.declared.goal.Goal.{Goal}
 use Rattle.rc_walk.specs.declared.walk.Move.{Move}
 use Rattle.rc_walk.specs.declared.walk.Move.TheVariants.{Next, End}
 use Rattle.rc_walk.specs.Moves.{DataPlane, moves}
-use Rattle.rc_walk.specs.Search.{IsOneOf, IsSearch, IsFirstEnd, NothingEnds, Lead}
+use Rattle.rc_walk.specs.Search.{IsSearch, IsFirstEnd, NothingEnds, Lead}
 use Rattle.rc_walk.specs.Goals.{is_met, is_met_by}
 use Rattle.rc_walk.specs.Searching.{position_of, by_with, found_with, from_with, AreLinked, Entry, IsLed, IsUnderWay, WaysBack, at_first, further, leads_to, meets_by}
 use Rattle.rc_walk.specs.Walks.{stands_in, last_position}
 use Rattle.rc_walk.proofs.BoundLaws.{entries, steps_enter}
 use Rattle.rc_walk.proofs.ChoiceLaws.{Along, reverse_more, next_at, in_moves}
 use Rattle.rc_walk.proofs.PositionLaws.{same_position-Decides, same_position-laws}
-use Rattle.rc_walk.proofs.SearchLaws.{goes_on, waits, comes_to_hand, ends_here, nothing_ends, sets_out}
+use Rattle.rc_walk.proofs.SearchLaws.{as_first, as_later, first_or_later, none_of_none, goes_on, waits, comes_to_hand, ends_here, nothing_ends, sets_out}
 
 -- ---- lists
 
@@ -68,23 +68,23 @@ get_past (y ∷ xs) zero long = absurd (let wrong : ⊥ = omega arith in wrong)
 get_past (y ∷ xs) (suc i) long = get_past xs i (omega arith)
 
 -- a position that stands among those of the entries is that of one of them
-stood : (all : List Entry) (t : Pos) → stands_in (map spot all) t ≡ true → (e : Entry) × IsOneOf all e × (e.0 ≡ t)
+stood : (all : List Entry) (t : Pos) → stands_in (map spot all) t ≡ true → (e : Entry) × Contains all e × (e.0 ≡ t)
 stood [] t there = absurd (cc)
 stood (x ∷ all) t there = by (same_position t x.0) refl there (stood all t)
   where
-    by : (b : Bool) → same_position t x.0 ≡ b → (b || stands_in (map spot all) t) ≡ true → (stands_in (map spot all) t ≡ true → (e : Entry) × IsOneOf all e × (e.0 ≡ t)) → (e : Entry) × IsOneOf (x ∷ all) e × (e.0 ≡ t)
-    by true same there rest = (x, inl refl, sym ((same_position-Decides t x.0).0 same))
-    by false same there rest = let (e, is, at) = rest there in (e, inr is, at)
+    by : (b : Bool) → same_position t x.0 ≡ b → (b || stands_in (map spot all) t) ≡ true → (stands_in (map spot all) t ≡ true → (e : Entry) × Contains all e × (e.0 ≡ t)) → (e : Entry) × Contains (x ∷ all) e × (e.0 ≡ t)
+    by true same there rest = (x, as_first x all, sym ((same_position-Decides t x.0).0 same))
+    by false same there rest = let (e, is, at) = rest there in (e, as_later x all e is, at)
 
-apart : (all : List Entry) (t : Pos) → stands_in (map spot all) t ≡ false → (e : Entry) → IsOneOf all e → e.0 ≡ t → ⊥
-apart [] t none e is at = absurd is
+apart : (all : List Entry) (t : Pos) → stands_in (map spot all) t ≡ false → (e : Entry) → Contains all e → e.0 ≡ t → ⊥
+apart [] t none e is at = absurd (none_of_none e is)
 apart (x ∷ all) t none e is at = by (same_position t x.0) refl none (apart all t)
   where
-    by : (b : Bool) → same_position t x.0 ≡ b → (b || stands_in (map spot all) t) ≡ false → (stands_in (map spot all) t ≡ false → (f : Entry) → IsOneOf all f → f.0 ≡ t → ⊥) → ⊥
+    by : (b : Bool) → same_position t x.0 ≡ b → (b || stands_in (map spot all) t) ≡ false → (stands_in (map spot all) t ≡ false → (f : Entry) → Contains all f → f.0 ≡ t → ⊥) → ⊥
     by true same none rest = absurd (cc)
     by false same none rest = ⊎_elim
         (λ first. let own : same_position t x.0 ≡ true = (same_position-Decides t x.0).1 (sym at ∙ ap spot (sym first)) in absurd (let wrong : ⊥ = cc (own, same) in wrong))
-        (λ later. rest none e later at) is
+        (λ later. rest none e later at) (first_or_later x all e is)
 
 abbrev pub no_entry : Pos → Entry
 no_entry start = (start, [])
@@ -158,7 +158,7 @@ module _ {plane : DataPlane} {h : Header} {goal : Goal} {start : Pos} where
     Later found' from' by' = (w : IsUnderWay plane h goal start found' from' by' place (suc c)) × (w.here ≡ u.here)
 
     -- one that leads nowhere new
-    stays : meets_by plane h goal u.here.0 c ≡ false → ((t : Pos) → leads_to plane h u.here.0 c ≡ Some t → (e : Entry) × IsOneOf all e × (e.0 ≡ t)) → Later found from by
+    stays : meets_by plane h goal u.here.0 c ≡ false → ((t : Pos) → leads_to plane h u.here.0 c ≡ Some t → (e : Entry) × Contains all e × (e.0 ≡ t)) → Later found from by
     stays quiet known = (
       record {
         done = u.done;

@@ -1,5 +1,5 @@
 -- A breadth-first search for an ending that is asked for, in any graph.
-use Rattle.std.specs.Prelude.{◌≡◌, ℕ, ◌<◌, ◌⊎◌, Bool, true, false, List, [], ◌∷◌, ◌++◌, Option, Some}
+use Rattle.std.specs.Prelude.{◌≡◌, ℕ, ◌<◌, ◌⊎◌, Bool, true, false, List, [], ◌∷◌, ◌++◌, Option, Some, Contains}
 
 -- Here choices are listed the last one first. Fewer come before more; of as many, the first of those taken that differ decide.
 abbrev pub PrecedeBack : List ℕ → List ℕ → Type 0
@@ -10,10 +10,6 @@ PrecedeBack (c ∷ cs) (d ∷ ds) = PrecedeBack cs ds ⊎ ((cs ≡ ds) × (c < d
 
 abbrev pub AreAtMost : List ℕ → List ℕ → Type 0
 AreAtMost cs ds = PrecedeBack cs ds ⊎ (cs ≡ ds)
-
-abbrev pub IsOneOf : {A : Type 0} → List A → A → Type 0
-IsOneOf [] x = ⊥
-IsOneOf (y ∷ ys) x = (y ≡ x) ⊎ IsOneOf ys x
 
 -- a graph by choices: where each leads on, and which ends as asked
 module _ {P : Type 0} (next : P → ℕ → Option P) (ends : P → ℕ → Bool) (start : P) where
@@ -40,26 +36,26 @@ module _ {P : Type 0} (next : P → ℕ → Option P) (ends : P → ℕ → Bool
 
   -- a position is found by choices no later than these
   abbrev pub IsFound : List (P × List ℕ) → List ℕ → P → Type 0
-  IsFound found choices p = (e : P × List ℕ) × IsOneOf found e × (e.0 ≡ p) × AreAtMost e.1 choices
+  IsFound found choices p = (e : P × List ℕ) × Contains found e × (e.0 ≡ p) × AreAtMost e.1 choices
 
   abbrev pub all_found : List (P × List ℕ) → P × List ℕ → List (P × List ℕ) → List (P × List ℕ)
   all_found done here rest = done ++ here ∷ rest
 
   abbrev pub IsInOrder : List (P × List ℕ) → Type 0
   IsInOrder [] = Unit {0}
-  IsInOrder (e ∷ es) = ((f : P × List ℕ) → IsOneOf es f → PrecedeBack e.1 f.1) × IsInOrder es
+  IsInOrder (e ∷ es) = ((f : P × List ℕ) → Contains es f → PrecedeBack e.1 f.1) × IsInOrder es
 
   -- Some positions are done, one is at hand, of whose choices c were looked at, and the rest waits in order. With each position
   -- stand the choices that led to it.
   pub record IsSearch (done : List (P × List ℕ)) (here : P × List ℕ) (rest : List (P × List ℕ)) (c : ℕ) : Type 0 where
-    pub lead : (e : P × List ℕ) → IsOneOf (all_found done here rest) e → Lead e.1 e.0
-    pub begun : IsOneOf (all_found done here rest) (start, [])
-    pub no_end : (e : P × List ℕ) → IsOneOf done e → (d : ℕ) → ends e.0 d ≡ false
-    pub closed : (e : P × List ℕ) → IsOneOf done e → (d : ℕ) (t : P) → next e.0 d ≡ Some t → IsFound (all_found done here rest) (d ∷ e.1) t
+    pub lead : (e : P × List ℕ) → Contains (all_found done here rest) e → Lead e.1 e.0
+    pub begun : Contains (all_found done here rest) (start, [])
+    pub no_end : (e : P × List ℕ) → Contains done e → (d : ℕ) → ends e.0 d ≡ false
+    pub closed : (e : P × List ℕ) → Contains done e → (d : ℕ) (t : P) → next e.0 d ≡ Some t → IsFound (all_found done here rest) (d ∷ e.1) t
     pub no_end_here : (d : ℕ) → d < c → ends here.0 d ≡ false
     pub closed_here : (d : ℕ) (t : P) → d < c → next here.0 d ≡ Some t → IsFound (all_found done here rest) (d ∷ here.1) t
-    pub earlier : (e : P × List ℕ) → IsOneOf done e → PrecedeBack e.1 here.1
+    pub earlier : (e : P × List ℕ) → Contains done e → PrecedeBack e.1 here.1
     pub in_order : IsInOrder (here ∷ rest)
-    pub bound : (e : P × List ℕ) → IsOneOf (all_found done here rest) e → PrecedeBack e.1 (c ∷ here.1)
-    pub once : (e f : P × List ℕ) → IsOneOf (all_found done here rest) e → IsOneOf (all_found done here rest) f → e.0 ≡ f.0 → e ≡ f
-    pub parents : (e : P × List ℕ) → IsOneOf rest e → (w : List ℕ) × (d : ℕ) × (e.1 ≡ d ∷ w) × AreAtMost w here.1
+    pub bound : (e : P × List ℕ) → Contains (all_found done here rest) e → PrecedeBack e.1 (c ∷ here.1)
+    pub once : (e f : P × List ℕ) → Contains (all_found done here rest) e → Contains (all_found done here rest) f → e.0 ≡ f.0 → e ≡ f
+    pub parents : (e : P × List ℕ) → Contains rest e → (w : List ℕ) × (d : ℕ) × (e.1 ≡ d ∷ w) × AreAtMost w here.1

@@ -1,4 +1,4 @@
-use Rattle.std.proofs.Common.{ap, sym, ◌∙◌, ◌∷◌, ◌++◌, [], map}
+use Rattle.std.proofs.Common.{ap, ◌∙◌, ◌∷◌, ◌++◌, [], map}
 use Rattle.rc_topology.specs.declared.port.PortAddr.{PortAddr}
 use Rattle.rc_edges.proofs.JoinLaws.{take-whole}
 use Rattle.rc_edges.proofs.PieceLaws.{mapped_more}

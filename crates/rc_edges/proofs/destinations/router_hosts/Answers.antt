@@ -1,4 +1,4 @@
-use Rattle.std.proofs.Common.{ap, sym, ◌∙◌, ◌++◌, map}
+use Rattle.std.proofs.Common.{ap, ◌∙◌, ◌++◌, map}
 use Rattle.rc_base.specs.Prefix.{prefix_at}
 use Rattle.rc_edges.specs.Made.{hosts_by_port}
 use Rattle.rc_edges.proofs.PieceLaws.{hosts_more}

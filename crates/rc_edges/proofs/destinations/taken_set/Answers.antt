@@ -1,6 +1,6 @@
-use Rattle.std.proofs.Common.{sym, ap, ◌∙◌, ◌≡◌}
+use Rattle.std.proofs.Common.{sym, ap, ◌∙◌}
 use Rattle.rc_edges.specs.Sent.{taken, to_interface}
-use Rattle.rc_trees.specs.Recipes.{Recipe, union_of}
+use Rattle.rc_trees.specs.Recipes.{union_of}
 use Rattle.rc_edges.proofs.PieceLaws.{taken_is}
 use Rattle.rc_edges.proofs.JoinLaws.{known_like, may_like}
 use Rattle.rc_edges.proofs.destinations.taken_set.Goals as goal

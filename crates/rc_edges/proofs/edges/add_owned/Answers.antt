@@ -4,7 +4,7 @@ use Rattle.rc_edges.proofs.JoinLaws.{may_and, operated, piece}
 use Rattle.rc_edges.proofs.MadeLaws.{made_kept, whenever}
 use Rattle.rc_edges.specs.Sent.{to_interface}
 use Rattle.rc_edges.specs.Steps.{step_at}
-use Rattle.rc_edges.specs.declared.parts.Step.TheVariants.{Leaving}
+use Rattle.rc_edges.specs.declared.hop_steps.Step.TheVariants.{Leaving}
 use Rattle.rc_trees.proofs.PartLaws.{and-first, and-second}
 use Rattle.rc_trees.specs.Combine as trees
 use Rattle.rc_trees.specs.Recipes as recipes

@@ -1,4 +1,4 @@
-use Rattle.std.proofs.Common.{ap, sym, subst}
+use Rattle.std.proofs.Common.{sym, subst}
 use Rattle.rc_edges.proofs.JoinLaws.{known_like, may_like, may_and, operated, piece}
 use Rattle.rc_edges.proofs.MadeLaws.{made_kept, whenever}
 use Rattle.rc_edges.proofs.UseLaws.{accepted_is}
@@ -11,7 +11,7 @@ use Rattle.rc_trees.specs.Combine as trees
 use Rattle.rc_trees.specs.Recipes as recipes
 use Rattle.rc_trees.specs.Recipes.{parts, tree}
 use Rattle.rc_trees.specs.Trees.{HasNodes}
-use Rattle.rc_walk.specs.Moves.{fib_of, router_of}
+use Rattle.rc_walk.specs.Moves.{router_of}
 use Rattle.rc_edges.proofs.endings.accepted_set.Goals as goal
 
 pub let_in_set-requires-clause-may : goal.let_in_set-requires-clause-may

@@ -1,4 +1,4 @@
-use Rattle.std.proofs.Common.{◌≡◌, ap, sym, ◌∙◌, subst, take, Some, slice_get, ◌+◌, ◌≤◌, length, arith}
+use Rattle.std.proofs.Common.{◌≡◌, ap, sym, ◌∙◌, subst, take, Some, slice_get, ◌≤◌, length, arith}
 use Rattle.rc_edges.proofs.EndLaws.{without_may, without_next, without-uses}
 use Rattle.rc_edges.proofs.JoinLaws.{may_minus, piece, take-whole}
 use Rattle.rc_edges.proofs.MadeLaws.{made_kept}

@@ -1,8 +1,7 @@
-use Rattle.std.proofs.Common.{ℕ, List, ap, sym, subst}
+use Rattle.std.proofs.Common.{ℕ, List, sym, subst}
 use Rattle.rc_edges.proofs.JoinLaws.{known_like, may_like, may_and, operated, piece}
 use Rattle.rc_edges.proofs.MadeLaws.{made_kept, whenever}
 use Rattle.rc_edges.proofs.UseLaws.{sent_is}
-use Rattle.rc_edges.specs.Made.{IsMade}
 use Rattle.rc_edges.specs.Sent.{forwarded, sent}
 use Rattle.rc_route.specs.declared.route.Hop.TheVariants.{Null}
 use Rattle.rc_sets.specs.Regions.{hop_set}

@@ -4,9 +4,8 @@ use Rattle.rc_edges.specs.Edges.{union}
 use Rattle.rc_edges.specs.Ends.{ends_over}
 use Rattle.rc_trees.specs.Recipes.{tree}
 use Rattle.rc_edges.specs.Made.{IsMade}
-use Rattle.rc_edges.specs.Sent.{forwarded, hops_at}
+use Rattle.rc_edges.specs.Sent.{hops_at}
 use Rattle.rc_nodes.specs.Seats.{Keeps, SeatKnows}
-use Rattle.rc_walk.specs.Moves.{fib_of, router_of}
 use Rattle.rc_edges.proofs.endings.over_hops_set.Given as goal
 
 abbrev pub invariant-loop-index : goal.invariant-loop-index

@@ -1,4 +1,3 @@
-use Rattle.std.proofs.Common.{refl}
 use Rattle.rc_edges.proofs.GroupLaws.{everything, no_line}
 use Rattle.rc_sets.specs.AccessLists.{group_set}
 use Rattle.rc_edges.proofs.groups.list_set.Goals as goal

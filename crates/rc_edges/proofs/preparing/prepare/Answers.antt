@@ -1,19 +1,25 @@
-use Rattle.std.proofs.Common.{rules, ◌≡◌, ◌≤◌, length, ap, arith}
+use Rattle.std.proofs.Common.{◌≡◌, length, IfOk, ap, subst, arith}
+use Rattle.std.proofs.lemmas.Result.{IfErr-at_err, IfErr-weaker}
+use Rattle.rc_bdd.specs.Work.{IsCause}
 use Rattle.rc_config.specs.Members.{positions}
 use Rattle.rc_places.proofs.PlaceLaws.{few_positions}
-use Rattle.rc_edges.proofs.ShareLaws.{share_prepared}
 use Rattle.rc_edges.specs.Shares.{IsShare}
 use Rattle.rc_edges.proofs.preparing.prepare.Goals as goal
 
 pub by_workers-seat-requires-clause-few : goal.by_workers-seat-requires-clause-few
 by_workers-seat-requires-clause-few g c κs within =
     let few = few_positions c.args.plane.now.network c.requires.plane in
-    let is : c.in-Ok.places ≡ c.args.plane.now.network = search rules in
-    let same = ap (λ n. length (positions n)) is in
+    let same = ap (λ n. length (positions n)) c.requires.places in
     omega arith
 
-pub returns-in-Ok-share-clause-prepared : goal.returns-in-Ok-share-clause-prepared
-returns-in-Ok-share-clause-prepared g c =
-    let is : c.in-Ok.places ≡ c.args.plane.now.network = search rules in
-    let made : IsShare c.by_workers-seat.result.0 c.args.plane.now c.args.ends 0 (length (positions c.in-Ok.places)) c.in-Ok-share.share = search rules in
-    share_prepared c.by_workers-seat.result.0 c.args.plane.now c.args.ends (length (positions c.in-Ok.places)) (ap (λ n. length (positions n)) is) c.in-Ok-share.share c.prepared.result c.prepared.ensures.0 c.prepared.ensures.1 made
+pub returns-clause-prepared : goal.returns-clause-prepared
+returns-clause-prepared g c =
+    let plane = c.args.plane.now in
+    let seat = c.by_workers-seat.result.0 in
+    c.prepared_of.ensures.prepared seat plane c.args.ends
+    (subst (λ net. IfOk c.by_workers-seat.result.2 (IsShare seat plane c.args.ends 0 (length (positions net)))) c.requires.places c.by_workers-seat.ensures.made)
+
+pub returns-clause-cause : goal.returns-clause-cause
+returns-clause-cause g c =
+    IfErr-weaker c.prepared_of.result _ (IsCause c.args.nodes.now c.by_workers-seat.result.0)
+    (λ e is. IfErr-at_err (IsCause c.args.nodes.now c.by_workers-seat.result.0) is c.by_workers-seat.ensures.cause) c.prepared_of.ensures.error

@@ -1,4 +1,4 @@
-use Rattle.std.proofs.Common.{◌≡◌, ℕ, IfOk, subst, arith}
+use Rattle.std.proofs.Common.{◌≡◌, IfOk, subst, arith}
 use Rattle.rc_outside.specs.Shares.{share_start}
 use Rattle.rc_shares.proofs.StartLaws.{start-last}
 use Rattle.rc_jobs.proofs.workers.in_turn.Goals as goal

@@ -2,7 +2,7 @@ use Rattle.std.proofs.Common.{rules, ◌≡◌, ◌==◌, true, false, cond, if�
 use Rattle.std.proofs.lemmas.Bool.Decides.{nat_tests}
 use Rattle.std.proofs.lemmas.List.FromFn.{map-range_with_len_more}
 use Rattle.rc_nodes.specs.declared.words.Ref.{Ref}
-use Rattle.rc_reach.specs.Known.{no_header, any_header}
+use Rattle.rc_jobs.specs.Flows.{no_header, any_header}
 use Rattle.rc_reach.proofs.first.first_sets.Goals as goal
 use Rattle.rc_reach.proofs.first.first_sets.Goals.{then-place-q, else-place-q}
 

@@ -1,6 +1,5 @@
 use Rattle.std.proofs.Common.{◌≡◌, ◌==◌, map, if◌then◌else◌}
-use Rattle.rc_jobs.specs.Flows.{positions}
-use Rattle.rc_reach.specs.Known.{no_header, any_header}
+use Rattle.rc_jobs.specs.Flows.{positions, no_header, any_header}
 use Rattle.rc_reach.proofs.first.first_sets.Given as goal
 
 abbrev pub invariant-loop-q : goal.invariant-loop-q

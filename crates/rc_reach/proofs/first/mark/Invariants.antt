@@ -1,5 +1,5 @@
 use Rattle.std.proofs.Common.{◌≡◌, ◌==◌, ℕ, ◌<◌, ◌≤◌, not, false, slice_index_or}
-use Rattle.rc_reach.specs.Known.{no_header}
+use Rattle.rc_jobs.specs.Flows.{no_header}
 use Rattle.rc_reach.proofs.first.mark.Given as goal
 
 abbrev pub invariant-loop-q : goal.invariant-loop-q

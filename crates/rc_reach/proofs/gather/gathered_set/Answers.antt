@@ -2,7 +2,7 @@ use Rattle.std.proofs.Common.{◌≡◌, length, take, sym, subst, arith}
 use Rattle.rc_nodes.specs.Seats.{SeatKnows, Keeps}
 use Rattle.rc_reach.specs.Rounds.{gathered}
 use Rattle.rc_jobs.specs.declared.flow.Flow.{Flow}
-use Rattle.rc_reach.specs.Known.{no_header}
+use Rattle.rc_jobs.specs.Flows.{no_header}
 use Rattle.rc_reach.proofs.Gathering.{from_fresh, from_set, knows_passed, may_and, may_or, more, stays, at_end}
 use Rattle.rc_reach.proofs.gather.gathered_set.Goals as goal
 use Rattle.rc_reach.proofs.gather.gathered_set.Goals.{then-fresh-flow+in_ok-passed+in_ok-set, else-fresh-flow}

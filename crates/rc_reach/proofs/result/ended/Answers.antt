@@ -23,7 +23,7 @@ gathered_set-requires-clause-may g c =
     let every : c.as_slice-2.result.now ≡ replicate (length c.in-Ok.sets.items) true = search rules in
     let all : c.as_slice-2.result.now ≡ replicate (length c.as_slice.result.now) true = every ∙ ap (λ rs. replicate (length rs) true) (sym is) in
     let flows : KnowsFlows c.args.work.now c.as_slice-3.result.now (real_endings (ends_at plane c.args.ends) n) = rw c.as_slice-3.ensures c.requires.endings in
-    may_gather_ends (ends_at plane c.args.ends) n last c.requires.seat known flows (place_end plane place n refl c.args.ends c.args.nodes.now.may c.requires.may) c.as_slice-2.result.now all
+    may_gather_ends c.as_slice-3.result.now (ends_at plane c.args.ends) n last c.requires.seat known flows (place_end plane place n refl c.args.ends c.args.nodes.now.may c.requires.may) c.as_slice-2.result.now all
 
 pub returns-clause-set : goal.returns-clause-set
 returns-clause-set g c =
@@ -37,7 +37,7 @@ returns-clause-set g c =
     let every : c.as_slice-2.result.now ≡ replicate (length c.in-Ok.sets.items) true = search rules in
     let all : c.as_slice-2.result.now ≡ replicate (length c.as_slice.result.now) true = every ∙ ap (λ rs. replicate (length rs) true) (sym is) in
     let flows : KnowsFlows c.args.work.now c.as_slice-3.result.now (real_endings ends n) = rw c.as_slice-3.ensures c.requires.endings in
-    let sent = ends_sent ends n last c.requires.seat known flows c.as_slice-2.result.now all in
-    let whole = ends_gathered ends n last c.requires.seat known flows ∙ place_result plane place n refl c.args.ends in
+    let sent = ends_sent c.as_slice-3.result.now ends n last c.requires.seat known flows c.as_slice-2.result.now all in
+    let whole = ends_gathered c.as_slice-3.result.now ends n last c.requires.seat known flows ∙ place_result plane place n refl c.args.ends in
     IfOk-weaker c.gathered_set.result _ (λ r. SeatKnows c.gathered_set.new.work r.index (tree (reaching plane place c.args.ends)))
     (λ r h. subst (SeatKnows c.gathered_set.new.work r.index) whole (h _ _ _ sent)) c.gathered_set.ensures.made

@@ -1,7 +1,8 @@
 use Rattle.std.proofs.Common.{◌≡◌, ℕ, ◌+◌, ◌<◌, length, ◌++◌, ◌==◌, false, not, slice_index_or, take, drop, ap, sym, subst, ◌∙◌, arith}
 use Rattle.std.proofs.lemmas.Result.{IfOk-at_ok, IfOk-weaker}
 use Rattle.std.proofs.Math.Seq.{take-append_seam}
-use Rattle.rc_reach.specs.Known.{IsAfter, KnowsShare, no_header}
+use Rattle.rc_reach.specs.Known.{IsAfter, KnowsShare}
+use Rattle.rc_jobs.specs.Flows.{no_header}
 use Rattle.rc_reach.proofs.Rounding.{made_after, made_last}
 use Rattle.rc_reach.proofs.rounds.next_round.Goals as goal
 

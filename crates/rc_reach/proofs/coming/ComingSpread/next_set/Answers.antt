@@ -1,7 +1,7 @@
 use Rattle.std.proofs.Common.{rules, ◌≡◌, ◌+◌, slice_index_or, subst}
 use Rattle.std.proofs.lemmas.Result.{IfOk-weaker}
 use Rattle.rc_nodes.specs.Seats.{SeatKnows}
-use Rattle.rc_reach.specs.Known.{no_header}
+use Rattle.rc_jobs.specs.Flows.{no_header}
 use Rattle.rc_reach.specs.Rounds.{reached_at}
 use Rattle.rc_reach.proofs.ComingLaws.{are_sent, comes_next, may_gather}
 use Rattle.rc_reach.proofs.JoinLaws.{place_next}
