@@ -1,7 +1,7 @@
 -- Without a fault the answer is complete, and plain words are taken.
 use Rattle.std.proofs.Common.{refl, ap, sym, subst, ◌∙◌, ◌≡◌, inl, inr, ℕ, Bool, List, Option, Some, None, Result, Ok, Err, IfOk, IfErr, IfSome, IfNone, IsNone}
 use Rattle.rc_outside.specs.Folder.{File}
-use Rattle.rc_report.specs.declared.outcomes.RoundsEnd.TheVariants as rounds_end
+use Rattle.rc_route.specs.declared.outcome.RoundsEnd.TheVariants as rounds_end
 use Rattle.rc_words.specs.Laws.{TakesPlainWords}
 use Rattle.rc_words.specs.Request.{request_of}
 use Rattle.rc_words.specs.declared.request.Request.{Request}

@@ -14,7 +14,7 @@ use Rattle.rc_walk.proofs.ShortestLaws.{one_shortest_walk}
 use Rattle.rc_walk.proofs.WalkLaws.{one_first_walk}
 use Rattle.rc_walk.specs.Moves.{DataPlane, plane_of}
 use Rattle.rc_walk.specs.declared.walk.Walk.{Walk}
-use Rattle.rc_report.specs.OutcomeText.{end_of}
+use Rattle.rc_route.specs.Outcomes.{end_of}
 use Rattle.rc_report.specs.StateText.{route_count}
 use Rattle.rc_answers.specs.Written.{AreExamples, AreExamplesOf, AreWalksOf, IsDetail, IsGivenBy, IsShown, IsShownAtFixed}
 use Rattle.rc_answers.specs.Given.{Given, ended, Shown, walk_of, cubes_of, first_cube_of}

@@ -12,11 +12,11 @@ use Rattle.rc_reach.specs.Reaching.{IsReachingSet}
 use Rattle.rc_report.specs.CubeText.{cubes_text, shown as only}
 use Rattle.rc_report.specs.OutcomeText.{outcome_line}
 use Rattle.rc_report.specs.StateText.{route_count, routes_line}
-use Rattle.rc_report.specs.OutcomeText.{end_of}
+use Rattle.rc_route.specs.Outcomes.{end_of}
 use Rattle.rc_route.specs.declared.state.RouterState.{RouterState}
 use Rattle.rc_route.specs.declared.outcome.Outcome.{Outcome}
 use Rattle.rc_route.specs.declared.outcome.Outcome.TheVariants as outcome
-use Rattle.rc_report.specs.declared.outcomes.RoundsEnd.{RoundsEnd}
+use Rattle.rc_route.specs.declared.outcome.RoundsEnd.{RoundsEnd}
 use Rattle.rc_trees.specs.Trees.{Tree}
 use Rattle.rc_walk.specs.Moves.{DataPlane, plane_of}
 use Rattle.rc_walk.specs.Walks.{IsFirstWalk}

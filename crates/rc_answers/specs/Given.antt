@@ -2,7 +2,7 @@
 use Rattle.std.specs.Prelude.{ℕ, List}
 use Rattle.rc_config.specs.declared.network.Network.{Network}
 use Rattle.rc_network.specs.declared.refusal.NetRefusal.{NetRefusal}
-use Rattle.rc_report.specs.declared.outcomes.RoundsEnd.{RoundsEnd}
+use Rattle.rc_route.specs.declared.outcome.RoundsEnd.{RoundsEnd}
 use Rattle.rc_route.specs.declared.state.RouterState.{RouterState}
 use Rattle.rc_trees.specs.Trees.{Tree}
 use Rattle.rc_walk.specs.declared.walk.Walk.{Walk}

@@ -9,7 +9,7 @@ use Rattle.rc_report.specs.CubeText.{cubes_text, shown as only}
 use Rattle.rc_report.specs.OutcomeText.{outcome_line}
 use Rattle.rc_report.specs.StateText.{all_routes, routes_in, routes_line}
 use Rattle.rc_report.specs.WalkText.{walk_text}
-use Rattle.rc_report.specs.declared.outcomes.RoundsEnd.{RoundsEnd}
+use Rattle.rc_route.specs.declared.outcome.RoundsEnd.{RoundsEnd}
 use Rattle.rc_words.specs.declared.request.Request.{Request}
 use Rattle.rc_words.specs.declared.request.Source.{Source}
 use Rattle.rc_words.specs.declared.request.Source.TheVariants.{Folder, Made}
@@ -19,7 +19,7 @@ use Rattle.rc_answers.specs.Subject.{place_text}
 -- the usage text
 unfoldable pub usage_text : List ℕ
 usage_text = codes "usage: netcheck routes DIR [--router R]\n"
-    ++ codes "       netcheck trace DIR --from PLACE --dst A [--src A] [--proto N] [--sport N] [--dport N]\n"
+    ++ codes "       netcheck trace DIR --from PLACE --dst A [--src A] [--proto N] [--sport N] [--dport N] [--type N] [--code N] [--ack N] [--rst N]\n"
     ++ codes "       netcheck reach DIR --from PLACE [--end KIND] [--examples N]\n"
     ++ codes "       netcheck sample N\n"
     ++ codes "options: --rounds N --workers N --nodes N\n"

@@ -13,12 +13,12 @@ use Rattle.rc_outside.specs.Sink.{appended, AppendsFront}
 use Rattle.rc_reach.specs.Reached.{AreTooFew}
 use Rattle.rc_reach.specs.Reaching.{IsReachingSet}
 use Rattle.rc_report.specs.StateText.{route_count}
-use Rattle.rc_report.specs.OutcomeText.{end_of}
+use Rattle.rc_route.specs.Outcomes.{end_of}
 use Rattle.rc_route.specs.declared.state.RouterState.{RouterState}
 use Rattle.rc_route.specs.declared.outcome.Outcome.{Outcome}
 use Rattle.rc_route.specs.declared.outcome.Outcome.TheVariants as outcome
-use Rattle.rc_report.specs.declared.outcomes.RoundsEnd.{RoundsEnd}
-use Rattle.rc_report.specs.declared.outcomes.RoundsEnd.TheVariants as rounds_end
+use Rattle.rc_route.specs.declared.outcome.RoundsEnd.{RoundsEnd}
+use Rattle.rc_route.specs.declared.outcome.RoundsEnd.TheVariants as rounds_end
 use Rattle.rc_trees.specs.Trees.{Tree}
 use Rattle.rc_walk.specs.Moves.{DataPlane, plane_of}
 use Rattle.rc_walk.specs.ShortestWalks.{IsShortestWalk, NoWalkEnds}

@@ -17,8 +17,8 @@ use crate::{FileFindings, Findings, Status, Subject};
 use rc_base::{Header, Pos, RouterId};
 use rc_config::Network;
 use rc_outside::{Gate, Sink};
-use rc_report::{AllRoutes, Nothing, RoundsEnd, RoutesOf, WalkLines, end_of};
-use rc_route::{Outcome, State};
+use rc_report::{AllRoutes, Nothing, RoutesOf, WalkLines};
+use rc_route::{Outcome, RoundsEnd, State};
 use rc_topology::Links;
 use rc_walk::{Plane, Walk, trace};
 use rc_words::Request;
@@ -183,7 +183,7 @@ fn answer_ended<R: Threads + Sync + AllocGlobal, S: Sink, G: Gate>(
     ensures sink_only { result ≡ Status.Sink → Rose (S.faults out.old) (S.faults out.new) }
     ensures sink_always { S.faults out.old < S.faults out.new → result ≡ Status.Sink }
 {
-    let end = end_of(&outcome);
+    let end = outcome.end();
     match outcome {
         Outcome::Fixed(_, state) => {
             answer_fixed(rt, request, net, end, state, subject, out, gate)

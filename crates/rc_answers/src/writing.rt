@@ -29,7 +29,7 @@ fn usage_lines() -> [&'static [u8]; 5]
 {
     [
         b"usage: netcheck routes DIR [--router R]\n",
-        b"       netcheck trace DIR --from PLACE --dst A [--src A] [--proto N] [--sport N] [--dport N]\n",
+        b"       netcheck trace DIR --from PLACE --dst A [--src A] [--proto N] [--sport N] [--dport N] [--type N] [--code N] [--ack N] [--rst N]\n",
         b"       netcheck reach DIR --from PLACE [--end KIND] [--examples N]\n",
         b"       netcheck sample N\n",
         b"options: --rounds N --workers N --nodes N\n",

@@ -8,7 +8,8 @@ ghost use Rattle.rc_answers.specs.Written.{IsWrittenOrMemory, status_after};
 use crate::Status;
 use crate::writing::HeadLine;
 use rc_outside::Sink;
-use rc_report::{Buffer, OutcomeLine, Puts, RoundsEnd, Then};
+use rc_report::{Buffer, OutcomeLine, Puts, Then};
+use rc_route::RoundsEnd;
 use rc_words::Source;
 use std::alloc::Global;
 

@@ -3,14 +3,14 @@ ghost use Rattle.std.specs.Prelude.{◌≡◌, ◌++◌, true, codes, flat_map, 
 ghost use Rattle.rc_cubes.specs.Cubes.{cubes};
 ghost use Rattle.rc_nodes.specs.Seats.{IsKnown, IsSeatOf, Keeps, SeatKnows};
 ghost use Rattle.rc_outside.specs.Put.{IsPut, IsPutByHand};
-ghost use Rattle.rc_report.specs.CubeText.{cube_line, cube_text, cubes_text, example_line, example_text, field_text, fields_text, number_text, shown, test_of, value_of};
+ghost use Rattle.rc_report.specs.CubeText.{cube_line, cube_text, cubes_text, example_line, example_text, field_text, fields_text, is_always_shown, number_text, shown, test_of, value_of};
 ghost use Rattle.rc_report.specs.Parts.{part_text};
 ghost use Rattle.rc_report.specs.WalkText.{walk_text};
 ghost use Rattle.rc_trees.specs.Trees.{Tree};
 
 use crate::put::close_line;
 use crate::{Buffer, Part, SinkFault, put_line, put_parts, put_walk};
-use rc_base::{Addr, Field, Header, Items, header_is_free};
+use rc_base::{Addr, Field, Items, header_is_free};
 use rc_config::Network;
 use rc_cubes::{Cube, Cubes};
 use rc_nodes::{May, Nodes, Ref, Seat};
@@ -22,8 +22,8 @@ use rc_walk::Walk;
 pub(crate) enum Told {
     /// What a cube tests of them.
     Tests(Cube),
-    /// Their numbers in an example.
-    Values(Header),
+    /// Their numbers in a cube's example.
+    Values(Cube),
 }
 
 /// A field's number: that of an address with dots.
@@ -62,16 +62,37 @@ fn test_parts(cube: &Cube, field: Field) -> [Part<'static>; 6]
     ]
 }
 
-/// A field of an example.
-#[tactic(auto, unfolding(crate::specs::CubeText::value_of))]
-fn value_parts(header: &Header, field: Field) -> [Part<'static>; 6]
-    ensures { flat_map part_text result ≡ value_of header.now field }
+/// Whether an example shows a field also where its cube doesn't test it.
+fn is_always_shown(field: Field) -> bool
+    ensures { result ≡ is_always_shown field }
 {
+    match field {
+        Field::IcmpType | Field::IcmpCode | Field::Ack | Field::Rst => false,
+        _ => true,
+    }
+}
+
+/// A field of a cube's example, or empty texts where the example doesn't show it.
+#[tactic(auto, unfolding(crate::specs::CubeText::value_of))]
+fn value_parts(cube: &Cube, field: Field) -> [Part<'static>; 6]
+    ensures { flat_map part_text result ≡ value_of cube.now field }
+{
+    let mask = field.of(&cube.mask);
+    if !is_always_shown(field) && mask == 0 {
+        return [
+            Part::Text(b""),
+            Part::Text(b""),
+            Part::Text(b""),
+            Part::Text(b""),
+            Part::Text(b""),
+            Part::Text(b""),
+        ];
+    }
     [
         Part::Text(b" "),
         Part::Text(field.name()),
         Part::Text(b"="),
-        number_part(field, field.of(header)),
+        number_part(field, field.of(&cube.value)),
         Part::Text(b""),
         Part::Text(b""),
     ]
@@ -82,7 +103,7 @@ fn field_parts(told: &Told, field: Field) -> [Part<'static>; 6]
 {
     match told {
         Told::Tests(cube) => test_parts(cube, field),
-        Told::Values(header) => value_parts(header, field),
+        Told::Values(cube) => value_parts(cube, field),
     }
 }
 
@@ -138,14 +159,10 @@ fn put_cube_line<S: Sink>(out: &mut S, line: &mut Buffer, cube: &Cube) -> Result
 }
 
 #[tactic(auto, unfolding(crate::specs::CubeText::example_line))]
-fn put_example_line<S: Sink>(
-    out: &mut S,
-    line: &mut Buffer,
-    header: &Header,
-) -> Result<(), SinkFault>
-    ensures { IsPut S.Sink out.old out.new result (example_line header.now) }
+fn put_example_line<S: Sink>(out: &mut S, line: &mut Buffer, cube: &Cube) -> Result<(), SinkFault>
+    ensures { IsPut S.Sink out.old out.new result (example_line cube.now) }
 {
-    put_headed(out, line, b"example", &Told::Values(*header))
+    put_headed(out, line, b"example", &Told::Values(*cube))
 }
 
 fn put_walks<S: Sink>(
@@ -162,17 +179,17 @@ fn put_walks<S: Sink>(
     Ok(())
 }
 
-/// The line of an example, and its walks.
+/// The line of a cube's example, and its walks.
 fn put_example<S: Sink>(
     out: &mut S,
     line: &mut Buffer,
     net: &Network,
-    header: &Header,
+    cube: &Cube,
     walks: &Items<Walk>,
 ) -> Result<(), SinkFault>
-    ensures { IsPut S.Sink out.old out.new result (example_text net.now header.now walks.now) }
+    ensures { IsPut S.Sink out.old out.new result (example_text net.now cube.now walks.now) }
 {
-    put_example_line(out, line, header)?;
+    put_example_line(out, line, cube)?;
     put_walks(out, line, net, walks.as_slice())
 }
 
@@ -184,10 +201,10 @@ fn put_with_example<S: Sink>(
     cube: &Cube,
     walks: &Items<Walk>,
 ) -> Result<(), SinkFault>
-    ensures { IsPut S.Sink out.old out.new result (cube_line cube.now ++ example_text net.now cube.now.value walks.now) }
+    ensures { IsPut S.Sink out.old out.new result (cube_line cube.now ++ example_text net.now cube.now walks.now) }
 {
     put_cube_line(out, line, cube)?;
-    put_example(out, line, net, &cube.value, walks)
+    put_example(out, line, net, cube, walks)
 }
 
 fn put_cube<S: Sink>(

@@ -19,7 +19,7 @@ mod walks;
 pub use behind::{CubeLines, WalkLines};
 pub use buffer::Buffer;
 pub use cubes::put_cubes;
-pub use outcomes::{OutcomeLine, RoundsEnd, end_of};
+pub use outcomes::OutcomeLine;
 pub use part::Part;
 pub use put::{SinkFault, end_line, put_line, put_parts};
 pub use puts::{Nothing, Puts, Then};

@@ -1,34 +1,12 @@
 //! How rounds ended, as a line.
 ghost use Rattle.std.specs.Prelude.{◌≡◌, flat_map};
 ghost use Rattle.rc_outside.specs.Put.{IsPut};
-ghost use Rattle.rc_report.specs.OutcomeText.{end_of, outcome_line};
+ghost use Rattle.rc_report.specs.OutcomeText.{outcome_line};
 ghost use Rattle.rc_report.specs.Parts.{part_text};
 
 use crate::{Buffer, Part, Puts, SinkFault, put_line};
 use rc_outside::Sink;
-use rc_route::Outcome;
-
-/// How the rounds of states of a network end, apart from the state in which they do.
-#[derive(Clone, Copy)]
-pub enum RoundsEnd {
-    /// At a fixed point, after this round.
-    Fixed(u32),
-    /// By repeating: the state after the first of these rounds comes again after the second.
-    Repeats(u32, u32),
-    /// At the limit of so many rounds, without either.
-    Limit(u32),
-}
-
-/// How rounds ended, apart from the state of a fixed point.
-pub fn end_of(outcome: &Outcome) -> RoundsEnd
-    ensures { result ≡ end_of outcome.now }
-{
-    match outcome {
-        Outcome::Fixed(round, _) => RoundsEnd::Fixed(*round),
-        Outcome::Repeats(first, again) => RoundsEnd::Repeats(*first, *again),
-        Outcome::Limit(rounds) => RoundsEnd::Limit(*rounds),
-    }
-}
+use rc_route::RoundsEnd;
 
 /// What stands in the line of an outcome.
 #[tactic(auto, unfolding(crate::specs::OutcomeText::outcome_line))]

@@ -1,27 +1,32 @@
 -- The commands as clap builds them, with the facts that the laws use of each.
-use Rattle.std.proofs.Common.{ap, lit<, ◌<◌, ◌^◌, ◌≡◌, ◌∙◌, ◌==◌, Bool, true, false, List, [], ◌∷◌, ◌++◌, refl, sym, Option, Some, None, find, codes, map, unwrap_or, not, is_some, ◌&&◌}
+use Rattle.std.proofs.Common.{ap, lit<, ◌<◌, ◌^◌, ◌≡◌, ◌∙◌, ◌==◌, Bool, true, false, List, [], ◌∷◌, ◌++◌, refl, sym, Option, Some, None, find, codes, map, unwrap_or, not, is_some, ◌&&◌, nat_lt, slice_get, subst, true≢false}
 use Rattle.std.specs.List.{list_any}
 use Rattle.std.specs.Option.{option_map_or}
 use Rattle.std.specs.Str.{bytes_eq}
+use Rattle.std.proofs.lemmas.Bool.{ltb-true}
+use Rattle.clap.specs.Facts.{unwrap_or_range}
 use Rattle.clap.specs.Faults.{check_fault, given_default_fault, turn_fault, is_simple_and_free}
 use Rattle.clap.specs.Kinds.{check_kinds}
 use Rattle.clap.specs.Lexer.{long_of}
 use Rattle.clap.specs.Simple.{App, Shape, built, names_of, label_of, new_shape, is_simple}
 use Rattle.clap.specs.Takes.{is_given, value_passes}
-use Rattle.clap.specs.Walk.{Held, Row, Rule, Text, Walk, idle, walked, walk_from, nothing_held, answers_to, arg_by_id, arg_by_long, arg_by_short, has_long}
+use Rattle.clap.specs.Walk.{Held, Row, Rule, Text, Walk, idle, walked, walk_from, nothing_held, action_of, answers_to, arg_by_id, arg_by_long, arg_by_short, has_long, most_values}
 use Rattle.clap.specs.Words.{new_rule}
 use Rattle.clap.specs.declared.builder.ArgAction.TheVariants.{Set}
 use Rattle.clap.specs.declared.builder.ValueParser.{ValueParser}
 use Rattle.clap.specs.declared.builder.ValueParser.TheVariants as vp
 use Rattle.clap.proofs.OnLiterals.{clap_on_literals}
 use Rattle.rc_base.specs.Fields.{fields}
-use Rattle.rc_base.specs.declared.field.Field.TheVariants.{Dst, Src, Proto, Sport, Dport}
+use Rattle.rc_base.specs.Header.{same_field}
+use Rattle.rc_base.specs.declared.field.Field.{Field}
+use Rattle.rc_base.specs.declared.field.Field.TheVariants.{Dst}
+use Rattle.rc_base.proofs.FieldLaws.{is_new, is_there, same-is}
 use Rattle.rc_words.specs.App.{netcheck_app}
 use Rattle.rc_words.specs.Plain.{CommandName, routes, trace, reach, sample, command_word, OptionName, router, from, field, end, examples, rounds, workers, nodes, option_name, same_option, ValueKind, number, text, kind_of, default, options_of, required_of}
 use Rattle.rc_words.proofs.Defaults.{IsDefaulted, defaults_by, looked, or_default}
 use Rattle.rc_words.proofs.KeptValues.{IsOwn, AreOwn}
 use Rattle.rc_words.proofs.PlainWalk.{IsFirst}
-use Rattle.rc_words.proofs.Rules.{AllOf, find_all}
+use Rattle.rc_words.proofs.Rules.{AllOf, all_same, find_all}
 
 -- the command is one that clap's model covers
 pub simple_and_free : is_simple_and_free netcheck_app ≡ true
@@ -72,6 +77,27 @@ count_rule = record (new_rule (codes "N")) {
   required = true;
 }
 
+-- ---- facts of all rules or options, as they are computed
+
+own_all : (c rs : List Rule) → AllOf (λ a. arg_by_id c a.id ≡ Some a) rs → AllOf (λ a. action_of a ≡ Set) rs → AllOf (λ a. (unwrap_or_range a.range).start_inclusive ≡ 1) rs → AllOf (λ a. most_values a ≡ 1) rs → AllOf (IsOwn c) rs
+own_all c [] here set least most = tt
+own_all c (a ∷ rs) here set least most = (record { here = here.0; set = set.0; least = least.0; most = most.0 }, own_all c rs here.1 set.1 least.1 most.1)
+
+-- the rules are a command's own
+own_computed : (c : List Rule) → map (λ a. arg_by_id c a.id) c ≡ map (λ a. Some a) c → map (λ a. action_of a) c ≡ map (λ a. Set) c → map (λ a. (unwrap_or_range a.range).start_inclusive) c ≡ map (λ a. 1) c
+    → map (λ a. most_values a) c ≡ map (λ a. 1) c → AllOf (IsOwn c) c
+own_computed c here set least most =
+    own_all c c (all_same (λ a. arg_by_id c a.id) (λ a. Some a) c here) (all_same (λ a. action_of a) (λ a. Set) c set) (all_same (λ (a : Rule). (unwrap_or_range a.range).start_inclusive) (λ a. 1) c least)
+    (all_same (λ a. most_values a) (λ a. 1) c most)
+
+-- each has one default or none
+defaulted_computed : (rs : List Rule) → map (λ (a : Rule). a.defaults) rs ≡ map (λ (a : Rule). defaults_by (slice_get a.defaults 0)) rs → AllOf IsDefaulted rs
+defaulted_computed [] e = tt
+defaulted_computed (a ∷ rs) e =
+    let first : a.defaults ≡ defaults_by (slice_get a.defaults 0) = cc in
+    let rest : map (λ (x : Rule). x.defaults) rs ≡ map (λ (x : Rule). defaults_by (slice_get x.defaults 0)) rs = cc in
+    ((slice_get a.defaults 0, first), defaulted_computed rs rest)
+
 -- ---- names of options
 
 abbrev all_options : List OptionName
@@ -90,14 +116,43 @@ pub record IsNamed (o : OptionName) : Type 0 where
   pub not_count : bytes_eq (codes "N") (option_name o) ≡ false
   pub small : IsSmall (kind_of o)
 
+abbrev is_small : ValueKind → Bool
+is_small (number low high) = nat_lt high (2 ^ 32)
+is_small text = true
+
+small_is : (kind : ValueKind) → is_small kind ≡ true → IsSmall kind
+small_is (number low high) e = ltb-true high (2 ^ 32) e
+small_is text e = tt
+
+named_all : (fs : List Field) → AllOf (λ f. long_of (codes "--" ++ option_name (field f)) ≡ Some (option_name (field f), None)) fs → AllOf (λ f. bytes_eq (codes "--" ++ option_name (field f)) (45 ∷ 45 ∷ []) ≡ false) fs
+    → AllOf (λ f. find (λ a. same_option a (field f)) all_options ≡ Some (field f)) fs → AllOf (λ f. bytes_eq (codes "DIR") (option_name (field f)) ≡ false) fs
+    → AllOf (λ f. bytes_eq (codes "N") (option_name (field f)) ≡ false) fs → AllOf (λ f. is_small (kind_of (field f)) ≡ true) fs → AllOf (λ f. IsNamed (field f)) fs
+named_all [] long not_end own not_dir not_count small = tt
+named_all (f ∷ fs) long not_end own not_dir not_count small = (
+  record { long = long.0; not_end = not_end.0; own = own.0; not_dir = not_dir.0; not_count = not_count.0; small = small_is (kind_of (field f)) small.0 },
+  named_all fs long.1 not_end.1 own.1 not_dir.1 not_count.1 small.1,
+)
+
+fields_named : AllOf (λ f. IsNamed (field f)) fields
+fields_named =
+    named_all fields (all_same (λ f. long_of (codes "--" ++ option_name (field f))) (λ f. Some (option_name (field f), None)) fields refl)
+    (all_same (λ f. bytes_eq (codes "--" ++ option_name (field f)) (45 ∷ 45 ∷ [])) (λ f. false) fields refl) (all_same (λ f. find (λ a. same_option a (field f)) all_options) (λ f. Some (field f)) fields refl)
+    (all_same (λ f. bytes_eq (codes "DIR") (option_name (field f))) (λ f. false) fields refl) (all_same (λ f. bytes_eq (codes "N") (option_name (field f))) (λ f. false) fields refl)
+    (all_same (λ f. is_small (kind_of (field f))) (λ f. true) fields refl)
+
+-- what holds of all fields holds of each
+each_field : (P : Field → Type 0) (fs : List Field) → AllOf P fs → (f : Field) → is_new f fs ≡ false → P f
+each_field P [] all f e = absurd (true≢false e)
+each_field P (g ∷ fs) all f e = go (same_field f g) refl e (each_field P fs all.1 f)
+  where
+    go : (b : Bool) → same_field f g ≡ b → (not b && is_new f fs) ≡ false → (is_new f fs ≡ false → P f) → P f
+    go true same _ later = subst P (sym (same-is f g same)) all.0
+    go false other rest later = later rest
+
 pub named : (o : OptionName) → IsNamed o
 named router = record { long = refl; not_end = refl; own = refl; not_dir = refl; not_count = refl; small = tt }
 named from = record { long = refl; not_end = refl; own = refl; not_dir = refl; not_count = refl; small = tt }
-named (field Dst) = record { long = refl; not_end = refl; own = refl; not_dir = refl; not_count = refl; small = tt }
-named (field Src) = record { long = refl; not_end = refl; own = refl; not_dir = refl; not_count = refl; small = tt }
-named (field Proto) = record { long = refl; not_end = refl; own = refl; not_dir = refl; not_count = refl; small = lit< tt }
-named (field Sport) = record { long = refl; not_end = refl; own = refl; not_dir = refl; not_count = refl; small = lit< tt }
-named (field Dport) = record { long = refl; not_end = refl; own = refl; not_dir = refl; not_count = refl; small = lit< tt }
+named (field f) = each_field (λ g. IsNamed (field g)) fields fields_named f (is_there f)
 named end = record { long = refl; not_end = refl; own = refl; not_dir = refl; not_count = refl; small = tt }
 named examples = record { long = refl; not_end = refl; own = refl; not_dir = refl; not_count = refl; small = lit< tt }
 named rounds = record { long = refl; not_end = refl; own = refl; not_dir = refl; not_count = refl; small = lit< tt }
@@ -116,6 +171,24 @@ pub record IsOption (c : List Rule) (o : OptionName) : Type 0 where
   pub long : arg_by_long c (option_name o) ≡ Some (rule_for o)
   pub here : arg_by_id c (option_name o) ≡ Some (rule_for o)
   pub after : (found : Option Row) → looked (option_name o) c found ≡ or_default (rule_for o) found
+
+-- what is found of an option after the defaults of rules, and after its own, from what was found before
+abbrev looked_for : List Rule → OptionName → Option Row → Option Row
+looked_for c o found = looked (option_name o) c found
+
+abbrev own_default : OptionName → Option Row → Option Row
+own_default o found = or_default (rule_for o) found
+
+options_all : (c : List Rule) (os : List OptionName) → AllOf (λ o. arg_by_long c (option_name o) ≡ Some (rule_for o)) os → AllOf (λ o. arg_by_id c (option_name o) ≡ Some (rule_for o)) os
+    → AllOf (λ o. looked_for c o ≡ own_default o) os → AllOf (IsOption c) os
+options_all c [] long here later = tt
+options_all c (o ∷ os) long here later = (record { long = long.0; here = here.0; after = λ found. ap (λ (h : Option Row → Option Row). h found) later.0 }, options_all c os long.1 here.1 later.1)
+
+-- the options are found among the rules
+options_computed : (c : List Rule) (os : List OptionName) → map (λ o. arg_by_long c (option_name o)) os ≡ map (λ o. Some (rule_for o)) os → map (λ o. arg_by_id c (option_name o)) os ≡ map (λ o. Some (rule_for o)) os
+    → map (looked_for c) os ≡ map own_default os → AllOf (IsOption c) os
+options_computed c os long here later =
+    options_all c os (all_same (λ o. arg_by_long c (option_name o)) (λ o. Some (rule_for o)) os long) (all_same (λ o. arg_by_id c (option_name o)) (λ o. Some (rule_for o)) os here) (all_same (looked_for c) own_default os later)
 
 abbrev pub gone : Held → Text → List Text → Walk
 gone h name rest = record { held = h; waiting = idle; position = 1; is_trailing = false; stopped = Some (name, rest) }
@@ -168,16 +241,16 @@ unfolding clap_on_literals
 routes_enters_well = refl
 
 routes_own : AllOf (IsOwn routes_shape.rules) routes_shape.rules
-routes_own = (record { here = refl; set = refl; least = refl; most = refl }, (record { here = refl; set = refl; least = refl; most = refl }, (record { here = refl; set = refl; least = refl; most = refl }, (record { here = refl; set = refl; least = refl; most = refl }, (record { here = refl; set = refl; least = refl; most = refl }, tt)))))
+routes_own = own_computed routes_shape.rules refl refl refl refl
 
 routes_options : AllOf (IsOption routes_shape.rules) (options_of routes)
-routes_options = (record { long = refl; here = refl; after = λ found. refl }, (record { long = refl; here = refl; after = λ found. refl }, (record { long = refl; here = refl; after = λ found. refl }, (record { long = refl; here = refl; after = λ found. refl }, tt))))
+routes_options = options_computed routes_shape.rules (options_of routes) refl refl refl
 
 routes_defaults : AllOf IsDefaulted routes_shape.rules
-routes_defaults = ((None, refl), ((None, refl), ((Some (codes "1000"), refl), ((Some (codes "4"), refl), ((Some (codes "1048576"), refl), tt)))))
+routes_defaults = defaulted_computed routes_shape.rules refl
 
 routes_defaults_pass : AllOf (λ a. given_default_fault a a.defaults ≡ []) routes_shape.rules
-routes_defaults_pass = (refl, (refl, (refl, (refl, (refl, tt)))))
+routes_defaults_pass = all_same (λ (a : Rule). given_default_fault a a.defaults) (λ a. []) routes_shape.rules refl
 
 pub routes_is : IsCommand routes dir_rule routes_shape
 routes_is = record {
@@ -212,16 +285,16 @@ unfolding clap_on_literals
 trace_enters_well = refl
 
 trace_own : AllOf (IsOwn trace_shape.rules) trace_shape.rules
-trace_own = (record { here = refl; set = refl; least = refl; most = refl }, (record { here = refl; set = refl; least = refl; most = refl }, (record { here = refl; set = refl; least = refl; most = refl }, (record { here = refl; set = refl; least = refl; most = refl }, (record { here = refl; set = refl; least = refl; most = refl }, (record { here = refl; set = refl; least = refl; most = refl }, (record { here = refl; set = refl; least = refl; most = refl }, (record { here = refl; set = refl; least = refl; most = refl }, (record { here = refl; set = refl; least = refl; most = refl }, (record { here = refl; set = refl; least = refl; most = refl }, tt))))))))))
+trace_own = own_computed trace_shape.rules refl refl refl refl
 
 trace_options : AllOf (IsOption trace_shape.rules) (options_of trace)
-trace_options = (record { long = refl; here = refl; after = λ found. refl }, (record { long = refl; here = refl; after = λ found. refl }, (record { long = refl; here = refl; after = λ found. refl }, (record { long = refl; here = refl; after = λ found. refl }, (record { long = refl; here = refl; after = λ found. refl }, (record { long = refl; here = refl; after = λ found. refl }, (record { long = refl; here = refl; after = λ found. refl }, (record { long = refl; here = refl; after = λ found. refl }, (record { long = refl; here = refl; after = λ found. refl }, tt)))))))))
+trace_options = options_computed trace_shape.rules (options_of trace) refl refl refl
 
 trace_defaults : AllOf IsDefaulted trace_shape.rules
-trace_defaults = ((None, refl), ((None, refl), ((None, refl), ((Some (codes "0.0.0.0"), refl), ((Some (codes "0"), refl), ((Some (codes "0"), refl), ((Some (codes "0"), refl), ((Some (codes "1000"), refl), ((Some (codes "4"), refl), ((Some (codes "1048576"), refl), tt))))))))))
+trace_defaults = defaulted_computed trace_shape.rules refl
 
 trace_defaults_pass : AllOf (λ a. given_default_fault a a.defaults ≡ []) trace_shape.rules
-trace_defaults_pass = (refl, (refl, (refl, (refl, (refl, (refl, (refl, (refl, (refl, (refl, tt))))))))))
+trace_defaults_pass = all_same (λ (a : Rule). given_default_fault a a.defaults) (λ a. []) trace_shape.rules refl
 
 pub trace_is : IsCommand trace dir_rule trace_shape
 trace_is = record {
@@ -256,16 +329,16 @@ unfolding clap_on_literals
 reach_enters_well = refl
 
 reach_own : AllOf (IsOwn reach_shape.rules) reach_shape.rules
-reach_own = (record { here = refl; set = refl; least = refl; most = refl }, (record { here = refl; set = refl; least = refl; most = refl }, (record { here = refl; set = refl; least = refl; most = refl }, (record { here = refl; set = refl; least = refl; most = refl }, (record { here = refl; set = refl; least = refl; most = refl }, (record { here = refl; set = refl; least = refl; most = refl }, (record { here = refl; set = refl; least = refl; most = refl }, tt)))))))
+reach_own = own_computed reach_shape.rules refl refl refl refl
 
 reach_options : AllOf (IsOption reach_shape.rules) (options_of reach)
-reach_options = (record { long = refl; here = refl; after = λ found. refl }, (record { long = refl; here = refl; after = λ found. refl }, (record { long = refl; here = refl; after = λ found. refl }, (record { long = refl; here = refl; after = λ found. refl }, (record { long = refl; here = refl; after = λ found. refl }, (record { long = refl; here = refl; after = λ found. refl }, tt))))))
+reach_options = options_computed reach_shape.rules (options_of reach) refl refl refl
 
 reach_defaults : AllOf IsDefaulted reach_shape.rules
-reach_defaults = ((None, refl), ((None, refl), ((None, refl), ((Some (codes "0"), refl), ((Some (codes "1000"), refl), ((Some (codes "4"), refl), ((Some (codes "1048576"), refl), tt)))))))
+reach_defaults = defaulted_computed reach_shape.rules refl
 
 reach_defaults_pass : AllOf (λ a. given_default_fault a a.defaults ≡ []) reach_shape.rules
-reach_defaults_pass = (refl, (refl, (refl, (refl, (refl, (refl, (refl, tt)))))))
+reach_defaults_pass = all_same (λ (a : Rule). given_default_fault a a.defaults) (λ a. []) reach_shape.rules refl
 
 pub reach_is : IsCommand reach dir_rule reach_shape
 reach_is = record {
@@ -300,16 +373,16 @@ unfolding clap_on_literals
 sample_enters_well = refl
 
 sample_own : AllOf (IsOwn sample_shape.rules) sample_shape.rules
-sample_own = (record { here = refl; set = refl; least = refl; most = refl }, (record { here = refl; set = refl; least = refl; most = refl }, (record { here = refl; set = refl; least = refl; most = refl }, (record { here = refl; set = refl; least = refl; most = refl }, tt))))
+sample_own = own_computed sample_shape.rules refl refl refl refl
 
 sample_options : AllOf (IsOption sample_shape.rules) (options_of sample)
-sample_options = (record { long = refl; here = refl; after = λ found. refl }, (record { long = refl; here = refl; after = λ found. refl }, (record { long = refl; here = refl; after = λ found. refl }, tt)))
+sample_options = options_computed sample_shape.rules (options_of sample) refl refl refl
 
 sample_defaults : AllOf IsDefaulted sample_shape.rules
-sample_defaults = ((None, refl), ((Some (codes "1000"), refl), ((Some (codes "4"), refl), ((Some (codes "1048576"), refl), tt))))
+sample_defaults = defaulted_computed sample_shape.rules refl
 
 sample_defaults_pass : AllOf (λ a. given_default_fault a a.defaults ≡ []) sample_shape.rules
-sample_defaults_pass = (refl, (refl, (refl, (refl, tt))))
+sample_defaults_pass = all_same (λ (a : Rule). given_default_fault a a.defaults) (λ a. []) sample_shape.rules refl
 
 pub sample_is : IsCommand sample count_rule sample_shape
 sample_is = record {

@@ -1,14 +1,14 @@
 -- A header is read where the number of each of its fields is.
-use Rattle.std.proofs.Common.{ap, sym, subst, lit<, arith, ◌≡◌, ◌∙◌, ℕ, ◌*◌, ◌+◌, ◌-◌, ◌^◌, ◌<◌, ◌≤◌, Bool, true, false, ◌&&◌, List, [], ◌∷◌, refl, Option, Some, None}
+use Rattle.std.proofs.Common.{ap, sym, subst, lit<, arith, ◌≡◌, ◌∙◌, ℕ, ◌*◌, ◌+◌, ◌^◌, ◌<◌, ◌≤◌, Bool, true, false, ◌&&◌, List, [], ◌∷◌, refl, Option, Some, None}
 use Rattle.std.proofs.Math.Nat.{lt_of_le_of_lt}
 use Rattle.std.proofs.lemmas.Bool.{leb-true}
+use Rattle.std.proofs.lemmas.Nat.{pow_pos}
 use Rattle.std.specs.List.{slice_split}
 use Rattle.std.specs.Prelude.{option_and_then, nat_le, nat_lt, length, ◌==◌, if◌then◌else◌}
-use Rattle.rc_base.proofs.FieldLaws.{put-other, put-small}
+use Rattle.rc_base.proofs.FieldLaws.{put-other, put-small, zero-of}
 use Rattle.rc_base.specs.Fields.{of, width, with, zeros}
 use Rattle.rc_base.specs.Header.{IsHeader, same_field}
 use Rattle.rc_base.specs.declared.field.Field.{Field}
-use Rattle.rc_base.specs.declared.field.Field.TheVariants.{Dst, Src, Proto, Sport, Dport}
 use Rattle.rc_base.specs.declared.header.Header.{Header}
 use Rattle.rc_openings.specs.Values.{address_of, address_of_octets, address_of_parts, at_most, digits_from, octet}
 use Rattle.rc_words.specs.HeaderOptions.{with_numbers}
@@ -24,11 +24,7 @@ put_fits f n h is small = λ g. go g (same_field f g) refl
     go g false e = subst (λ (m : ℕ). m < 2 ^ width g) (sym (put-other f g n h e)) (is g)
 
 pub zeros_fit : IsHeader zeros
-zeros_fit Dst = lit< tt
-zeros_fit Src = lit< tt
-zeros_fit Proto = lit< tt
-zeros_fit Sport = lit< tt
-zeros_fit Dport = lit< tt
+zeros_fit f = subst (λ (n : ℕ). n < 2 ^ width f) (sym (zero-of f)) (pow_pos (width f))
 
 -- the field has a number, which fits it
 abbrev pub IsNumbered : (Field → Option ℕ) → Field → Type 0

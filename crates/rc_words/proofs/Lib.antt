@@ -14,3 +14,4 @@ mod RequestLaws
 mod PlainTaken
 mod PlainRequest
 mod Parts
+mod NumberFields

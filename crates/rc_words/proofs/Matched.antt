@@ -1,5 +1,5 @@
 -- Where clap finds no fault in the words there is a request, with every number in its option's range, but where the text of a place, an address or an ending isn't read.
-use Rattle.std.proofs.Common.{ap, sym, lit<, ◌≡◌, ◌∙◌, ℕ, ◌<◌, ◌^◌, Bool, true, false, not, ◌&&◌, ◌||◌, ◌⊎◌, inl, inr, List, [], ◌∷◌, refl, Option, Some, None, codes, find, is_some, true≢false}
+use Rattle.std.proofs.Common.{ap, sym, lit<, ◌≡◌, ◌∙◌, ℕ, ◌<◌, ◌^◌, Bool, true, false, not, ◌&&◌, ◌||◌, ◌⊎◌, inl, inr, List, [], ◌∷◌, refl, Option, Some, None, codes, find, is_some, map, true≢false}
 use Rattle.std.proofs.Math.Nat.{lt_of_le_of_lt}
 use Rattle.std.specs.Prelude.{option_and_then, option_map}
 use Rattle.std.specs.List.{list_any}
@@ -13,13 +13,15 @@ use Rattle.clap.specs.Words.{subcommand_of, first_of}
 use Rattle.clap.proofs.WalkLemmas.{both}
 use Rattle.rc_base.specs.Fields.{fields, zeros}
 use Rattle.rc_base.specs.Header.{IsHeader}
-use Rattle.rc_base.specs.declared.field.Field.TheVariants.{Dst, Src, Proto, Sport, Dport}
+use Rattle.rc_base.specs.declared.field.Field.{Field}
+use Rattle.rc_base.specs.declared.field.Field.TheVariants.{Dst, Src}
 use Rattle.rc_base.specs.declared.header.Header.{Header}
 use Rattle.rc_openings.specs.Values.{address_of, at_most}
 use Rattle.rc_base.specs.declared.ending.Ends.{Ends}
 use Rattle.rc_words.specs.App.{netcheck_app}
 use Rattle.rc_base.specs.Endings.{kind_named}
 use Rattle.rc_words.specs.Endings.{endings_of, only}
+use Rattle.rc_words.specs.HeaderOptions.{greatest}
 use Rattle.rc_words.specs.Plain.{CommandName, routes, trace, reach, sample, command_word, from, field, examples, rounds, workers, nodes, limit_options}
 use Rattle.rc_words.specs.Request.{address_at, place_of, place_at, field_at, header_at, ends_at, trace_at, reach_at, source_at, limits_at, request_at, is_read, texts_are_read, AreInRange, IsSourceInRange, IsAskInRange}
 use Rattle.rc_words.specs.declared.request.Ask.TheVariants.{Routes, Trace, Reach, Summary}
@@ -29,10 +31,11 @@ use Rattle.rc_words.specs.declared.request.Source.TheVariants.{Folder, Made}
 use Rattle.rc_words.proofs.Commands.{IsCommand, IsOption, whole, wanted_ids, dir_rule, count_rule, rule_for, routes_shape, routes_is, trace_shape, trace_is, reach_shape, reach_is, sample_shape, sample_is}
 use Rattle.rc_words.proofs.Defaults.{IsDefaulted, look, look_all}
 use Rattle.rc_words.proofs.KeptValues.{RowsPass, all_pass, settled_passes, first_none, second_none}
-use Rattle.rc_words.proofs.HeaderRead.{address_fits, header_read, zeros_fit}
+use Rattle.rc_words.proofs.HeaderRead.{IsNumbered, address_fits, header_read, zeros_fit}
+use Rattle.rc_words.proofs.NumberFields.{IsNumberField, are_numbers, greatest_fits, number_fields}
 use Rattle.rc_words.proofs.Numbers.{within}
 use Rattle.rc_words.proofs.Parts.{without_ask}
-use Rattle.rc_words.proofs.Rules.{AllOf, find_all, some_of}
+use Rattle.rc_words.proofs.Rules.{AllOf, all_behind, all_front, find_all, some_of}
 use Rattle.rc_words.proofs.Told.{after, look_option, number_in, count_in, given_text, default_text, no_text}
 
 -- ---- the parts of a request
@@ -58,32 +61,26 @@ read_fits : (o : Option Text) (n : ℕ) → option_and_then address_of o ≡ Som
 read_fits None n e = absurd (cc)
 read_fits (Some t) n e = address_fits t n e
 
+-- the fields that are numbers
+numbers_asked : (c : List Rule) (rows : List Row) (fs : List Field) → AllOf IsDefaulted c → RowsPass c rows → AllOf IsNumberField fs → AllOf (IsOption c) (map field fs) → AllOf (IsNumbered (field_at (after c rows))) fs
+numbers_asked c rows [] d h are i = tt
+numbers_asked c rows (f ∷ fs) d h (is, are) (o, i) =
+    let (n, n_is, n_low, n_high) = number_in 32 c (field f) 0 (greatest f) (codes "0") rows d o h is.kind is.absent is.accepted is.small in
+    ((n, is.found (after c rows) ∙ ap (at_most (greatest f)) n_is ∙ within (greatest f) n n_high, lt_of_le_of_lt n_high (greatest_fits f)), numbers_asked c rows fs d h are i)
+
 header_asked : (s : Shape) (f : IsCommand trace dir_rule s) (rows : List Row) → RowsPass s.rules rows → is_given (codes "dst") (after s.rules rows) ≡ true
     → is_read address_of (first_of (codes "dst") (after s.rules rows)) ≡ true → is_read address_of (first_of (codes "src") (after s.rules rows)) ≡ true
     → (h : Header) × (header_at (after s.rules rows) ≡ Some h) × IsHeader h
 header_asked s f rows h given to_read by_read =
-    let c = s.rules in
     let d = f.defaults in
-    let i = f.options in
-    let (to_text, to_is) = given_text s.rules (codes "dst") (rule_for (field Dst)) rows (look_option s.rules (field Dst) rows d i.1.0) refl h given in
+    let i : AllOf (IsOption s.rules) (map field fields) = all_front (IsOption s.rules) (map field fields) limit_options f.options.1 in
+    let (to_text, to_is) = given_text s.rules (codes "dst") (rule_for (field Dst)) rows (look_option s.rules (field Dst) rows d i.0) refl h given in
     let (to, to_at) = read_text address_of (first_of (codes "dst") (after s.rules rows)) to_text to_is to_read in
     let to_fits = read_fits (first_of (codes "dst") (after s.rules rows)) to to_at in
-    let (by_text, by_is) = default_text s.rules (field Src) (codes "0.0.0.0") rows d i.1.1.0 h refl in
+    let (by_text, by_is) = default_text s.rules (field Src) (codes "0.0.0.0") rows d i.1.0 h refl in
     let (by, by_at) = read_text address_of (first_of (codes "src") (after s.rules rows)) by_text by_is by_read in
     let by_fits = read_fits (first_of (codes "src") (after s.rules rows)) by by_at in
-    let (p, p_is, p_low, p_high) = number_in 32 s.rules (field Proto) 0 255 (codes "0") rows d i.1.1.1.0 h refl refl refl (lit< tt) in
-    let (a, a_is, a_low, a_high) = number_in 32 s.rules (field Sport) 0 65535 (codes "0") rows d i.1.1.1.1.0 h refl refl refl (lit< tt) in
-    let (b, b_is, b_low, b_high) = number_in 32 s.rules (field Dport) 0 65535 (codes "0") rows d i.1.1.1.1.1.0 h refl refl refl (lit< tt) in
-    header_read (field_at (after s.rules rows)) fields zeros zeros_fit (
-      (to, to_at, to_fits),
-      (
-        (by, by_at, by_fits),
-        (
-          (p, ap (at_most 255) p_is ∙ within 255 p p_high, lt_of_le_of_lt p_high (lit< tt)),
-          ((a, ap (at_most 65535) a_is ∙ within 65535 a a_high, lt_of_le_of_lt a_high (lit< tt)), ((b, ap (at_most 65535) b_is ∙ within 65535 b b_high, lt_of_le_of_lt b_high (lit< tt)), tt)),
-        ),
-      ),
-    )
+    header_read (field_at (after s.rules rows)) fields zeros zeros_fit ((to, to_at, to_fits), ((by, by_at, by_fits), numbers_asked s.rules rows number_fields d h are_numbers i.1.1))
 
 -- ---- a command
 
@@ -170,7 +167,7 @@ trace_told rows h given =
     let d = trace_is.defaults in
     let (dir, dir_is) = argument_asked trace dir_rule trace_shape trace_is rows h given.0 in
     let (place_text, place_is) = given_text trace_shape.rules (codes "from") (rule_for from) rows (look_option trace_shape.rules from rows d trace_is.options.0) refl h given.1.0 in
-    let (l, l_is, l_in) = limits_asked trace_shape.rules rows d trace_is.options.1.1.1.1.1.1 h in
+    let (l, l_is, l_in) = limits_asked trace_shape.rules rows d (all_behind (IsOption trace_shape.rules) (map field fields) limit_options trace_is.options.1) h in
     let no_end : first_of (codes "end") (after trace_shape.rules rows) ≡ None = no_text trace_shape.rules (codes "end") rows d h refl refl in
     record {
       read = λ e.

@@ -18,25 +18,27 @@ use Rattle.clap.specs.Words.{first_of}
 use Rattle.clap.proofs.WalkLemmas.{both}
 use Rattle.rc_base.specs.declared.ending.Ends.{Ends}
 use Rattle.rc_base.specs.Fields.{fields, zeros}
-use Rattle.rc_base.specs.declared.field.Field.TheVariants.{Dst, Src, Proto, Sport, Dport}
+use Rattle.rc_base.specs.declared.field.Field.{Field}
+use Rattle.rc_base.specs.declared.field.Field.TheVariants.{Dst, Src}
 use Rattle.rc_base.specs.declared.header.Header.{Header}
 use Rattle.rc_openings.specs.Values.{address_of, at_most}
 use Rattle.rc_words.specs.Plain.{CommandName, routes, trace, reach, sample, command_word, OptionName, router, from, field, end, examples, rounds, workers, nodes, option_name, same_option, ValueKind, number, text, kind_of, default, limit_options, options_of, required_of, has_option, Use, IsPlainNumber, IsPlainValue, is_plain_text, is_given, ArePlainUses, ArePlain, option_words, plain_words, text_for, number_for, plain_limits, plain_field, plain_request}
 use Rattle.rc_words.specs.Endings.{endings_of}
-use Rattle.rc_words.specs.HeaderOptions.{header_of}
+use Rattle.rc_words.specs.HeaderOptions.{greatest, header_of}
 use Rattle.rc_words.specs.Request.{number_read, number_at, address_at, place_of, place_at, limits_at, field_at, header_at, ends_at, request_at, request_of}
 use Rattle.rc_words.specs.declared.request.Ask.TheVariants.{Trace, Reach, Summary}
 use Rattle.rc_words.specs.declared.request.Limits.{Limits}
 use Rattle.rc_words.specs.declared.request.PlaceName.{PlaceName}
 use Rattle.rc_words.specs.declared.request.Source.TheVariants.{Folder, Made}
 use Rattle.rc_words.proofs.HeaderRead.{same_header}
+use Rattle.rc_words.proofs.NumberFields.{IsNumberField, are_numbers, number_fields}
 use Rattle.rc_words.proofs.Numbers.{IsDigits, digits_are, digits_read, digits_accepted, within}
 use Rattle.rc_words.proofs.Commands.{IsCommand, IsOption, IsSmall, named, same_is, rule_for, dir_rule, count_rule, parser_by, wanted_ids, routes_shape, routes_is, trace_shape, trace_is, reach_shape, reach_is, sample_shape, sample_is}
 use Rattle.rc_words.proofs.Defaults.{look, look_all, or_default, default_row, defaults_by}
 use Rattle.rc_words.proofs.PlainWalk.{IsSingle, IsOptionWord, IsPlainText, OptionUse, words_of, given, AreUsed, row_for, same_text_eq}
 use Rattle.rc_words.proofs.PlainTaken.{plain_well, plain_rows}
 use Rattle.rc_words.proofs.RequestLaws.{when_taken}
-use Rattle.rc_words.proofs.Rules.{AllOf}
+use Rattle.rc_words.proofs.Rules.{AllOf, all_behind, all_front}
 use Rattle.rc_words.proofs.Told.{after, look_option, first_in}
 
 -- ---- values
@@ -274,8 +276,11 @@ trace_from rows d (Some p) None l dir_is place_is header_is l_is = rw (dir_is, p
 trace_from rows d (Some p) (Some h) l dir_is place_is header_is l_is = rw (dir_is, place_is, header_is, l_is)
 
 trace_header : (d : Text) (uses : List Use) → ArePlainUses trace uses → header_at (after trace_shape.rules (plain_found dir_rule d uses)) ≡ header_of (plain_field uses)
-trace_header d uses p = same_header (field_at (after trace_shape.rules (plain_found dir_rule d uses))) (plain_field uses) fields zeros (address (field Dst) trace_is.options.1.0, (address (field Src) trace_is.options.1.1.0, numbers))
+trace_header d uses p = same_header (field_at (after trace_shape.rules (plain_found dir_rule d uses))) (plain_field uses) fields zeros (address (field Dst) fields_in.0, (address (field Src) fields_in.1.0, numbers number_fields are_numbers fields_in.1.1))
   where
+    fields_in : AllOf (IsOption trace_shape.rules) (map field fields)
+    fields_in = all_front (IsOption trace_shape.rules) (map field fields) limit_options trace_is.options.1
+
     address : (o : OptionName) → IsOption trace_shape.rules o → address_at (option_name o) (after trace_shape.rules (plain_found dir_rule d uses)) ≡ option_and_then address_of (text_for o uses)
     address o i = ap (option_and_then address_of) (text_found trace dir_rule trace_shape trace_is d refl uses o i)
 
@@ -285,10 +290,9 @@ trace_header d uses p = same_header (field_at (after trace_shape.rules (plain_fo
         ap (at_most high) (value_found trace dir_rule trace_shape trace_is d refl uses 32 o 0 high (codes "0") i kind small is refl p)
         ∙ within high (number_for o uses) (number_most trace o 0 high (codes "0") uses kind is (let e : 0 ≤ high = omega arith in e) p)
 
-    numbers : AllOf (λ f. field_at (after trace_shape.rules (plain_found dir_rule d uses)) f ≡ plain_field uses f) (Proto ∷ Sport ∷ Dport ∷ [])
-    numbers =
-        let i = trace_is.options.1.1.1 in
-        (field_found (field Proto) 255 i.0 refl refl (lit< tt), (field_found (field Sport) 65535 i.1.0 refl refl (lit< tt), (field_found (field Dport) 65535 i.1.1.0 refl refl (lit< tt), tt)))
+    numbers : (fs : List Field) → AllOf IsNumberField fs → AllOf (IsOption trace_shape.rules) (map field fs) → AllOf (λ f. field_at (after trace_shape.rules (plain_found dir_rule d uses)) f ≡ plain_field uses f) fs
+    numbers [] are i = tt
+    numbers (f ∷ fs) (is, are) (o, i) = (is.found (after trace_shape.rules (plain_found dir_rule d uses)) ∙ field_found (field f) (greatest f) o is.kind is.absent is.small ∙ sym (is.plain uses), numbers fs are i)
 
 trace_taken : (d : Text) (uses : List Use) → ArePlain trace d uses → request_of (plain_words trace d uses) ≡ plain_request trace d uses
 trace_taken d uses h =
@@ -297,7 +301,7 @@ trace_taken d uses h =
     (ap first_in (argument_found trace dir_rule trace_shape trace_is d refl uses))
     (ap (option_and_then place_of) (text_found trace dir_rule trace_shape trace_is d refl uses from trace_is.options.0))
     (trace_header d uses h.options)
-    (limits_found trace dir_rule trace_shape trace_is d refl uses trace_is.options.1.1.1.1.1.1 h.options)
+    (limits_found trace dir_rule trace_shape trace_is d refl uses (all_behind (IsOption trace_shape.rules) (map field fields) limit_options trace_is.options.1) h.options)
 
 -- ---- reach
 

@@ -62,7 +62,7 @@ on_folder name = with_rule (new_app name) dir_argument
 abbrev pub routes_app : App
 routes_app = with_limits (with_rule (on_folder (codes "routes")) (text_option (codes "router")))
 
--- trace DIR --from PLACE --dst A [--src A] [--proto N] [--sport N] [--dport N]
+-- trace DIR --from PLACE --dst A [--src A] [--proto N] [--sport N] [--dport N] [--type N] [--code N] [--ack N] [--rst N]
 abbrev pub trace_app : App
 trace_app = with_limits (with_header (with_rule (on_folder (codes "trace")) (wanted_option (codes "from"))))
 

@@ -168,6 +168,28 @@ pub greatest_fields : asked (codes "trace d --from R1 --dst 10.0.0.1 --dport 655
 unfolding request_of walk_fault flags_fault defaults_fault walked bundle_met chars
 greatest_fields = refl
 
+-- the type and code of ICMP at their greatest, and at their least
+pub greatest_kinds : asked (codes "trace d --from R1 --dst 10.0.0.1 --proto 1 --type 255 --code 255") ≡ a_walk (at_router (codes "R1")) (record zeros { dst = 167772161; proto = 1; icmp_type = 255; icmp_code = 255 }) 1000 4 1048576
+unfolding request_of walk_fault flags_fault defaults_fault walked bundle_met chars
+greatest_kinds = refl
+
+pub apart_kinds : asked (codes "trace d --code=1 --from R1 --type 003 --dst 10.0.0.1") ≡ a_walk (at_router (codes "R1")) (record zeros { dst = 167772161; icmp_type = 3; icmp_code = 1 }) 1000 4 1048576
+unfolding request_of walk_fault flags_fault defaults_fault walked bundle_met chars
+apart_kinds = refl
+
+-- each flag for itself
+pub an_ack : asked (codes "trace d --from R1 --dst 10.0.0.1 --ack 1 --rst 0") ≡ a_walk (at_router (codes "R1")) (record zeros { dst = 167772161; ack = true }) 1000 4 1048576
+unfolding request_of walk_fault flags_fault defaults_fault walked bundle_met chars
+an_ack = refl
+
+pub a_reset : asked (codes "trace d --from R1 --dst 10.0.0.1 --rst +1 --ack 0") ≡ a_walk (at_router (codes "R1")) (record zeros { dst = 167772161; rst = true }) 1000 4 1048576
+unfolding request_of walk_fault flags_fault defaults_fault walked bundle_met chars
+a_reset = refl
+
+pub both_flags : asked (codes "trace d --rst=1 --from R1 --dst 10.0.0.1 --ack 01 --type 0 --code 0") ≡ a_walk (at_router (codes "R1")) (record zeros { dst = 167772161; ack = true; rst = true }) 1000 4 1048576
+unfolding request_of walk_fault flags_fault defaults_fault walked bundle_met chars
+both_flags = refl
+
 pub fields_with_zeros : asked (codes "trace d --from R1 --dst 10.0.0.1 --dport 0080 --sport +5 --proto 007") ≡ a_walk (at_router (codes "R1")) (header 167772161 0 7 5 80) 1000 4 1048576
 unfolding request_of walk_fault flags_fault defaults_fault walked bundle_met chars
 fields_with_zeros = refl
@@ -239,6 +261,8 @@ no_folder = refl
 pub no_such_option : refused (
     codes "routes d --from R1"
     ∷ codes "routes d --dst 10.0.0.1"
+    ∷ codes "routes d --ack 1"
+    ∷ codes "reach d --from R1 --type 8"
     ∷ codes "routes d --round 5"
     ∷ codes "trace d --from R1 --dst 10.0.0.1 --router R1"
     ∷ []) ≡ true
@@ -255,6 +279,7 @@ pub no_value : refused (
     ∷ codes "trace d --from --dst 10.0.0.1"
     ∷ codes "trace d --from R1 --dst"
     ∷ codes "trace d --from R1 --dst 10.0.0.1 --sport"
+    ∷ codes "trace d --from R1 --dst 10.0.0.1 --ack"
     ∷ []) ≡ true
 unfolding request_of walk_fault flags_fault defaults_fault walked bundle_met chars
 no_value = refl
@@ -268,6 +293,10 @@ pub given_twice : refused (
     ∷ codes "trace d --from R1 --dst 10.0.0.1 --dst=10.0.0.1"
     ∷ codes "trace d --from R1 --dst 10.0.0.1 --src 10.0.0.1 --src 10.0.0.1"
     ∷ codes "trace d --from R1 --dst 10.0.0.1 --proto 1 --proto 1"
+    ∷ codes "trace d --from R1 --dst 10.0.0.1 --type 1 --type 1"
+    ∷ codes "trace d --from R1 --dst 10.0.0.1 --code 1 --code=1"
+    ∷ codes "trace d --from R1 --dst 10.0.0.1 --ack 1 --ack 1"
+    ∷ codes "trace d --from R1 --dst 10.0.0.1 --rst 0 --rst 0"
     ∷ []) ≡ true
 unfolding request_of walk_fault flags_fault defaults_fault walked bundle_met chars
 given_twice = refl
@@ -302,6 +331,15 @@ pub no_field : refused (
     ∷ codes "trace d --from R1 --dst 10.0.0.1 --dport 65536"
     ∷ codes "trace d --from R1 --dst 10.0.0.1 --dport=-1"
     ∷ codes "trace d --from R1 --dst 10.0.0.1 --dport 65536 --sport 1"
+    ∷ codes "trace d --from R1 --dst 10.0.0.1 --type 256"
+    ∷ codes "trace d --from R1 --dst 10.0.0.1 --type -1"
+    ∷ codes "trace d --from R1 --dst 10.0.0.1 --type echo"
+    ∷ codes "trace d --from R1 --dst 10.0.0.1 --code 256"
+    ∷ codes "trace d --from R1 --dst 10.0.0.1 --code=-1"
+    ∷ codes "trace d --from R1 --dst 10.0.0.1 --ack 2"
+    ∷ codes "trace d --from R1 --dst 10.0.0.1 --ack -1"
+    ∷ codes "trace d --from R1 --dst 10.0.0.1 --rst 2"
+    ∷ codes "trace d --from R1 --dst 10.0.0.1 --rst true"
     ∷ []) ≡ true
 unfolding request_of walk_fault flags_fault defaults_fault walked bundle_met chars
 no_field = refl

@@ -3,8 +3,8 @@ use Rattle.std.specs.Prelude.{◌≡◌, refl, true, false, List, [], ◌∷◌,
 use Rattle.std.specs.List.{list_all}
 use Rattle.std.proofs.Common.{lit<, lit≤}
 use Rattle.rc_base.specs.Fields.{fields, zeros}
-use Rattle.rc_base.specs.declared.field.Field.TheVariants.{Dst, Src, Proto, Sport, Dport}
-use Rattle.rc_words.specs.Plain.{routes, trace, router, from, field, rounds, workers, nodes, kind_of, required_of, has_option, options_of, Use, is_given, is_plain_text, IsPlainValue, ArePlain, plain_words, plain_request}
+use Rattle.rc_base.specs.declared.field.Field.TheVariants.{Dst, Src, Proto, Sport, Dport, IcmpType, IcmpCode, Ack, Rst}
+use Rattle.rc_words.specs.Plain.{routes, trace, router, from, field, rounds, workers, nodes, number, text, kind_of, required_of, has_option, options_of, Use, is_given, is_plain_text, IsPlainValue, ArePlain, plain_words, plain_request}
 use Rattle.rc_words.specs.Request.{number_read, place_of}
 use Rattle.rc_words.specs.declared.request.Ask.TheVariants.{Routes, Trace}
 use Rattle.rc_words.specs.declared.request.Source.TheVariants.{Folder}
@@ -85,6 +85,15 @@ sports = (record { some = lit< tt; digits = refl; least = lit≤ tt; most = lit�
 pub dports : IsPlainValue (kind_of (field Dport)) (codes "0") × IsPlainValue (kind_of (field Dport)) (codes "0065535")
 dports = (record { some = lit< tt; digits = refl; least = lit≤ tt; most = lit≤ tt }, record { some = lit< tt; digits = refl; least = lit≤ tt; most = lit≤ tt })
 
+pub kinds : IsPlainValue (kind_of (field IcmpType)) (codes "255") × IsPlainValue (kind_of (field IcmpCode)) (codes "255")
+kinds = (record { some = lit< tt; digits = refl; least = lit≤ tt; most = lit≤ tt }, record { some = lit< tt; digits = refl; least = lit≤ tt; most = lit≤ tt })
+
+pub flags : IsPlainValue (kind_of (field Ack)) (codes "1") × IsPlainValue (kind_of (field Rst)) (codes "01")
+flags = (record { some = lit< tt; digits = refl; least = lit≤ tt; most = lit≤ tt }, record { some = lit< tt; digits = refl; least = lit≤ tt; most = lit≤ tt })
+
+pub their_kinds : map kind_of (map field fields) ≡ text ∷ text ∷ number 0 255 ∷ number 0 65535 ∷ number 0 65535 ∷ number 0 255 ∷ number 0 255 ∷ number 0 1 ∷ number 0 1 ∷ []
+their_kinds = refl
+
 pub most_rounds : IsPlainValue (kind_of rounds) (codes "100000")
 most_rounds = record { some = lit< tt; digits = refl; least = lit≤ tt; most = lit≤ tt }
 
@@ -152,10 +161,11 @@ pub its_words : plain_words trace (codes "d") (record { option = field Dst; valu
 its_words = refl
 
 pub whole_header : plain_request trace (codes "d") (record { option = from; value = codes "R1:e0" } ∷ record { option = field Src; value = codes "0.0.1.0" } ∷ record { option = field Dport; value = codes "80" }
-    ∷ record { option = field Dst; value = codes "0.0.0.9" } ∷ record { option = field Proto; value = codes "6" } ∷ record { option = field Sport; value = codes "65535" } ∷ [])
+    ∷ record { option = field Dst; value = codes "0.0.0.9" } ∷ record { option = field Proto; value = codes "6" } ∷ record { option = field Sport; value = codes "65535" } ∷ record { option = field Rst; value = codes "1" } ∷ record { option = field IcmpCode; value = codes "2" }
+    ∷ record { option = field IcmpType; value = codes "1" } ∷ [])
     ≡ Some (record {
       source = Folder (codes "d");
-      ask = Trace (record { router = codes "R1"; interface = Some (codes "e0") }) (record zeros { dst = 9; src = 256; proto = 6; sport = 65535; dport = 80 });
+      ask = Trace (record { router = codes "R1"; interface = Some (codes "e0") }) (record zeros { dst = 9; src = 256; proto = 6; sport = 65535; dport = 80; icmp_type = 1; icmp_code = 2; rst = true });
       limits = record { rounds = 1000; workers = 4; nodes = 1048576 };
     })
 whole_header = refl

@@ -61,6 +61,10 @@ pub(crate) fn word_of(field: Field) -> &'static str
         Field::Proto => "proto",
         Field::Sport => "sport",
         Field::Dport => "dport",
+        Field::IcmpType => "type",
+        Field::IcmpCode => "code",
+        Field::Ack => "ack",
+        Field::Rst => "rst",
     }
 }
 
@@ -68,11 +72,7 @@ pub(crate) fn word_of(field: Field) -> &'static str
 pub(crate) fn greatest_of(field: Field) -> u64
     ensures { result ≡ greatest field }
 {
-    match field {
-        Field::Dst | Field::Src => 0xffff_ffff,
-        Field::Proto => 0xff,
-        Field::Sport | Field::Dport => 0xffff,
-    }
+    (1 << field.width()) - 1
 }
 
 fn folder_argument<'a>(alloc: Global) -> Arg<'a>
@@ -148,6 +148,55 @@ fn command_of<'a>(
     Ok(command)
 }
 
+const PROTO: Argument = Argument::Number {
+    name: "proto",
+    least: 0,
+    most: 255,
+    default: "0",
+};
+
+const SPORT: Argument = Argument::Number {
+    name: "sport",
+    least: 0,
+    most: 65_535,
+    default: "0",
+};
+
+const DPORT: Argument = Argument::Number {
+    name: "dport",
+    least: 0,
+    most: 65_535,
+    default: "0",
+};
+
+const TYPE: Argument = Argument::Number {
+    name: "type",
+    least: 0,
+    most: 255,
+    default: "0",
+};
+
+const CODE: Argument = Argument::Number {
+    name: "code",
+    least: 0,
+    most: 255,
+    default: "0",
+};
+
+const ACK: Argument = Argument::Number {
+    name: "ack",
+    least: 0,
+    most: 1,
+    default: "0",
+};
+
+const RST: Argument = Argument::Number {
+    name: "rst",
+    least: 0,
+    most: 1,
+    default: "0",
+};
+
 const ROUNDS: Argument = Argument::Number {
     name: "rounds",
     least: 1,
@@ -196,24 +245,13 @@ fn trace_command<'a>(alloc: Global) -> Result<Command<'a>, AllocError>
             Argument::Wanted("from"),
             Argument::Wanted("dst"),
             Argument::Source,
-            Argument::Number {
-                name: "proto",
-                least: 0,
-                most: 255,
-                default: "0",
-            },
-            Argument::Number {
-                name: "sport",
-                least: 0,
-                most: 65_535,
-                default: "0",
-            },
-            Argument::Number {
-                name: "dport",
-                least: 0,
-                most: 65_535,
-                default: "0",
-            },
+            PROTO,
+            SPORT,
+            DPORT,
+            TYPE,
+            CODE,
+            ACK,
+            RST,
             ROUNDS,
             WORKERS,
             NODES,
