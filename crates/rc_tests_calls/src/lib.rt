@@ -19,4 +19,6 @@ mod names;
 #[cfg(test)]
 mod printed;
 #[cfg(test)]
+mod several_paths;
+#[cfg(test)]
 mod states;

@@ -21,7 +21,10 @@ interface GigabitEthernet0/2
  ip address 10.0.12.1 255.255.255.252
 interface Loopback0
  ip address 1.1.1.1 255.255.255.0
+access-list 101 permit tcp any any established
 access-list 101 deny tcp any any lt 1024
+access-list 101 deny icmp any any unreachable
+access-list 101 deny icmp any any 8 1
 access-list 101 deny ip 128.0.0.0 127.255.255.255 any
 access-list 101 permit ip any any
 access-list 102 permit tcp any any
@@ -72,19 +75,28 @@ const PREFIXES: [(u32, u32); 12] = [
     (0x0a02_8000, 0x0a02_ffff),
 ];
 
-/// Sources, protocols and destination ports at the corners of the lists' lines.
-const CORNERS: [(u32, u32, u32); 7] = [
-    (0, 6, 1023),
-    (0, 6, 1024),
-    (0, 5, 0),
-    (0x7fff_ffff, 17, 0),
-    (0x8000_0000, 17, 65535),
-    (0x7fff_ffff, 7, 1023),
-    (0xffff_ffff, 6, 65535),
+/// Source, protocol, destination port, ICMP type and code, ACK and RST at the corners of the lists' lines.
+const CORNERS: [(u32, u32, u32, u32, u32, u32, u32); 14] = [
+    (0, 6, 1023, 0, 0, 0, 0),
+    (0, 6, 1024, 0, 0, 0, 0),
+    (0, 5, 0, 0, 0, 1, 1),
+    (0x7fff_ffff, 17, 0, 0, 0, 0, 0),
+    (0x8000_0000, 17, 65535, 3, 0, 0, 0),
+    (0x7fff_ffff, 7, 1023, 8, 1, 0, 0),
+    (0xffff_ffff, 6, 65535, 0, 0, 0, 0),
+    (0, 6, 1023, 8, 1, 1, 0),
+    (0xffff_ffff, 6, 0, 0, 0, 0, 1),
+    (0, 1, 0, 3, 255, 0, 0),
+    (0, 1, 0, 2, 0, 0, 0),
+    (0, 1, 0, 4, 0, 1, 0),
+    (0, 1, 0, 8, 1, 0, 1),
+    (0, 1, 0, 8, 0, 0, 0),
 ];
 
 /// The fields of a header, as cubes name them.
-const FIELDS: [&str; 5] = ["dst", "src", "proto", "sport", "dport"];
+const FIELDS: [&str; 9] = [
+    "dst", "src", "proto", "sport", "dport", "type", "code", "ack", "rst",
+];
 
 /// The number that a word is, also as an address.
 fn number_of(word: &str) -> Option<u32> {
@@ -95,7 +107,7 @@ fn number_of(word: &str) -> Option<u32> {
 }
 
 /// The field of this name.
-fn field_of(header: &[u32; 5], name: &str) -> Option<u32> {
+fn field_of(header: &[u32; 9], name: &str) -> Option<u32> {
     for (field, value) in FIELDS.iter().zip(header.iter()) {
         if *field == name {
             return Some(*value);
@@ -105,7 +117,7 @@ fn field_of(header: &[u32; 5], name: &str) -> Option<u32> {
 }
 
 /// Whether the header passes a test, as `dport=23&65535`. There is no answer where the text isn't one.
-fn passes(header: &[u32; 5], test: &str) -> Option<bool> {
+fn passes(header: &[u32; 9], test: &str) -> Option<bool> {
     let (name, pattern) = test.split_once('=')?;
     let (value, mask) = pattern.split_once('&')?;
     let field = field_of(header, name)?;
@@ -113,7 +125,7 @@ fn passes(header: &[u32; 5], test: &str) -> Option<bool> {
 }
 
 /// Whether a line is a cube that holds the header.
-fn is_cube_of(header: &[u32; 5], line: &str) -> bool {
+fn is_cube_of(header: &[u32; 9], line: &str) -> bool {
     let Some(tests) = line.strip_prefix("cube ") else {
         return false;
     };
@@ -123,7 +135,7 @@ fn is_cube_of(header: &[u32; 5], line: &str) -> bool {
 }
 
 /// Whether a cube among these lines holds the header.
-fn is_held(header: &[u32; 5], cubes: &str) -> bool {
+fn is_held(header: &[u32; 9], cubes: &str) -> bool {
     cubes.lines().any(|line| is_cube_of(header, line))
 }
 
@@ -145,28 +157,29 @@ fn dotted(alloc: Global, bits: u32) -> Result<String, Fail> {
 }
 
 /// How many headers are tried.
-const HEADERS: usize = 4 * 7 * 12;
+const HEADERS: usize = 7 * 12 * 4;
 
-/// One of the headers, by its number: its destination is at an end of a prefix or beside it.
-fn header_at(number: usize) -> [u32; 5] {
-    let (first, last) = PREFIXES[number / 28 % 12];
-    let (source, protocol, port) = CORNERS[number / 4 % 7];
+/// One of the headers, by its number: its destination is at an end of a prefix or beside it. Each corner stands at half of the
+/// prefixes.
+fn header_at(number: usize) -> [u32; 9] {
+    let (first, last) = PREFIXES[number / 4 % 12];
+    let (source, protocol, port, kind, code, ack, rst) = CORNERS[number / 24 % 14];
     let destination = match number % 4 {
         0 => first.wrapping_sub(1),
         1 => first,
         2 => last,
         _ => last.wrapping_add(1),
     };
-    [destination, source, protocol, 5, port]
+    [destination, source, protocol, 5, port, kind, code, ack, rst]
 }
 
 /// What is said of the walk of a packet.
-fn walk_of(rt: &impl Host, header: &[u32; 5]) -> Result<String, Fail> {
+fn walk_of(rt: &impl Host, header: &[u32; 9]) -> Result<String, Fail> {
     let destination = dotted(rt.alloc(), header[0])?;
     let source = dotted(rt.alloc(), header[1])?;
     let line = format!(in rt.alloc();
-        "trace d --from {PLACE} --workers 1 --dst {destination} --src {source} --proto {} --sport {} --dport {}",
-        header[2], header[3], header[4]
+        "trace d --from {PLACE} --workers 1 --dst {destination} --src {source} --proto {} --sport {} --dport {} --type {} --code {} --ack {} --rst {}",
+        header[2], header[3], header[4], header[5], header[6], header[7], header[8]
     )?;
     said(rt, line.as_str())
 }

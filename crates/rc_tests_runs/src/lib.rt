@@ -14,6 +14,8 @@ mod faults;
 #[cfg(test)]
 mod gates;
 #[cfg(test)]
+mod hostile;
+#[cfg(test)]
 mod refusals;
 #[cfg(test)]
 mod small_tables;

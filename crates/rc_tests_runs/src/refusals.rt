@@ -3,6 +3,7 @@ use crate::answers::{Host, NamedText, file_in, folder_of, ran, sink_of};
 use rc_analyse::Status;
 use rc_outside::{MemFolder, OpenGate};
 use std::alloc::{AllocError, Global};
+use std::str::from_utf8;
 use std::test::Fail;
 
 /// How a run ends, what it says where that is told here, and after how many calls of its folder, of which how many failed.
@@ -56,6 +57,21 @@ fn bytes_that_are_refused(rt: HostRuntime) -> Result<(), Fail> {
     check_all_bytes(&rt, &BYTES)
 }
 
+/// A file of every byte once, in order.
+#[test]
+fn a_file_of_all_bytes(rt: HostRuntime) -> Result<(), Fail> {
+    let mut bytes = Vec::new(rt.alloc());
+    for byte in 0..=255u8 {
+        bytes.push(byte)?;
+    }
+    let folder = folder_of_bytes(rt.alloc(), bytes.as_slice())?;
+    check_end(
+        &rt,
+        folder,
+        &(Status::Refused, "refused a.cfg:1: 1\n", 2, 0),
+    )
+}
+
 /// A first line, so many lines of comment, and an end.
 fn comments(alloc: Global, first: &[u8], lines: u32, end: &[u8]) -> Result<MemFolder, AllocError> {
     let mut bytes = Vec::from_slice(alloc, first)?;
@@ -105,6 +121,23 @@ fn as_many_files_as_may_be(rt: HostRuntime) -> Result<(), Fail> {
     )?;
     check_end(&rt, many_files(rt.alloc(), 513, 0)?, &too_many)?;
     check_end(&rt, many_files(rt.alloc(), 513, 2)?, &too_many)
+}
+
+/// Each of them has a line in the answer.
+#[test]
+fn each_file_has_its_router(rt: HostRuntime) -> Result<(), Fail> {
+    let mut folder = many_files(rt.alloc(), 512, 0)?;
+    let mut out = sink_of(rt.alloc(), 65_536)?;
+    let status = ran(&rt, &["routes", "d"], &mut folder, &mut out, &OpenGate);
+    let text = from_utf8(out.bytes.as_slice()).unwrap_or("");
+    let mut routers = 0u32;
+    for line in text.lines() {
+        if line.strip_prefix("router r").is_some() {
+            routers = routers.saturating_add(1);
+        }
+    }
+    assert!(rt; status == Status::Done && text.starts_with("outcome fixed 1\n") && routers == 512);
+    Ok(())
 }
 
 const BEFORE_A_REFUSED_ONE: [NamedText<'static>; 3] = [
