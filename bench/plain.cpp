@@ -35,7 +35,7 @@ static Set node(uint32_t bit, Set low, Set high) {
     }
 }
 
-static uint32_t bit_of(Set s) { return s < 2 ? 104 : (slots[s - 2] >> 56) - 1; }
+static uint32_t bit_of(Set s) { return s < 2 ? 122 : (slots[s - 2] >> 56) - 1; }
 static Set low_of(Set s) { return slots[s - 2] >> 28 & 0xfffffff; }
 static Set high_of(Set s) { return slots[s - 2] & 0xfffffff; }
 
@@ -368,17 +368,17 @@ int main(int words, char **word) {
         static bool cubes(Set set, vector<std::pair<int, int>> &path, string &text, bool all) {
             if (!set) return false;
             if (set == 1) {
-                uint64_t value[5] = {}, mask[5] = {};
-                static const int starts[] = {0, 32, 64, 72, 88, 104};
+                uint64_t value[9] = {}, mask[9] = {};
+                static const int starts[] = {0, 32, 64, 72, 88, 104, 112, 120, 121, 122};
                 for (auto [bit, side] : path) {
                     int field = 0;
                     while (bit >= starts[field + 1]) field++;
                     mask[field] |= 1ull << (starts[field + 1] - 1 - bit);
                     if (side) value[field] |= 1ull << (starts[field + 1] - 1 - bit);
                 }
-                static const char *names[] = {"dst", "src", "proto", "sport", "dport"};
+                static const char *names[] = {"dst", "src", "proto", "sport", "dport", "type", "code", "ack", "rst"};
                 text += "cube";
-                for (int field = 0; field < 5; field++)
+                for (int field = 0; field < 9; field++)
                     if (mask[field]) text += string(" ") + names[field] + "=" + (field < 2 ? dotted(value[field]) + "&" + dotted(mask[field]) : std::to_string(value[field]) + "&" + std::to_string(mask[field]));
                 text += path.empty() ? " all\n" : "\n";
                 return true;

@@ -18,7 +18,7 @@ KEPT = ROOT / "crates/netcheck/out/launcher/netcheck"
 
 ENDINGS = ("accepted", "delivered", "exits", "denied-in", "denied-out", "no-route", "null-routed", "unreachable")
 # The fields of a header in the order in which patterns name them, each with its bits.
-FIELDS = {"dst": 32, "src": 32, "proto": 8, "sport": 16, "dport": 16}
+FIELDS = {"dst": 32, "src": 32, "proto": 8, "sport": 16, "dport": 16, "type": 8, "code": 8, "ack": 1, "rst": 1}
 ADDRESSES = ("dst", "src")
 
 # The statuses of the program that companions tell apart, as docs/GUIDE.md has them.

@@ -51,6 +51,9 @@ class PacketsTest(unittest.TestCase):
             header = packets.pattern_of("cube " + re.sub(r"=(\S+)", r"=\1&\1", tests)).value
             self.assertEqual(packets.fits(pattern, header), is_in, tests)
         self.assertEqual(packets.words_of(pattern), "--dst 10.1.1.8 --proto 6 --dport 0")
+        line = "cube proto=6&255 type=8&248 code=0&255 ack=0&1 rst=1&1"
+        self.assertEqual(packets.line_of(packets.pattern_of(line)), line)
+        self.assertEqual(packets.words_of(packets.pattern_of(line)), "--dst 0.0.0.0 --proto 6 --type 8 --code 0 --ack 0 --rst 1")
         self.assertEqual(packets.words_of(packets.pattern_of("cube all")), "--dst 0.0.0.0")
         self.assertEqual(packets.line_of(packets.Pattern(0, 0)), "cube all")
         self.assertRaises(common.Failure, packets.pattern_of, "cube colour=1&1")

@@ -97,10 +97,10 @@ class PictureTest(CompanionTest):
         self.assertEqual("\n" + "".join(done.text.splitlines(keepends=True)[HEAD:]), INTO_A_CIRCLE)
 
     def test_packets_have_all_fields(self):
-        words = ("--dst", "10.9.1.20", "--src", "10.1.0.10", "--proto", "6", "--sport", "1", "--dport", "22")
+        words = ("--dst", "10.9.1.20", "--src", "10.1.0.10", "--proto", "6", "--sport", "1", "--dport", "22", "--type", "0", "--code", "0", "--ack", "1", "--rst", "0")
         text = run("picture", str(EXAMPLES / "lists"), *words, "--dot").text
         self.assertIn("delivered from 2 routers", text)
-        self.assertIn("dst=10.9.1.20 src=10.1.0.10 proto=6 sport=1 dport=22 in", text)
+        self.assertIn("dst=10.9.1.20 src=10.1.0.10 proto=6 sport=1 dport=22 type=0 code=0 ack=1 rst=0 in", text)
 
     def test_short_names(self):
         short = companion("picture").interface_of
