@@ -2,11 +2,12 @@
 use Rattle.std.specs.Prelude.{ℕ, ◌+◌, ◌*◌, true, false, List, [], ◌∷◌, map, Some, None, codes}
 use Rattle.rc_base.specs.Prefix.{Cidr, prefix_at}
 use Rattle.rc_base.specs.declared.origin.Origin.TheVariants.{Igp}
-use Rattle.rc_config.specs.Bgp.{no_lines, no_settings}
+use Rattle.rc_config.specs.Bgp.{fresh as no_lines_about, no_lines, with_own}
 use Rattle.rc_config.specs.Interface.{fresh}
 use Rattle.rc_config.specs.Update.{empty}
 use Rattle.rc_config.specs.declared.bgp.BgpProcess.{BgpProcess}
 use Rattle.rc_config.specs.declared.bgp.Neighbor.{Neighbor}
+use Rattle.rc_config.specs.declared.bgp.NeighborSetting.TheVariants.{RemoteAs}
 use Rattle.rc_config.specs.declared.interface.Interface.{Interface}
 use Rattle.rc_config.specs.declared.network.Network.{Network}
 use Rattle.rc_config.specs.declared.router_text.RouterText.{RouterText}
@@ -41,7 +42,7 @@ abbrev pub on : ℕ → ℕ → ℕ → Interface
 on m n len = record fresh { primary = Some (record { addr = ip m n; len = len }) }
 
 abbrev pub peer : ℕ → ℕ → Neighbor
-peer address asn = record (no_settings address) { remote_as = Some asn }
+peer address asn = with_own (no_lines_about address) (RemoteAs asn)
 
 abbrev pub process : ℕ → List Neighbor → BgpProcess
 process asn neighbors = record (no_lines asn) { neighbors = neighbors }

@@ -1,5 +1,5 @@
 -- What a session makes of a path: what its sender exports (RFC 4271 s.9.2, s.5.1) and what its receiver imports (s.9.1).
-use Rattle.std.specs.Prelude.{ℕ, ◌==◌, Bool, true, not, ◌&&◌, ◌||◌, if◌then◌else◌, List, [], ◌∷◌, Option, Some, None, option_and_then}
+use Rattle.std.specs.Prelude.{ℕ, ◌==◌, Bool, true, not, ◌&&◌, ◌||◌, if◌then◌else◌, List, [], ◌∷◌, Option, Some, None, option_and_then, unwrap_or}
 use Rattle.std.specs.List.{list_any}
 use Rattle.std.specs.Option.{option_map}
 use Rattle.rc_base.specs.Communities.{has_community}
@@ -30,8 +30,8 @@ passes_list file None p = true
 passes_list file (Some list) p = is_permitted file.lists.prefix_lists (λ l. prefix_list_permits l p) list.name
 
 -- what a route map sees of a path: its metric is the MED, and its metric type 2, which nothing reads
-abbrev pub attrs_of : BgpPath → Attrs
-attrs_of x = record {
+abbrev pub attrs_of_path : BgpPath → Attrs
+attrs_of_path x = record {
   prefix = x.prefix;
   metric = x.med;
   metric_type = Type2;
@@ -47,7 +47,7 @@ with_attrs x a = record x { med = a.metric; local_preference = a.local_preferenc
 
 -- what the route map that is named makes of a path, if any; one that is not there rejects
 abbrev pub mapped_path : RouterText → Option Mention → BgpPath → Option BgpPath
-mapped_path file map x = option_map (with_attrs x) (mapped file map (attrs_of x))
+mapped_path file map x = option_map (with_attrs x) (mapped file map (attrs_of_path x))
 
 -- ---- export
 
@@ -76,7 +76,7 @@ with_med s x = record x { med = med_over s x }
 
 -- the next hop is the local address to another AS, with `next-hop-self` and for what the router originates (RFC 4271 s.5.1.3)
 abbrev pub has_own_next_hop : Session → Neighbor → BgpPath → Bool
-has_own_next_hop s n x = s.is_external || n.next_hop_self || is_originated x.source
+has_own_next_hop s n x = s.is_external || n.settings.next_hop_self || is_originated x.source
 
 abbrev pub next_hop_over : Session → Neighbor → BgpPath → ℕ
 next_hop_over s n x = if has_own_next_hop s n x then s.sender_address else x.next_hop
@@ -91,7 +91,7 @@ as_path_over asn s numbers = if s.is_external then asn ∷ numbers else numbers
 
 -- communities go along with `send-community`
 abbrev pub communities_to : Neighbor → BgpPath → List ℕ
-communities_to n x = if n.send_community then x.communities else []
+communities_to n x = if n.settings.send_community then x.communities else []
 
 abbrev pub as_sent : ℕ → Session → Neighbor → BgpPath → BgpPath
 as_sent asn s n x = record x { next_hop = next_hop_over s n x; local_preference = local_preference_over s x; as_path = as_path_over asn s x.as_path; communities = communities_to n x }
@@ -100,8 +100,8 @@ as_sent asn s n x = record x { next_hop = next_hop_over s n x; local_preference 
 abbrev pub exported : RouterText → ℕ → Neighbor → Session → BgpPath → Option BgpPath
 exported file asn n s x =
     if is_withheld s x then None
-    else if not (passes_list file n.list_out x.prefix) then None
-    else option_map (as_sent asn s n) (mapped_path file n.map_out (with_med s x))
+    else if not (passes_list file n.settings.list_out x.prefix) then None
+    else option_map (as_sent asn s n) (mapped_path file n.settings.map_out (with_med s x))
 
 -- a router's statement about an address is asked, with its AS
 abbrev pub ask : {X : Type 0} → Network → ℕ → ℕ → (RouterText → ℕ → Neighbor → Option X) → Option X
@@ -133,7 +133,7 @@ default_path asn s = record {
 
 -- the path of `default-originate` over a session, where its sender has that line for it
 abbrev pub originated_default : Network → Session → Option BgpPath
-originated_default net s = ask net s.sender s.receiver_address (λ file asn n. if n.default_originate then Some (default_path asn s) else None)
+originated_default net s = ask net s.sender s.receiver_address (λ file asn n. if n.settings.default_originate then Some (default_path asn s) else None)
 
 -- ---- import
 
@@ -150,12 +150,16 @@ as_received s x = record x {
   igp_metric = 0;
 }
 
+-- the weight that paths of a neighbour are given, 0 where no line gives one
+abbrev pub weight_of : Neighbor → ℕ
+weight_of n = unwrap_or n.settings.weight 0
+
 -- an AS path that holds the own AS is a loop (RFC 4271 s.9.1.2); the weight is the neighbour's; then the prefix list and the route map
 abbrev pub imported : RouterText → ℕ → Neighbor → Session → BgpPath → Option BgpPath
 imported file asn n s x =
     if list_any (λ a. a == asn) x.as_path then None
-    else if not (passes_list file n.list_in x.prefix) then None
-    else option_map (as_received s) (mapped_path file n.map_in (record x { weight = n.weight }))
+    else if not (passes_list file n.settings.list_in x.prefix) then None
+    else option_map (as_received s) (mapped_path file n.settings.map_in (record x { weight = weight_of n }))
 
 -- the path as the receiver of a session takes it, if it does
 abbrev pub import : Network → Session → BgpPath → Option BgpPath

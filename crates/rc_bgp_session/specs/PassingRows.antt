@@ -1,14 +1,17 @@
 -- Worked cases of export and import, each by computation.
-use Rattle.std.specs.Prelude.{◌≡◌, ℕ, true, List, [], ◌∷◌, Option, Some, None, option_and_then, codes, refl}
+use Rattle.std.specs.Prelude.{◌≡◌, ℕ, List, [], ◌∷◌, Option, Some, None, option_and_then, codes, refl}
 use Rattle.rc_base.specs.declared.origin.Origin.TheVariants.{Egp, Incomplete}
+use Rattle.rc_config.specs.Bgp.{with_own}
 use Rattle.rc_config.specs.PrefixList.{no_lines as no_prefix_lines, with_line}
 use Rattle.rc_config.specs.RouteMap.{fresh_entry}
 use Rattle.rc_config.specs.Sets.{no_sets}
 use Rattle.rc_config.specs.Update.{empty}
 use Rattle.rc_config.specs.declared.access_list.Action.TheVariants.{Permit}
 use Rattle.rc_config.specs.declared.bgp.Neighbor.{Neighbor}
+use Rattle.rc_config.specs.declared.bgp.NeighborSetting.TheVariants.{NextHopSelf, SendCommunity, Weight, RouteMap, PrefixList}
+use Rattle.rc_config.specs.declared.interface.Direction.TheVariants.{In, Out}
 use Rattle.rc_config.specs.declared.route_map.Mention.{Mention}
-use Rattle.rc_config.specs.declared.route_map.RouteMap.{RouteMap}
+use Rattle.rc_config.specs.declared.route_map.RouteMap.{RouteMap as Entries}
 use Rattle.rc_config.specs.declared.router_text.RouterText.{RouterText}
 use Rattle.rc_config.specs.declared.sets.Sets.{Sets}
 use Rattle.rc_route.specs.declared.path.BgpPath.{BgpPath}
@@ -54,7 +57,7 @@ inside_no_further = refl
 pub inside_goes_out : sent plain out from_peer ≡ Some (record from_peer { next_hop = ip 12 1; med = 0; local_preference = 100; as_path = 65001 ∷ 65003 ∷ []; communities = [] })
 inside_goes_out = refl
 
-pub next_hop_self : sent (record plain { next_hop_self = true }) inside learned ≡ Some (record learned { next_hop = ip 12 1; communities = [] })
+pub next_hop_self : sent (with_own plain NextHopSelf) inside learned ≡ Some (record learned { next_hop = ip 12 1; communities = [] })
 next_hop_self = refl
 
 -- what is originated goes with the local address and keeps its MED, also where its route has a gateway
@@ -64,7 +67,7 @@ originated_out = refl
 pub originated_inside : sent plain inside (record (ninth 0 Network) { med = 5 }) ≡ Some (record (ninth 0 Network) { med = 5; next_hop = ip 12 1 })
 originated_inside = refl
 
-pub communities_sent : sent (record plain { send_community = true }) inside learned ≡ Some learned
+pub communities_sent : sent (with_own plain SendCommunity) inside learned ≡ Some learned
 communities_sent = refl
 
 -- the well-known communities, over both kinds of sessions
@@ -91,10 +94,10 @@ no_export_subconfed_inside = refl
 
 -- ---- lists and maps
 
-abbrev named : List ℕ → Option Mention
-named name = Some (record { name = name; line = 9 })
+abbrev named : List ℕ → Mention
+named name = record { name = name; line = 9 }
 
-abbrev mapping : Sets → RouteMap
+abbrev mapping : Sets → Entries
 mapping sets = record { entries = record (fresh_entry 10 Permit) { sets = sets } ∷ [] }
 
 -- the prefix list NINTH permits 10.0.9.0/24 alone, OTHER permits 10.0.8.0/24; the map ALL permits and sets, NONE has no entry
@@ -104,17 +107,17 @@ file = record empty {
   route_maps = (codes "ALL", mapping (record no_sets { metric = Some 33; local_preference = Some 333; weight = Some 3; origin = Some Incomplete; prepended = 65001 ∷ 65001 ∷ [] })) ∷ (codes "NONE", record { entries = [] }) ∷ [];
 }
 
-pub list_permits : exported file 65001 (record plain { list_out = named (codes "NINTH") }) inside learned ≡ Some (record learned { communities = [] })
+pub list_permits : exported file 65001 (with_own plain (PrefixList (named (codes "NINTH")) Out)) inside learned ≡ Some (record learned { communities = [] })
 list_permits = refl
 
-pub list_denies : exported file 65001 (record plain { list_out = named (codes "OTHER"); map_out = named (codes "ALL") }) inside learned ≡ None
+pub list_denies : exported file 65001 (with_own (with_own plain (PrefixList (named (codes "OTHER")) Out)) (RouteMap (named (codes "ALL")) Out)) inside learned ≡ None
 list_denies = refl
 
-pub map_rejects : exported file 65001 (record plain { list_out = named (codes "NINTH"); map_out = named (codes "NONE") }) inside learned ≡ None
+pub map_rejects : exported file 65001 (with_own (with_own plain (PrefixList (named (codes "NINTH")) Out)) (RouteMap (named (codes "NONE")) Out)) inside learned ≡ None
 map_rejects = refl
 
 -- the map comes before the own AS goes in front and the local preference is taken off
-pub map_then_as : exported file 65001 (record plain { map_out = named (codes "ALL") }) out learned
+pub map_then_as : exported file 65001 (with_own plain (RouteMap (named (codes "ALL")) Out)) out learned
     ≡ Some (record learned { next_hop = ip 12 1; med = 33; local_preference = 100; weight = 3; origin = Incomplete; as_path = 65001 ∷ 65001 ∷ 65001 ∷ 65003 ∷ []; communities = [] })
 map_then_as = refl
 
@@ -142,18 +145,19 @@ loop_behind = refl
 pub loop_inside : taken plain inside (record learned { as_path = 65002 ∷ [] }) ≡ None
 loop_inside = refl
 
-pub weight_of_the_neighbour : taken (record plain { weight = 40 }) out learned ≡ Some (record (noted out learned) { weight = 40 })
+-- the weight is that of the neighbour, 0 where no line gives one
+pub weight_of_the_neighbour : taken (with_own plain (Weight 40)) out learned ≡ Some (record (noted out learned) { weight = 40 })
 weight_of_the_neighbour = refl
 
 -- a map sets the weight after the neighbour's
-pub weight_of_the_map : taken (record plain { weight = 40; map_in = named (codes "ALL") }) out learned
+pub weight_of_the_map : taken (with_own (with_own plain (Weight 40)) (RouteMap (named (codes "ALL")) In)) out learned
     ≡ Some (record (noted out learned) { weight = 3; med = 33; local_preference = 333; origin = Incomplete; as_path = 65001 ∷ 65001 ∷ 65003 ∷ [] })
 weight_of_the_map = refl
 
-pub list_in_denies : taken (record plain { list_in = named (codes "OTHER"); map_in = named (codes "ALL") }) out learned ≡ None
+pub list_in_denies : taken (with_own (with_own plain (PrefixList (named (codes "OTHER")) In)) (RouteMap (named (codes "ALL")) In)) out learned ≡ None
 list_in_denies = refl
 
-pub map_in_rejects : taken (record plain { map_in = named (codes "NONE") }) out learned ≡ None
+pub map_in_rejects : taken (with_own plain (RouteMap (named (codes "NONE")) In)) out learned ≡ None
 map_in_rejects = refl
 
 -- what router 0 originates, sent and taken

@@ -65,7 +65,7 @@ fn with_med(session: &Session, path: &BgpPath) -> Result<BgpPath, AllocError>
 fn has_own_next_hop(session: &Session, neighbor: &Neighbor, path: &BgpPath) -> bool
     ensures { result ≡ spec.has_own_next_hop session.now neighbor.now path.now }
 {
-    session.is_external || neighbor.next_hop_self || is_originated(path.source)
+    session.is_external || neighbor.settings.next_hop_self || is_originated(path.source)
 }
 
 /// The next hop of a path over a session.
@@ -110,7 +110,7 @@ fn as_path_over(
 fn communities_to(neighbor: &Neighbor, path: &BgpPath) -> Result<Communities, AllocError>
     ensures { IfOk result (λ made. made ≡ spec.communities_to neighbor.now path.now) }
 {
-    if neighbor.send_community {
+    if neighbor.settings.send_community {
         path.communities.share()
     } else {
         Ok(Communities::none())
@@ -160,11 +160,11 @@ fn exported(
     if is_withheld(session, path) {
         return Ok(None);
     }
-    if !passes_list(file, &neighbor.list_out, &path.prefix) {
+    if !passes_list(file, &neighbor.settings.list_out, &path.prefix) {
         return Ok(None);
     }
     let offered = with_med(session, path)?;
-    let made = mapped_path(alloc, file, &neighbor.map_out, offered)?;
+    let made = mapped_path(alloc, file, &neighbor.settings.map_out, offered)?;
     match made {
         None => Ok(None),
         Some(made) => {
@@ -236,7 +236,7 @@ pub fn originated_default(
     let Some(neighbor) = process.neighbors.get(session.receiver_address.bits()) else {
         return Ok(None);
     };
-    if !neighbor.default_originate {
+    if !neighbor.settings.default_originate {
         return Ok(None);
     }
     let path = default_path(alloc, process.asn, session)?;
@@ -267,6 +267,16 @@ fn as_received(session: &Session, path: BgpPath) -> BgpPath
     made
 }
 
+/// The weight that paths of a neighbour are given: 0 where no line gives one.
+fn weight_of(neighbor: &Neighbor) -> u32
+    ensures { result ≡ spec.weight_of neighbor.now }
+{
+    match neighbor.settings.weight {
+        Some(weight) => u32::from(weight),
+        None => 0,
+    }
+}
+
 /// What a receiver makes of a path, by its statement about the sender. The path is the receiver's own already.
 fn imported(
     alloc: Global,
@@ -281,12 +291,12 @@ fn imported(
     if path.as_path.holds(asn) {
         return Ok(None);
     }
-    if !passes_list(file, &neighbor.list_in, &path.prefix) {
+    if !passes_list(file, &neighbor.settings.list_in, &path.prefix) {
         return Ok(None);
     }
     let mut weighted = path;
-    weighted.weight = u32::from(neighbor.weight);
-    let made = mapped_path(alloc, file, &neighbor.map_in, weighted)?;
+    weighted.weight = weight_of(neighbor);
+    let made = mapped_path(alloc, file, &neighbor.settings.map_in, weighted)?;
     match made {
         None => Ok(None),
         Some(made) => Ok(Some(as_received(session, made))),

@@ -26,8 +26,8 @@ pub(crate) fn passes_list(file: &RouterText, list: &Option<Mention>, prefix: &Pr
 }
 
 /// What a route map sees of a path.
-fn attrs_of(path: &BgpPath) -> Result<Attrs, AllocError>
-    ensures { IfOk result (λ a. a ≡ spec.attrs_of path.now) }
+fn attrs_of_path(path: &BgpPath) -> Result<Attrs, AllocError>
+    ensures { IfOk result (λ a. a ≡ spec.attrs_of_path path.now) }
 {
     let as_path = path.as_path.share()?;
     let communities = path.communities.share()?;
@@ -81,9 +81,9 @@ fn mapped_by(
     map: &RouteMap,
     path: &BgpPath,
 ) -> Result<Option<BgpPath>, AllocError>
-    ensures { IfOk result (λ made. made ≡ option_map (spec.with_attrs path.now) (route_map file.now.lists map.now (spec.attrs_of path.now))) }
+    ensures { IfOk result (λ made. made ≡ option_map (spec.with_attrs path.now) (route_map file.now.lists map.now (spec.attrs_of_path path.now))) }
 {
-    let attrs = attrs_of(path)?;
+    let attrs = attrs_of_path(path)?;
     let made = apply(alloc, map, &file.lists, attrs)?;
     match made {
         Some(attrs) => Ok(Some(with_attrs(path, attrs))),

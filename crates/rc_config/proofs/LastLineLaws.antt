@@ -48,7 +48,8 @@ use Rattle.rc_config.proofs.ByNumberLaws.{found_number}
 use Rattle.rc_config.proofs.EntryLineLaws.{any-action, entry-lines, line-unacted, unacted}
 use Rattle.rc_config.proofs.InterfaceLineLaws.{interface-lines}
 use Rattle.rc_config.proofs.PolicyLaws.{entry-number, opened-number}
-use Rattle.rc_config.proofs.ProcessLineLaws.{asn_at, asn-step, bgp_after, bgp-by-lines, bgp-step, process_after, process_at, process-by-lines, process-number-step, process-step}
+use Rattle.rc_config.proofs.BgpLineLaws.{asn_at, asn-step, bgp_after, bgp-by-lines, bgp-step}
+use Rattle.rc_config.proofs.ProcessLineLaws.{process_after, process_at, process-by-lines, process-number-step, process-step}
 use Rattle.rc_config.proofs.SaidLaws.{add-if, all-in-order, all-in-turn, either-way, first-counts, found-placed, from-opening, kept, last-counts, named-change, nothing-more, number-said, opened}
 
 -- ---- a file

@@ -12,6 +12,7 @@ use Rattle.rc_config.specs.declared.access_list.AccessListKind.{AccessListKind}
 use Rattle.rc_config.specs.declared.bgp.BgpLine.{BgpLine as BgpRow}
 use Rattle.rc_config.specs.declared.bgp.BgpLine.TheVariants as bgp_line
 use Rattle.rc_config.specs.declared.bgp.BgpProcess.{BgpProcess}
+use Rattle.rc_config.specs.declared.peering.Peer.TheVariants as whom
 use Rattle.rc_config.specs.declared.interface.Direction.{Direction}
 use Rattle.rc_config.specs.declared.interface.Direction.TheVariants.{In, Out}
 use Rattle.rc_config.specs.declared.interface.IfAddr.{IfAddr}
@@ -35,7 +36,7 @@ use Rattle.rc_config.specs.Bgp.{address_of as neighbor_address, with_line as wit
 use Rattle.rc_config.specs.AccessList.{IsLawfulAccessList, IsLawfulLine}
 use Rattle.rc_config.specs.Interface.{fresh, with_address, with_group, with_line as with_block_line}
 use Rattle.rc_config.specs.LawfulInterface.{IsLawfulInterface, IsLawfulInterfaceLine}
-use Rattle.rc_config.specs.Lawful.{HasLawfulInterfaces, HasLawfulRoutes, HasLawfulLists, HasLawfulOspf, HasLawfulBgp, IsDistance, IsInRange, FitsFile}
+use Rattle.rc_config.specs.Lawful.{HasLawfulInterfaces, HasLawfulRoutes, HasLawfulLists, HasLawfulOspf, HasLawfulBgp, IsDistance, IsInRange, IsLawfulFile, FitsFile}
 use Rattle.rc_config.specs.Lists.{access_list_named, prefix_list_named, with_access_list_line, with_line as with_list_line, with_prefix_line, FitsLists, IsLawfulListLine}
 use Rattle.rc_config.specs.Ospf.{area_of, is_same_source, no_settings, process_of, with_redistribution, with_setting, with_line as with_ospf_line, IsLawfulOspf, IsLawfulOspfLine, IsLawfulProcess, IsLawfulSetting, IsOspfNumber, IsRedistribution, IsStubArea}
 use Rattle.rc_config.specs.PrefixList.{IsLawfulLine as IsLawfulPrefixLine, IsLawfulList as IsLawfulPrefixList}
@@ -45,7 +46,8 @@ use Rattle.rc_config.specs.declared.lists.Lists.{Lists}
 use Rattle.rc_config.specs.declared.prefix_list.PrefixLine.{PrefixLine as PrefixRow}
 use Rattle.rc_config.specs.MaskedAddr.{IsMaskLen}
 use Rattle.rc_config.specs.Named.{named, with_value}
-use Rattle.rc_config.specs.Update.{after, bgp_opened, interface_named, ospf_opened, route_map_named}
+use Rattle.rc_config.specs.Update.{after, bgp_opened, interface_named, ospf_opened, route_map_named, settled_router}
+use Rattle.rc_config.proofs.SettleLaws.{settled_lawful}
 use Rattle.rc_config.proofs.ByNumberLaws.{placed_in_order}
 use Rattle.rc_config.proofs.AccessListLaws.{no_lines_lawful, placed_lawful}
 use Rattle.rc_config.proofs.ByNumberLaws.{placed-All}
@@ -180,12 +182,23 @@ bgp_line-lawful p (bgp_line.RouterId id) h k = record { asn = h.asn; external_pa
 bgp_line-lawful p (bgp_line.MaximumExternalPaths number) h k = record { asn = h.asn; external_paths = k; internal_paths = h.internal_paths; in_order = h.in_order }
 bgp_line-lawful p (bgp_line.MaximumInternalPaths number) h k = record { asn = h.asn; external_paths = h.external_paths; internal_paths = k; in_order = h.in_order }
 bgp_line-lawful p (bgp_line.Network prefix) h k = record { asn = h.asn; external_paths = h.external_paths; internal_paths = h.internal_paths; in_order = h.in_order }
-bgp_line-lawful p (bgp_line.Neighbor address setting) h k = record {
+bgp_line-lawful p (bgp_line.Setting (whom.Address address) setting) h k = record {
   asn = h.asn;
   external_paths = h.external_paths;
   internal_paths = h.internal_paths;
   in_order = placed_in_order neighbor_address _ p.neighbors h.in_order;
 }
+bgp_line-lawful p (bgp_line.Setting (whom.Group name) setting) h k = record { asn = h.asn; external_paths = h.external_paths; internal_paths = h.internal_paths; in_order = h.in_order }
+bgp_line-lawful p (bgp_line.Active (whom.Address address) is_active) h k = record { asn = h.asn; external_paths = h.external_paths; internal_paths = h.internal_paths; in_order = h.in_order }
+bgp_line-lawful p (bgp_line.Active (whom.Group name) is_active) h k = record { asn = h.asn; external_paths = h.external_paths; internal_paths = h.internal_paths; in_order = h.in_order }
+bgp_line-lawful p (bgp_line.GroupDeclared name) h k = record { asn = h.asn; external_paths = h.external_paths; internal_paths = h.internal_paths; in_order = h.in_order }
+bgp_line-lawful p (bgp_line.MemberOf address name) h k = record {
+  asn = h.asn;
+  external_paths = h.external_paths;
+  internal_paths = h.internal_paths;
+  in_order = placed_in_order neighbor_address _ p.neighbors h.in_order;
+}
+bgp_line-lawful p bgp_line.InactiveByDefault h k = record { asn = h.asn; external_paths = h.external_paths; internal_paths = h.internal_paths; in_order = h.in_order }
 bgp_line-lawful p (bgp_line.RedistributeConnected r) h k = record { asn = h.asn; external_paths = h.external_paths; internal_paths = h.internal_paths; in_order = h.in_order }
 bgp_line-lawful p (bgp_line.RedistributeStatic r) h k = record { asn = h.asn; external_paths = h.external_paths; internal_paths = h.internal_paths; in_order = h.in_order }
 bgp_line-lawful p (bgp_line.RedistributeOspf r) h k = record { asn = h.asn; external_paths = h.external_paths; internal_paths = h.internal_paths; in_order = h.in_order }
@@ -282,3 +295,8 @@ pub put-bgp : {T : Type 0} (result : Result T AllocError) (r n : RouterText) (c 
     → OnOk result (HasLawfulBgp r → IsInRange c → HasLawfulBgp n)
 put-bgp (Ok x) r n c e = λ h k. subst HasLawfulBgp (sym e) (after-bgp r c h k)
 put-bgp (Err x) r n c e = e
+
+-- and once its neighbours are settled
+pub put-settled : {T : Type 0} (result : Result T AllocError) (r n : RouterText) → OnOk result (n ≡ settled_router r) → OnOk result (IsLawfulFile r → IsLawfulFile n)
+put-settled (Ok x) r n e = λ h. subst IsLawfulFile (sym e) (settled_lawful r h)
+put-settled (Err x) r n e = e

@@ -11,4 +11,6 @@ mod SaidLaws
 mod InterfaceLineLaws
 mod EntryLineLaws
 mod ProcessLineLaws
+mod BgpLineLaws
+pub mod SettleLaws
 pub mod LastLineLaws

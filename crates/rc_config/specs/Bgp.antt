@@ -1,6 +1,8 @@
 -- What a configuration says of BGP (RFC 4271): the process of a router, its neighbours and what it redistributes, by their lines.
-use Rattle.std.specs.Prelude.{ℕ, ◌≤◌, true, false, List, [], ◌∷◌, ◌++◌, Some, None, unwrap_or}
+use Rattle.std.specs.Prelude.{ℕ, ◌≤◌, true, false, List, [], ◌∷◌, ◌++◌, map, Some, None, unwrap_or}
 use Rattle.rc_config.specs.ByNumber.{placed, with_number, IsByNumber}
+use Rattle.rc_config.specs.Peering.{no_peering, settled_in, with_activity, with_declared, with_member, with_shared}
+use Rattle.rc_config.specs.Settings.{no_settings, with_setting}
 use Rattle.rc_config.specs.declared.bgp.BgpLine.{BgpLine}
 use Rattle.rc_config.specs.declared.bgp.BgpLine.TheVariants as line
 use Rattle.rc_config.specs.declared.bgp.BgpProcess.{BgpProcess}
@@ -8,63 +10,33 @@ use Rattle.rc_config.specs.declared.bgp.BgpRedistributions.{BgpRedistributions}
 use Rattle.rc_config.specs.declared.bgp.MaximumPaths.{MaximumPaths}
 use Rattle.rc_config.specs.declared.bgp.Neighbor.{Neighbor}
 use Rattle.rc_config.specs.declared.bgp.NeighborSetting.{NeighborSetting}
-use Rattle.rc_config.specs.declared.bgp.NeighborSetting.TheVariants.{RemoteAs, UpdateSource, EbgpMultihop, Shutdown, NextHopSelf, DefaultOriginate, SendCommunity, Weight, RouteMap, PrefixList}
 use Rattle.rc_config.specs.declared.bgp.OspfRedistribution.{OspfRedistribution}
-use Rattle.rc_config.specs.declared.interface.Direction.{Direction}
-use Rattle.rc_config.specs.declared.interface.Direction.TheVariants.{In, Out}
-use Rattle.rc_config.specs.declared.route_map.Mention.{Mention}
+use Rattle.rc_config.specs.declared.peering.Peer.{Peer}
+use Rattle.rc_config.specs.declared.peering.Peer.TheVariants as peer
 
 -- the address by which a neighbour stands among others
 abbrev pub address_of : Neighbor → ℕ
 address_of n = n.address
 
 -- a neighbour of which no line says anything
-abbrev pub no_settings : ℕ → Neighbor
-no_settings address = record {
-  address = address;
-  remote_as = None;
-  update_source = None;
-  is_multihop = false;
-  is_shutdown = false;
-  next_hop_self = false;
-  default_originate = false;
-  send_community = false;
-  weight = 0;
-  map_in = None;
-  map_out = None;
-  list_in = None;
-  list_out = None;
-}
-
--- a route map, and a prefix list, for paths from the neighbour and to it
-abbrev pub with_map : Neighbor → Mention → Direction → Neighbor
-with_map n map In = record n { map_in = Some map }
-with_map n map Out = record n { map_out = Some map }
-
-abbrev pub with_list : Neighbor → Mention → Direction → Neighbor
-with_list n list In = record n { list_in = Some list }
-with_list n list Out = record n { list_out = Some list }
-
--- the neighbour with one more line: it counts in place of an earlier one of its kind, and of each direction by itself
-abbrev pub with_setting : Neighbor → NeighborSetting → Neighbor
-with_setting n (RemoteAs asn) = record n { remote_as = Some asn }
-with_setting n (UpdateSource interface) = record n { update_source = Some interface }
-with_setting n EbgpMultihop = record n { is_multihop = true }
-with_setting n Shutdown = record n { is_shutdown = true }
-with_setting n NextHopSelf = record n { next_hop_self = true }
-with_setting n DefaultOriginate = record n { default_originate = true }
-with_setting n SendCommunity = record n { send_community = true }
-with_setting n (Weight weight) = record n { weight = weight }
-with_setting n (RouteMap map direction) = with_map n map direction
-with_setting n (PrefixList list direction) = with_list n list direction
+abbrev pub fresh : ℕ → Neighbor
+fresh address = record { address = address; settings = no_settings; is_active = true }
 
 -- what the lines say of the neighbour of an address
 abbrev pub neighbor_at : List Neighbor → ℕ → Neighbor
-neighbor_at neighbors address = unwrap_or (with_number address_of address neighbors) (no_settings address)
+neighbor_at neighbors address = unwrap_or (with_number address_of address neighbors) (fresh address)
 
--- the neighbours with one more line about that of an address
+-- the neighbour with one more line that sets something of it
+abbrev pub with_own : Neighbor → NeighborSetting → Neighbor
+with_own n setting = record n { settings = with_setting n.settings setting }
+
+-- the neighbours with one more such line about that of an address
 abbrev pub with_neighbor : List Neighbor → ℕ → NeighborSetting → List Neighbor
-with_neighbor neighbors address setting = placed address_of (with_setting (neighbor_at neighbors address) setting) neighbors
+with_neighbor neighbors address setting = placed address_of (with_own (neighbor_at neighbors address) setting) neighbors
+
+-- the neighbours with that of an address, which stays as it is where it is there
+abbrev pub with_address : List Neighbor → ℕ → List Neighbor
+with_address neighbors address = placed address_of (neighbor_at neighbors address) neighbors
 
 -- the number of the process by which a redistribution from OSPF stands among others
 abbrev pub process_of : OspfRedistribution → ℕ
@@ -79,19 +51,36 @@ one_path = record { external = 1; internal = 1 }
 
 -- a process with no line in its block
 abbrev pub no_lines : ℕ → BgpProcess
-no_lines asn = record { asn = asn; router_id = None; maximum_paths = one_path; networks = []; neighbors = []; redistributions = no_redistributions }
+no_lines asn = record { asn = asn; router_id = None; maximum_paths = one_path; networks = []; neighbors = []; redistributions = no_redistributions; peering = no_peering }
+
+-- a `neighbor` line that sets something of a neighbour or of a group
+abbrev pub with_setting_of : BgpProcess → Peer → NeighborSetting → BgpProcess
+with_setting_of p (peer.Address a) setting = record p { neighbors = with_neighbor p.neighbors a setting }
+with_setting_of p (peer.Group name) setting = record p { peering = with_shared p.peering name setting }
+
+-- a member of a group is a neighbour, also where no other line is about it
+abbrev pub with_member_of : BgpProcess → ℕ → List ℕ → BgpProcess
+with_member_of p a name = record p { neighbors = with_address p.neighbors a; peering = with_member p.peering a name }
 
 -- The process with one more line. A `network` line goes behind the others, and any other counts in place of an earlier one; so do a
--- `neighbor` line in place of one about the same neighbour, and a `redistribute` line in place of one of the same source.
+-- `neighbor` line in place of one about the same neighbour or group, and a `redistribute` line in place of one of the same source.
 abbrev pub with_line : BgpProcess → BgpLine → BgpProcess
 with_line p (line.RouterId id) = record p { router_id = Some id }
 with_line p (line.MaximumExternalPaths number) = record p { maximum_paths = record p.maximum_paths { external = number } }
 with_line p (line.MaximumInternalPaths number) = record p { maximum_paths = record p.maximum_paths { internal = number } }
 with_line p (line.Network prefix) = record p { networks = p.networks ++ prefix ∷ [] }
-with_line p (line.Neighbor address setting) = record p { neighbors = with_neighbor p.neighbors address setting }
+with_line p (line.Setting whom setting) = with_setting_of p whom setting
+with_line p (line.Active whom is_active) = record p { peering = with_activity p.peering whom is_active }
+with_line p (line.GroupDeclared name) = record p { peering = with_declared p.peering name }
+with_line p (line.MemberOf a name) = with_member_of p a name
+with_line p line.InactiveByDefault = record p { peering = record p.peering { is_active_by_default = false } }
 with_line p (line.RedistributeConnected r) = record p { redistributions = record p.redistributions { connected = Some r } }
 with_line p (line.RedistributeStatic r) = record p { redistributions = record p.redistributions { static_routes = Some r } }
 with_line p (line.RedistributeOspf r) = record p { redistributions = record p.redistributions { ospf = placed process_of r p.redistributions.ospf } }
+
+-- the process with what holds of each neighbour in the end, and without groups
+abbrev pub settled : BgpProcess → BgpProcess
+settled p = record p { neighbors = map (settled_in p.peering) p.neighbors; peering = no_peering }
 
 -- the number of an AS, below 2 ^ 32 as each number here
 abbrev pub IsAsn : ℕ → Type 0

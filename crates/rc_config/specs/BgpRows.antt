@@ -1,8 +1,9 @@
 -- Worked cases of what a configuration says of BGP, each by computation.
 use Rattle.std.specs.Prelude.{◌≡◌, ℕ, ◌+◌, true, false, List, [], ◌∷◌, Option, Some, None, fold, option_map, codes, refl}
 use Rattle.rc_base.specs.Prefix.{Cidr, prefix_at}
-use Rattle.rc_config.specs.Bgp.{no_lines, no_settings}
+use Rattle.rc_config.specs.Bgp.{fresh, no_lines}
 use Rattle.rc_config.specs.Classes.{natural_length}
+use Rattle.rc_config.specs.Settings.{no_settings}
 use Rattle.rc_config.specs.Update.{after, empty}
 use Rattle.rc_config.specs.declared.bgp.BgpLine.{BgpLine}
 use Rattle.rc_config.specs.declared.bgp.BgpLine.TheVariants as line
@@ -17,8 +18,10 @@ use Rattle.rc_config.specs.declared.command.Command.TheVariants.{Hostname, Inter
 use Rattle.rc_config.specs.declared.command.Command.TheVariants as command
 use Rattle.rc_config.specs.declared.interface.InterfaceLine.TheVariants as interface_line
 use Rattle.rc_config.specs.declared.interface.Direction.TheVariants.{In, Out}
+use Rattle.rc_config.specs.declared.peering.Peer.TheVariants as peer
 use Rattle.rc_config.specs.declared.route_map.Mention.{Mention}
 use Rattle.rc_config.specs.declared.router_text.RouterText.{RouterText}
+use Rattle.rc_config.specs.declared.settings.Settings.{Settings}
 
 -- the model of a file whose lines say these commands
 abbrev file : List Command → RouterText
@@ -33,7 +36,11 @@ abbrev neighbors : List BgpLine → Option (List Neighbor)
 neighbors lines = option_map (λ p. p.neighbors) (process lines)
 
 abbrev about : ℕ → NeighborSetting → BgpLine
-about address setting = line.Neighbor address setting
+about address setting = line.Setting (peer.Address address) setting
+
+-- the neighbour of an address with these settings
+abbrev has : ℕ → Settings → Neighbor
+has address settings = record (fresh address) { settings = settings }
 
 -- a process without lines has no router id, one path a prefix, no network and no neighbour, and redistributes nothing
 pub opened : process [] ≡ Some (record {
@@ -43,6 +50,7 @@ pub opened : process [] ≡ Some (record {
   networks = [];
   neighbors = [];
   redistributions = record { connected = None; static_routes = None; ospf = [] };
+  peering = record { groups = []; members = []; activities = []; is_active_by_default = true };
 })
 opened = refl
 
@@ -64,21 +72,21 @@ pub networks_as_written : option_map (λ p. p.networks) (process (line.Network (
 networks_as_written = refl
 
 -- a neighbour is there from its first line on, whatever it says
-pub one_setting : neighbors (about 7 (Weight 5) ∷ []) ≡ Some (record (no_settings 7) { weight = 5 } ∷ [])
+pub one_setting : neighbors (about 7 (Weight 5) ∷ []) ≡ Some (has 7 (record no_settings { weight = Some 5 }) ∷ [])
 one_setting = refl
 
 -- neighbours stand by address, whatever the order of their lines
 pub by_address : neighbors (about 9 Shutdown ∷ about 7 (RemoteAs 1) ∷ about 8 (RemoteAs 2) ∷ [])
-    ≡ Some (record (no_settings 7) { remote_as = Some 1 } ∷ record (no_settings 8) { remote_as = Some 2 } ∷ record (no_settings 9) { is_shutdown = true } ∷ [])
+    ≡ Some (has 7 (record no_settings { remote_as = Some 1 }) ∷ has 8 (record no_settings { remote_as = Some 2 }) ∷ has 9 (record no_settings { is_shutdown = true }) ∷ [])
 by_address = refl
 
 -- of each kind the last line about a neighbour counts, and lines about others leave it as it is
 pub last_counts : neighbors (about 7 (RemoteAs 1) ∷ about 8 (RemoteAs 4) ∷ about 7 (UpdateSource (codes "Lo0")) ∷ about 7 (RemoteAs 2) ∷ about 7 (UpdateSource (codes "Lo1")) ∷ about 7 (Weight 3) ∷ about 7 (Weight 0) ∷ [])
-    ≡ Some (record (no_settings 7) { remote_as = Some 2; update_source = Some (codes "Lo1") } ∷ record (no_settings 8) { remote_as = Some 4 } ∷ [])
+    ≡ Some (has 7 (record no_settings { remote_as = Some 2; update_source = Some (codes "Lo1"); weight = Some 0 }) ∷ has 8 (record no_settings { remote_as = Some 4 }) ∷ [])
 last_counts = refl
 
 pub flags : neighbors (about 7 EbgpMultihop ∷ about 7 Shutdown ∷ about 7 NextHopSelf ∷ about 7 DefaultOriginate ∷ about 7 SendCommunity ∷ about 7 EbgpMultihop ∷ [])
-    ≡ Some (record (no_settings 7) { is_multihop = true; is_shutdown = true; next_hop_self = true; default_originate = true; send_community = true } ∷ [])
+    ≡ Some (has 7 (record no_settings { is_multihop = true; is_shutdown = true; next_hop_self = true; default_originate = true; send_community = true }) ∷ [])
 flags = refl
 
 abbrev named : List ℕ → ℕ → Mention
@@ -86,11 +94,11 @@ named name number = record { name = name; line = number }
 
 -- route maps and prefix lists are those of the last line of each direction
 pub maps : neighbors (about 7 (RouteMap (named (codes "A") 3) In) ∷ about 7 (RouteMap (named (codes "B") 4) Out) ∷ about 7 (RouteMap (named (codes "C") 5) In) ∷ [])
-    ≡ Some (record (no_settings 7) { map_in = Some (named (codes "C") 5); map_out = Some (named (codes "B") 4) } ∷ [])
+    ≡ Some (has 7 (record no_settings { map_in = Some (named (codes "C") 5); map_out = Some (named (codes "B") 4) }) ∷ [])
 maps = refl
 
 pub lists : neighbors (about 7 (PrefixList (named (codes "A") 3) Out) ∷ about 7 (PrefixList (named (codes "B") 4) In) ∷ about 7 (PrefixList (named (codes "C") 5) Out) ∷ [])
-    ≡ Some (record (no_settings 7) { list_in = Some (named (codes "B") 4); list_out = Some (named (codes "C") 5) } ∷ [])
+    ≡ Some (has 7 (record no_settings { list_in = Some (named (codes "B") 4); list_out = Some (named (codes "C") 5) }) ∷ [])
 lists = refl
 
 abbrev with_metric : ℕ → BgpRedistribution
@@ -116,14 +124,14 @@ redistributed = refl
 
 -- a process that is opened again keeps its lines
 pub opened_again : (file (BgpOpened 1 ∷ command.BgpLine (line.RouterId 7) ∷ Hostname (codes "R1") 3 ∷ BgpOpened 1 ∷ command.BgpLine (about 8 (RemoteAs 2)) ∷ [])).bgp
-    ≡ Some (record (no_lines 1) { router_id = Some 7; neighbors = record (no_settings 8) { remote_as = Some 2 } ∷ [] })
+    ≡ Some (record (no_lines 1) { router_id = Some 7; neighbors = has 8 (record no_settings { remote_as = Some 2 }) ∷ [] })
 opened_again = refl
 
 -- other lines leave the process as it is, and its lines leave all else as it is
 pub left_by_others : (file (BgpOpened 9 ∷ Interface (codes "Lo0") 2 ∷ InterfaceLine (codes "Lo0") (interface_line.Shutdown true) ∷ OspfOpened 1 ∷ [])).bgp ≡ Some (no_lines 9)
 left_by_others = refl
 
-pub leaves_others : file (BgpOpened 9 ∷ command.BgpLine (about 7 (UpdateSource (codes "Lo0"))) ∷ []) ≡ record empty { bgp = Some (record (no_lines 9) { neighbors = record (no_settings 7) { update_source = Some (codes "Lo0") } ∷ [] }) }
+pub leaves_others : file (BgpOpened 9 ∷ command.BgpLine (about 7 (UpdateSource (codes "Lo0"))) ∷ []) ≡ record empty { bgp = Some (record (no_lines 9) { neighbors = has 7 (record no_settings { update_source = Some (codes "Lo0") }) ∷ [] }) }
 leaves_others = refl
 
 -- a line without a process says nothing

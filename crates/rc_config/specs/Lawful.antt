@@ -11,7 +11,7 @@ use Rattle.rc_base.specs.declared.position.IfId.{IfId}
 use Rattle.rc_base.specs.declared.position.Pos.{Pos}
 use Rattle.rc_base.specs.declared.position.Pos.TheVariants.{Own, Entering}
 use Rattle.rc_config.specs.declared.command.Command.{Command}
-use Rattle.rc_config.specs.declared.command.Command.TheVariants.{Passed, Remark, Hostname, Interface, InterfaceLine, StaticRoute, ListLine, MapOpened, MapLine, OspfOpened, OspfLine, BgpOpened, BgpLine}
+use Rattle.rc_config.specs.declared.command.Command.TheVariants.{Passed, Remark, Hostname, Interface, InterfaceLine, StaticRoute, ListLine, MapOpened, MapLine, OspfOpened, OspfLine, BgpOpened, BgpLine, FamilyOpened, OtherFamilyOpened, FamilyClosed}
 use Rattle.rc_config.specs.declared.network.Network.{Network}
 use Rattle.rc_config.specs.declared.router_text.RouterText.{RouterText}
 use Rattle.rc_config.specs.declared.static_route.StaticRoute.{StaticRoute as Route}
@@ -77,6 +77,9 @@ IsInRange (OspfOpened process) = IsOspfNumber process
 IsInRange (OspfLine line) = IsLawfulOspfLine line
 IsInRange (BgpOpened asn) = IsAsn asn
 IsInRange (BgpLine line) = IsLawfulBgpLine line
+IsInRange FamilyOpened = Unit {0}
+IsInRange OtherFamilyOpened = Unit {0}
+IsInRange FamilyClosed = Unit {0}
 
 -- a command that the lists of a file have room for
 abbrev pub FitsFile : RouterText → Command → Type 0
@@ -93,6 +96,9 @@ FitsFile r (OspfOpened process) = Unit {0}
 FitsFile r (OspfLine line) = Unit {0}
 FitsFile r (BgpOpened asn) = Unit {0}
 FitsFile r (BgpLine line) = Unit {0}
+FitsFile r FamilyOpened = Unit {0}
+FitsFile r OtherFamilyOpened = Unit {0}
+FitsFile r FamilyClosed = Unit {0}
 
 -- the model of a router stands under its own host name
 abbrev pub IsNamed : List ℕ → RouterText → Type 0

@@ -23,8 +23,11 @@ pub mod Sets
 pub mod Ospf
 pub mod OspfRows
 pub mod Classes
+pub mod Settings
+pub mod Peering
 pub mod Bgp
 pub mod BgpRows
+pub mod PeeringRows
 pub mod RouteMap
 pub mod CommunityList
 pub mod Lists

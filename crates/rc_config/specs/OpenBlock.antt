@@ -13,4 +13,6 @@ block_at (at.AccessList list kind) = block.AccessList
 block_at (at.Map map number) = block.RouteMap
 block_at at.Ospf = block.Ospf
 block_at at.Bgp = block.Bgp
+block_at at.InFamily = block.Ipv4Family
+block_at at.InOtherFamily = block.OtherFamily
 block_at at.Ignored = block.Ignored

@@ -3,14 +3,14 @@ use Rattle.std.specs.Prelude.{ℕ, List, [], ◌∷◌, ◌++◌, Option, Some, 
 use Rattle.std.specs.Option.{option_map}
 use Rattle.rc_config.specs.declared.bgp.BgpProcess.{BgpProcess}
 use Rattle.rc_config.specs.declared.command.Command.{Command}
-use Rattle.rc_config.specs.declared.command.Command.TheVariants.{Passed, Remark, Hostname, Interface, InterfaceLine, StaticRoute, ListLine, MapOpened, MapLine, OspfOpened, OspfLine, BgpOpened, BgpLine}
+use Rattle.rc_config.specs.declared.command.Command.TheVariants.{Passed, Remark, Hostname, Interface, InterfaceLine, StaticRoute, ListLine, MapOpened, MapLine, OspfOpened, OspfLine, BgpOpened, BgpLine, FamilyOpened, OtherFamilyOpened, FamilyClosed}
 use Rattle.rc_config.specs.declared.interface.Interface.{Interface as Block}
 use Rattle.rc_config.specs.declared.interface.InterfaceLine.{InterfaceLine as InterfaceRow}
 use Rattle.rc_config.specs.declared.ospf.OspfProcess.{OspfProcess}
 use Rattle.rc_config.specs.declared.route_map.RouteMap.{RouteMap}
 use Rattle.rc_config.specs.declared.router_text.RouterText.{RouterText}
 use Rattle.rc_config.specs.declared.static_route.StaticRoute.{StaticRoute as Route}
-use Rattle.rc_config.specs.Bgp.{no_lines as no_bgp_lines, with_line as with_bgp_line}
+use Rattle.rc_config.specs.Bgp.{no_lines as no_bgp_lines, settled, with_line as with_bgp_line}
 use Rattle.rc_config.specs.Interface.{fresh, with_line as with_block_line}
 use Rattle.rc_config.specs.Lists.{no_lists, with_line as with_list_line}
 use Rattle.rc_config.specs.Named.{named, with_value}
@@ -70,3 +70,10 @@ after r (OspfOpened process) = record r { ospf = Some (ospf_opened r.ospf proces
 after r (OspfLine line) = record r { ospf = option_map (λ p. with_ospf_line p line) r.ospf }
 after r (BgpOpened asn) = record r { bgp = Some (bgp_opened r.bgp asn) }
 after r (BgpLine line) = record r { bgp = option_map (λ p. with_bgp_line p line) r.bgp }
+after r FamilyOpened = r
+after r OtherFamilyOpened = r
+after r FamilyClosed = r
+
+-- The router of a file's model: each BGP neighbour has what holds of it in the end, and peer groups are gone.
+abbrev pub settled_router : RouterText → RouterText
+settled_router r = record r { bgp = option_map settled r.bgp }

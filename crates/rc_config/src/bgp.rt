@@ -1,40 +1,20 @@
 //! What a configuration says of BGP (RFC 4271): the process of a router, its neighbours, and what it redistributes.
-ghost use Rattle.std.specs.Prelude.{◌≡◌, OnOk};
+ghost use Rattle.std.specs.Prelude.{◌≡◌, IfOk, OnOk, map};
 ghost use Rattle.rc_config.specs.Bgp as spec;
+ghost use Rattle.rc_config.specs.ByNumber.{placed};
+ghost use Rattle.rc_config.specs.Peering.{settled_in};
 
-use crate::{ByNumber, Direction, Mention, Numbered};
+use crate::{ByNumber, Direction, Mention, Numbered, Peer, Peering, Settings};
 use rc_base::{Addr, Items, Name, Prefix};
 use std::alloc::{AllocError, Global};
 
-/// A neighbour: what the `neighbor` lines about its address say, each by its last line. Without a `remote_as` it has no
-/// session.
+/// A neighbour. While a file is read it has the settings of its own lines; in a network it has what holds of it in the end.
 #[derive(Clone, Copy)]
 pub struct Neighbor {
     pub address: Addr,
-    /// The number of its AS.
-    pub remote_as: Option<u32>,
-    /// The interface whose address is the local one of its sessions. The file may have no interface of this name.
-    pub update_source: Option<Name>,
-    /// Whether an external session with it may go beyond a shared subnet.
-    pub is_multihop: bool,
-    /// Whether sessions with it are shut down.
-    pub is_shutdown: bool,
-    /// Whether paths that are sent to it have the local address as their NEXT_HOP (RFC 4271 s.5.1.3).
-    pub next_hop_self: bool,
-    /// Whether the default route is sent to it.
-    pub default_originate: bool,
-    /// Whether communities (RFC 1997) are sent to it.
-    pub send_community: bool,
-    /// The weight of paths from it, which no other router sees.
-    pub weight: u16,
-    /// The route map for paths from it. The file may have no route map of this name.
-    pub map_in: Option<Mention>,
-    /// The route map for paths to it, likewise.
-    pub map_out: Option<Mention>,
-    /// The prefix list for paths from it, likewise.
-    pub list_in: Option<Mention>,
-    /// The prefix list for paths to it, likewise.
-    pub list_out: Option<Mention>,
+    pub settings: Settings,
+    /// Whether it takes part in IPv4 routing. While a file is read this is not told yet.
+    pub is_active: bool,
 }
 
 impl Numbered for Neighbor {
@@ -45,7 +25,7 @@ impl Numbered for Neighbor {
     }
 }
 
-/// What one `neighbor` line says of the neighbour that it is about.
+/// What one `neighbor` line sets of the neighbour or of the peer group that it is about.
 #[derive(Clone, Copy)]
 pub enum NeighborSetting {
     /// `remote-as N`
@@ -73,60 +53,12 @@ pub enum NeighborSetting {
 impl Neighbor {
     /// The neighbour of this address, of which no line says anything yet.
     pub fn new(address: Addr) -> Neighbor
-        ensures { result ≡ spec.no_settings address }
+        ensures { result ≡ spec.fresh address }
     {
         Neighbor {
             address,
-            remote_as: None,
-            update_source: None,
-            is_multihop: false,
-            is_shutdown: false,
-            next_hop_self: false,
-            default_originate: false,
-            send_community: false,
-            weight: 0,
-            map_in: None,
-            map_out: None,
-            list_in: None,
-            list_out: None,
-        }
-    }
-
-    /// Puts this route map in a direction, in place of any other.
-    fn put_map(&mut self, map: Mention, direction: Direction)
-        ensures { self.new ≡ spec.with_map self.old map direction }
-    {
-        match direction {
-            Direction::In => self.map_in = Some(map),
-            Direction::Out => self.map_out = Some(map),
-        }
-    }
-
-    /// Puts this prefix list in a direction, in place of any other.
-    fn put_list(&mut self, list: Mention, direction: Direction)
-        ensures { self.new ≡ spec.with_list self.old list direction }
-    {
-        match direction {
-            Direction::In => self.list_in = Some(list),
-            Direction::Out => self.list_out = Some(list),
-        }
-    }
-
-    /// Puts one more line, which counts in place of an earlier one of the same kind.
-    fn put_setting(&mut self, setting: NeighborSetting)
-        ensures { self.new ≡ spec.with_setting self.old setting }
-    {
-        match setting {
-            NeighborSetting::RemoteAs(asn) => self.remote_as = Some(asn),
-            NeighborSetting::UpdateSource(interface) => self.update_source = Some(interface),
-            NeighborSetting::EbgpMultihop => self.is_multihop = true,
-            NeighborSetting::Shutdown => self.is_shutdown = true,
-            NeighborSetting::NextHopSelf => self.next_hop_self = true,
-            NeighborSetting::DefaultOriginate => self.default_originate = true,
-            NeighborSetting::SendCommunity => self.send_community = true,
-            NeighborSetting::Weight(weight) => self.weight = weight,
-            NeighborSetting::RouteMap { map, direction } => self.put_map(map, direction),
-            NeighborSetting::PrefixList { list, direction } => self.put_list(list, direction),
+            settings: Settings::none(),
+            is_active: true,
         }
     }
 }
@@ -198,11 +130,25 @@ pub enum BgpLine {
     MaximumInternalPaths(u8),
     /// `network A`, or `network A mask M`.
     Network(Prefix),
-    /// `neighbor A ..`
-    Neighbor {
-        address: Addr,
+    /// `neighbor A ..`, or `neighbor NAME ..` of a peer group that was declared.
+    Setting {
+        whom: Peer,
         setting: NeighborSetting,
     },
+    /// `neighbor A activate`, or `no neighbor A activate`, or the same of a peer group.
+    Active {
+        whom: Peer,
+        is_active: bool,
+    },
+    /// `neighbor NAME peer-group`
+    GroupDeclared(Name),
+    /// `neighbor A peer-group NAME`, of a peer group that was declared.
+    MemberOf {
+        address: Addr,
+        group: Name,
+    },
+    /// `no bgp default ipv4-unicast`
+    InactiveByDefault,
     /// `redistribute connected ..`
     RedistributeConnected(BgpRedistribution),
     /// `redistribute static ..`
@@ -221,9 +167,12 @@ pub struct BgpProcess {
     pub maximum_paths: MaximumPaths,
     /// The prefixes of the `network` lines in file order, the same one twice too.
     pub networks: Items<Prefix>,
-    /// The neighbours of which a line says something, by address.
+    /// The neighbours of which a line sets something or which a line makes members of a group, by address. An `activate` line
+    /// alone makes none.
     pub neighbors: ByNumber<Neighbor>,
     pub redistributions: BgpRedistributions,
+    /// The peer groups and which neighbours are active. In a network, whose neighbours are settled, it says nothing.
+    pub peering: Peering,
 }
 
 /// By a function of its own, so that what holds one drops it by one call.
@@ -236,6 +185,7 @@ impl Drop for BgpProcess {
             networks: _,
             neighbors: _,
             redistributions: _,
+            peering: _,
         } = self;
     }
 }
@@ -250,7 +200,19 @@ fn neighbor_at(neighbors: &ByNumber<Neighbor>, address: Addr) -> Neighbor
     }
 }
 
-/// Puts one more line about the neighbour of an address, which is one of the neighbours from its first line on.
+/// Puts a neighbour in place of the one of its address.
+fn put_neighbor(neighbors: &mut ByNumber<Neighbor>, neighbor: Neighbor) -> Result<(), AllocError>
+    ensures { OnOk result (neighbors.new ≡ placed spec.address_of neighbor neighbors.old) }
+{
+    // The generated proof of an insertion wants each type within the element named in the function.
+    let _interface: Option<Name> = None;
+    let _mention: Option<Mention> = None;
+    let _settings: Option<Settings> = None;
+    neighbors.insert(neighbor)?;
+    Ok(())
+}
+
+/// Puts one more line about the neighbour of an address, which is one of the neighbours from then on.
 fn put_neighbor_line(
     neighbors: &mut ByNumber<Neighbor>,
     address: Addr,
@@ -258,13 +220,32 @@ fn put_neighbor_line(
 ) -> Result<(), AllocError>
     ensures { OnOk result (neighbors.new ≡ spec.with_neighbor neighbors.old address setting) }
 {
-    // The generated proof of an insertion wants each type within the element named in the function.
-    let _interface: Option<Name> = None;
-    let _mention: Option<Mention> = None;
     let mut neighbor = neighbor_at(neighbors, address);
-    neighbor.put_setting(setting);
-    neighbors.insert(neighbor)?;
-    Ok(())
+    neighbor.settings.put_setting(setting);
+    put_neighbor(neighbors, neighbor)
+}
+
+/// Makes the address that of a neighbour, where it isn't yet.
+fn put_address(neighbors: &mut ByNumber<Neighbor>, address: Addr) -> Result<(), AllocError>
+    ensures { OnOk result (neighbors.new ≡ spec.with_address neighbors.old address) }
+{
+    let neighbor = neighbor_at(neighbors, address);
+    put_neighbor(neighbors, neighbor)
+}
+
+/// The neighbours with what holds of each in the end.
+fn settle_all(
+    alloc: Global,
+    neighbors: &ByNumber<Neighbor>,
+    peering: &Peering,
+) -> Result<ByNumber<Neighbor>, AllocError>
+    ensures { IfOk result (λ settled. settled ≡ map (settled_in peering.now) neighbors.now) }
+{
+    let mut settled = ByNumber::new(alloc);
+    for neighbor in neighbors.iter() {
+        put_neighbor(&mut settled, peering.settled(neighbor))?;
+    }
+    Ok(settled)
 }
 
 impl BgpProcess {
@@ -286,33 +267,78 @@ impl BgpProcess {
                 static_routes: None,
                 ospf: ByNumber::new(alloc),
             },
+            peering: Peering::new(alloc),
         }
     }
 
     /// Puts one more line: a `network` line goes behind the others, and any other counts in place of an earlier one of the same
-    /// kind, of `neighbor` lines in place of one about the same neighbour, and of `redistribute` lines in place of one of the
-    /// same source.
+    /// kind, of `neighbor` lines in place of one about the same neighbour or group, and of `redistribute` lines in place of one
+    /// of the same source.
     pub(crate) fn put_line(&mut self, line: BgpLine) -> Result<(), AllocError>
         ensures { OnOk result (self.new ≡ spec.with_line self.old line) }
     {
         match line {
-            BgpLine::RouterId(id) => self.router_id = Some(id),
-            BgpLine::MaximumExternalPaths(number) => self.maximum_paths.external = number,
-            BgpLine::MaximumInternalPaths(number) => self.maximum_paths.internal = number,
-            BgpLine::Network(prefix) => self.networks.push(prefix)?,
-            BgpLine::Neighbor { address, setting } => {
-                put_neighbor_line(&mut self.neighbors, address, setting)?;
+            BgpLine::RouterId(id) => {
+                self.router_id = Some(id);
+                Ok(())
+            }
+            BgpLine::MaximumExternalPaths(number) => {
+                self.maximum_paths.external = number;
+                Ok(())
+            }
+            BgpLine::MaximumInternalPaths(number) => {
+                self.maximum_paths.internal = number;
+                Ok(())
+            }
+            BgpLine::Network(prefix) => self.networks.push(prefix),
+            BgpLine::Setting { whom, setting } => self.put_setting(whom, setting),
+            BgpLine::Active { whom, is_active } => self.peering.put_activity(whom, is_active),
+            BgpLine::GroupDeclared(name) => self.peering.declare(name),
+            BgpLine::MemberOf { address, group } => self.put_member(address, group),
+            BgpLine::InactiveByDefault => {
+                self.peering.is_active_by_default = false;
+                Ok(())
             }
             BgpLine::RedistributeConnected(connected) => {
                 self.redistributions.connected = Some(connected);
+                Ok(())
             }
             BgpLine::RedistributeStatic(static_routes) => {
                 self.redistributions.static_routes = Some(static_routes);
+                Ok(())
             }
             BgpLine::RedistributeOspf(ospf) => {
                 self.redistributions.ospf.insert(ospf)?;
+                Ok(())
             }
         }
+    }
+
+    /// Puts one more line that sets something of a neighbour or of a peer group.
+    fn put_setting(&mut self, whom: Peer, setting: NeighborSetting) -> Result<(), AllocError>
+        ensures { OnOk result (self.new ≡ spec.with_setting_of self.old whom setting) }
+    {
+        match whom {
+            Peer::Address(address) => put_neighbor_line(&mut self.neighbors, address, setting),
+            Peer::Group(name) => self.peering.put_shared(name, setting),
+        }
+    }
+
+    /// Makes a neighbour a member of a group. It is one of the neighbours from then on.
+    fn put_member(&mut self, address: Addr, group: Name) -> Result<(), AllocError>
+        ensures { OnOk result (self.new ≡ spec.with_member_of self.old address group) }
+    {
+        put_address(&mut self.neighbors, address)?;
+        self.peering.put_member(address, group)
+    }
+
+    /// Gives each neighbour what holds of it in the end, and lets the peer groups go. Where memory runs out what is left is no
+    /// settled process.
+    pub(crate) fn settle(&mut self, alloc: Global) -> Result<(), AllocError>
+        ensures { OnOk result (self.new ≡ spec.settled self.old) }
+    {
+        self.neighbors = settle_all(alloc, &self.neighbors, &self.peering)?;
+        self.peering = Peering::new(alloc);
         Ok(())
     }
 }

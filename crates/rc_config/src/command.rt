@@ -8,7 +8,7 @@ use rc_base::Name;
 pub enum Command {
     /// A line that says nothing here.
     Passed,
-    /// A line of a form that has no effect, as `remark ..` or `neighbor A activate`. Other than a line that is passed over,
+    /// A line of a form that has no effect, as `remark ..` or `neighbor A send-community extended`. Other than a line that is passed over,
     /// it opens no block.
     Remark,
     /// `hostname NAME`, with the number of its line.
@@ -64,4 +64,10 @@ pub enum Command {
     BgpLine {
         line: BgpLine,
     },
+    /// `address-family ipv4`, or `address-family ipv4 unicast`: the lines up to its end are the process's too.
+    FamilyOpened,
+    /// `address-family ipv6 ..`: the lines up to its end are passed over.
+    OtherFamilyOpened,
+    /// `exit-address-family`: the block of the process goes on.
+    FamilyClosed,
 }

@@ -22,6 +22,10 @@ pub enum OpenBlock {
     Ospf,
     /// The block of the router's BGP process.
     Bgp,
+    /// IPv4's address family in the block of the BGP process.
+    InFamily,
+    /// Another address family there, whose lines are all passed over.
+    InOtherFamily,
     /// A block whose lines are all passed over.
     Ignored,
 }
@@ -41,6 +45,8 @@ impl OpenBlock {
             OpenBlock::Map(_, _) => Block::RouteMap,
             OpenBlock::Ospf => Block::Ospf,
             OpenBlock::Bgp => Block::Bgp,
+            OpenBlock::InFamily => Block::Ipv4Family,
+            OpenBlock::InOtherFamily => Block::OtherFamily,
             OpenBlock::Ignored => Block::Ignored,
         }
     }

@@ -4,6 +4,13 @@
 //! It stands on the names and addresses of rc_base, and on the map of indexmap. The layer above knows a file's model as
 //! what `after` makes of its commands one by one, a map as its list of names and values in the order of first mention,
 //! things by number as their list, and a router or an interface by its index in such a list.
+//!
+//! The crate goes one way: what words say (`class`, `action_word`, `direction_word`, `down`, `if_type`), values by number and
+//! by name (`by_number`, `named`); the parts of a file, each with its lines: `interface`, `static_route`, the lists
+//! (`access_list` with its `ports`, `prefix_list`, `community_list`, together in `lists`), `route_map` (`map_line`, `sets`),
+//! `ospf`, `bgp` with what `neighbor` lines set (`settings`) and the peer groups (`peering`); where a line stands (`context`),
+//! what it says (`command`) and which lines count (`last_line`); the file that these make (`router_text`), and the network of
+//! all files (`network`), whose neighbours have what holds of them in the end.
 #![tactic(auto)]
 
 mod access_list;
@@ -24,11 +31,13 @@ mod map_line;
 mod named;
 mod network;
 mod ospf;
+mod peering;
 mod ports;
 mod prefix_list;
 mod route_map;
 mod router_text;
 mod sets;
+mod settings;
 mod static_route;
 
 pub use access_list::{
@@ -57,9 +66,11 @@ pub use ospf::{
     DefaultInformation, NetworkType, OspfArea, OspfLine, OspfNetwork, OspfProcess, OspfSetting,
     OspfSettings, RedistributedSource, Redistribution, StubArea,
 };
+pub use peering::{Activity, Group, Member, Peer, Peering};
 pub use ports::Ports;
 pub use prefix_list::{PrefixLine, PrefixList};
 pub use route_map::{MapEntry, Mention, RouteMap};
 pub use router_text::{HostLine, RouterText};
 pub use sets::{CommunityChange, MetricType, Sets, compare_metric_types};
+pub use settings::Settings;
 pub use static_route::{StaticRoute, Target};

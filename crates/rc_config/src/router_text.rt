@@ -2,12 +2,12 @@
 ghost use Rattle.std.specs.Prelude.{◌≡◌, IfOk, OnOk, Some, unwrap_or, ◌++◌, ◌∷◌, []};
 ghost use Rattle.std.specs.Option.{option_map};
 ghost use Rattle.rc_config.specs.Bgp.{with_line as with_bgp_line};
-ghost use Rattle.rc_config.specs.Lawful.{FitsFile, HasLawfulBgp, HasLawfulInterfaces, HasLawfulLists, HasLawfulOspf, HasLawfulRoutes, IsInRange};
+ghost use Rattle.rc_config.specs.Lawful.{FitsFile, HasLawfulBgp, HasLawfulInterfaces, HasLawfulLists, HasLawfulOspf, HasLawfulRoutes, IsInRange, IsLawfulFile};
 ghost use Rattle.rc_config.specs.Named.{index_of, named, with_value};
 ghost use Rattle.rc_config.specs.Ospf.{with_line as with_ospf_line};
 ghost use Rattle.rc_config.specs.RouteMap.{no_entries, opened, with_line};
 ghost use Rattle.rc_config.specs.Interface.{fresh};
-ghost use Rattle.rc_config.specs.Update.{after, bgp_opened, empty, ospf_opened, with_interface_line, with_interface_opened};
+ghost use Rattle.rc_config.specs.Update.{after, bgp_opened, empty, ospf_opened, settled_router, with_interface_line, with_interface_opened};
 
 use crate::{
     Action, BgpLine, BgpProcess, Command, Interface, InterfaceLine, Lists, MapLine, Named,
@@ -97,6 +97,25 @@ impl RouterText {
         self.put_into(command)
     }
 
+    /// Gives each BGP neighbour what holds of it in the end: its own settings over those of its peer group, and whether it is
+    /// active. Peer groups are gone then. Where memory runs out what is left is no model of the file.
+    pub fn settle(&mut self, alloc: Global) -> Result<(), AllocError>
+        ensures value { OnOk result (self.new ≡ settled_router self.old) }
+        ensures lawful { OnOk result (IsLawfulFile self.old → IsLawfulFile self.new) }
+    {
+        self.settle_bgp(alloc)
+    }
+
+    /// Settles the BGP process, where there is one.
+    fn settle_bgp(&mut self, alloc: Global) -> Result<(), AllocError>
+        ensures { OnOk result (self.new ≡ settled_router self.old) }
+    {
+        match &mut self.bgp {
+            Some(process) => process.settle(alloc),
+            None => Ok(()),
+        }
+    }
+
     /// The model after one more command (`apply`).
     pub fn put(mut self, command: Command) -> Result<RouterText, AllocError>
         ensures value { IfOk result (λ r. r ≡ after self command) }
@@ -147,6 +166,9 @@ impl RouterText {
                 Ok(())
             }
             Command::BgpLine { line } => put_bgp_line(&mut self.bgp, line),
+            Command::FamilyOpened => Ok(()),
+            Command::OtherFamilyOpened => Ok(()),
+            Command::FamilyClosed => Ok(()),
         }
     }
 }

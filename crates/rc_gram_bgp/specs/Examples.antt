@@ -10,7 +10,7 @@ use Rattle.rc_openings.specs.Words.{words_of}
 use Rattle.rc_openings.specs.declared.reading.LineRefusal.TheVariants.{Unsupported, BadValue}
 use Rattle.rc_config.specs.Update.{after, empty}
 use Rattle.rc_config.specs.declared.bgp.BgpLine.{BgpLine}
-use Rattle.rc_config.specs.declared.bgp.BgpLine.TheVariants.{RouterId, MaximumExternalPaths, MaximumInternalPaths, Network, Neighbor, RedistributeConnected, RedistributeStatic, RedistributeOspf}
+use Rattle.rc_config.specs.declared.bgp.BgpLine.TheVariants.{RouterId, MaximumExternalPaths, MaximumInternalPaths, Network, Setting, Active, RedistributeConnected, RedistributeStatic, RedistributeOspf}
 use Rattle.rc_config.specs.declared.bgp.NeighborSetting.{NeighborSetting}
 use Rattle.rc_config.specs.declared.bgp.NeighborSetting.TheVariants.{RemoteAs, UpdateSource, EbgpMultihop, Shutdown, NextHopSelf, DefaultOriginate, SendCommunity, Weight, RouteMap, PrefixList}
 use Rattle.rc_config.specs.declared.bgp.BgpRedistribution.{BgpRedistribution}
@@ -18,6 +18,8 @@ use Rattle.rc_config.specs.declared.bgp.OspfKinds.{OspfKinds}
 use Rattle.rc_config.specs.declared.command.Command.TheVariants as command
 use Rattle.rc_config.specs.declared.context.OpenBlock.TheVariants as place
 use Rattle.rc_config.specs.declared.interface.Direction.TheVariants.{In, Out}
+use Rattle.rc_config.specs.declared.peering.Peer.{Peer}
+use Rattle.rc_config.specs.declared.peering.Peer.TheVariants as peer
 use Rattle.rc_config.specs.declared.route_map.Mention.{Mention}
 use Rattle.rc_config.specs.declared.router_text.RouterText.{RouterText}
 use Rattle.rc_gram_bgp.specs.Reading.{says}
@@ -111,8 +113,11 @@ pub refused_networks :
 unfolding decided decisive_row bgp bgp_forms bgp_refused bgp_ignored words_of mask_len
 refused_networks = (refl, refl, refl, refl)
 
+abbrev second : Peer
+second = peer.Address 0x0a000002
+
 abbrev Sets : List ℕ → NeighborSetting → Type 0
-Sets text setting = Is text (Neighbor 0x0a000002 setting)
+Sets text setting = Is text (Setting second setting)
 
 pub remote_as :
     Sets (codes " neighbor 10.0.0.2 remote-as 65001") (RemoteAs 65001)
@@ -147,12 +152,12 @@ pub multihop :
 unfolding decided decisive_row bgp bgp_forms bgp_refused bgp_ignored words_of
 multihop = (refl, refl, refl, refl, refl, refl)
 
--- `activate` has no effect, but the neighbour's address has to be one
+-- flags of sessions; `activate` is a line of its own, and the neighbour's address has to be one
 pub flags :
     Sets (codes " neighbor 10.0.0.2 shutdown") Shutdown
     × Says (codes " neighbor 10.0.0.2 shutdown now") (Err BadValue)
     × Says (codes " neighbor R2 shutdown") (Err BadValue)
-    × Says (codes " neighbor 10.0.0.2 activate") (Ok command.Remark)
+    × Is (codes " neighbor 10.0.0.2 activate") (Active second true)
     × Says (codes " neighbor 10.0.0.2 activate 4") (Err BadValue)
     × Says (codes " neighbor R2 activate") (Err BadValue)
 unfolding decided decisive_row bgp bgp_forms bgp_refused bgp_ignored words_of
@@ -342,21 +347,21 @@ pub other_families :
     × Says (codes " neighbor 2001:db8::2 shutdown now") (Ok command.Passed)
     × Says (codes " neighbor 2001:db8::2 peer-group UP") (Ok command.Passed)
     × Says (codes " neighbor x:y") (Ok command.Passed)
+    × Says (codes " no neighbor 2001:db8::2 activate") (Ok command.Passed)
+    × Says (codes " no neighbor x:y") (Ok command.Passed)
     × Says (codes " neighbor 10.0.0.2") (Err Unsupported)
     × Says (codes " neighbor") (Err Unsupported)
 unfolding decided decisive_row bgp bgp_forms bgp_refused bgp_ignored words_of
-other_families = (refl, refl, refl, refl, refl, refl)
+other_families = (refl, refl, refl, refl, refl, refl, refl, refl)
 
 -- what isn't modelled, and what doesn't matter
 pub others :
     Says (codes " bgp confederation identifier 5") (Err Unsupported)
-    × Says (codes " neighbor 10.0.0.2 peer-group UP") (Err Unsupported)
     × Says (codes " neighbor 10.0.0.2 route-reflector-client") (Err Unsupported)
-    × Says (codes " no neighbor 10.0.0.2 activate") (Err Unsupported)
-    × Says (codes " no bgp default ipv4-unicast") (Err Unsupported)
+    × Says (codes " no neighbor 10.0.0.2 remote-as 5") (Err Unsupported)
+    × Says (codes " no neighbor UP peer-group") (Err Unsupported)
+    × Says (codes " no neighbor 10.0.0.2") (Err Unsupported)
     × Says (codes " aggregate-address 10.0.0.0 255.0.0.0") (Err Unsupported)
-    × Says (codes " address-family ipv4") (Err Unsupported)
-    × Says (codes " exit-address-family") (Err Unsupported)
     × Says (codes " maximum-paths eibgp 2") (Err Unsupported)
     × Says (codes " maximum-paths eibgp") (Err Unsupported)
     × Says (codes " redistribute rip") (Err Unsupported)
@@ -368,4 +373,4 @@ pub others :
     × Says (codes " no auto-summary") (Ok command.Passed)
     × Says (codes " exit") (Ok command.Passed)
 unfolding decided decisive_row bgp bgp_forms bgp_refused bgp_ignored words_of
-others = (refl, refl, refl, refl, refl, refl, refl, refl, refl, refl, refl, refl, refl, refl, refl, refl, refl, refl)
+others = (refl, refl, refl, refl, refl, refl, refl, refl, refl, refl, refl, refl, refl, refl, refl, refl)

@@ -6,8 +6,9 @@ use Rattle.std.specs.Str.{bytes_eq}
 use Rattle.rc_base.specs.Prefix.{Cidr}
 use Rattle.rc_config.specs.Classes.{natural_length}
 use Rattle.rc_config.specs.declared.bgp.BgpLine.{BgpLine}
-use Rattle.rc_config.specs.declared.bgp.BgpLine.TheVariants.{RouterId, MaximumExternalPaths, MaximumInternalPaths, Network, Neighbor, RedistributeConnected, RedistributeStatic, RedistributeOspf}
+use Rattle.rc_config.specs.declared.bgp.BgpLine.TheVariants.{RouterId, MaximumExternalPaths, MaximumInternalPaths, Network, Setting, RedistributeConnected, RedistributeStatic, RedistributeOspf}
 use Rattle.rc_config.specs.declared.bgp.NeighborSetting.{NeighborSetting}
+use Rattle.rc_config.specs.declared.peering.Peer.{Peer}
 use Rattle.rc_openings.specs.Values.{address_of, mask_length_of, number_within, prefix_from}
 use Rattle.rc_gram_bgp.specs.Redistributions.{options, ospf_redistribution}
 
@@ -42,9 +43,9 @@ network (a ∷ []) = network_of (natural_prefix (address_of a))
 network (a ∷ word ∷ m ∷ []) = if bytes_eq word (codes "mask") then network_of (prefix_from (address_of a) (mask_length_of m)) else None
 network _ = None
 
--- what a line sets for a neighbour
-abbrev pub about : Option ℕ → Option NeighborSetting → Option BgpLine
-about (Some address) (Some setting) = Some (Neighbor address setting)
+-- what a line sets of a neighbour or of a peer group
+abbrev pub about : Option Peer → Option NeighborSetting → Option BgpLine
+about (Some whom) (Some setting) = Some (Setting whom setting)
 about _ _ = None
 
 -- `redistribute connected`, `redistribute static` and `redistribute ospf`, in the line of this number

@@ -1,4 +1,4 @@
--- The lines about a neighbour (RFC 4271): what a line of each form sets, by its words behind the opening, where it fits its row.
+-- The lines about a neighbour or a peer group (RFC 4271): what a line of each form sets, by its words behind the opening, where it fits its row.
 use Rattle.std.specs.Prelude.{ℕ, Bool, ◌||◌, List, [], ◌∷◌, Option, Some, None, if◌then◌else◌, codes}
 use Rattle.std.specs.Option.{option_map}
 use Rattle.std.specs.Str.{bytes_eq}
@@ -8,12 +8,7 @@ use Rattle.rc_config.specs.declared.bgp.NeighborSetting.{NeighborSetting}
 use Rattle.rc_config.specs.declared.bgp.NeighborSetting.TheVariants.{RemoteAs, UpdateSource, EbgpMultihop, SendCommunity, Weight, RouteMap, PrefixList}
 use Rattle.rc_config.specs.declared.interface.Direction.{Direction}
 use Rattle.rc_config.specs.declared.route_map.Mention.{Mention}
-use Rattle.rc_openings.specs.Values.{address_of, interface_of, number_of, number_within}
-
--- `neighbor A ..`: A, by all words of the line
-abbrev pub neighbor_of : List (List ℕ) → Option ℕ
-neighbor_of (w ∷ a ∷ ws) = address_of a
-neighbor_of _ = None
+use Rattle.rc_openings.specs.Values.{interface_of, number_of, number_within}
 
 -- `remote-as N`
 abbrev pub remote_as : List (List ℕ) → Option NeighborSetting

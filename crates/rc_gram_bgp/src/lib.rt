@@ -6,6 +6,7 @@
 
 mod lines;
 mod neighbor_lines;
+mod peers;
 mod reading;
 mod redistributions;
 mod rows;

@@ -6,7 +6,7 @@ ghost use Rattle.rc_gram_bgp.specs.Lines as lines;
 
 use crate::redistributions::{options, ospf_redistribution};
 use rc_base::{Addr, Prefix};
-use rc_config::{BgpLine, NeighborSetting, natural_len};
+use rc_config::{BgpLine, NeighborSetting, Peer, natural_len};
 use rc_openings::{Words, number_in, prefix_under, word_addr};
 
 /// `bgp router-id A`
@@ -102,13 +102,13 @@ pub(crate) fn network(mut words: Words) -> Option<BgpLine>
     }
 }
 
-/// What a line sets for a neighbour.
-pub(crate) fn about(address: Option<Addr>, setting: Option<NeighborSetting>) -> Option<BgpLine>
-    ensures row { result ≡ lines.about address setting }
+/// What a line sets of a neighbour or of a peer group.
+pub(crate) fn about(whom: Option<Peer>, setting: Option<NeighborSetting>) -> Option<BgpLine>
+    ensures row { result ≡ lines.about whom setting }
     ensures in_range { IfSome result IsLawfulBgpLine }
 {
-    match (address, setting) {
-        (Some(address), Some(setting)) => Some(BgpLine::Neighbor { address, setting }),
+    match (whom, setting) {
+        (Some(whom), Some(setting)) => Some(BgpLine::Setting { whom, setting }),
         _ => None,
     }
 }

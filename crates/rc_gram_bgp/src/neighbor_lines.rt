@@ -1,21 +1,11 @@
-//! The lines about a neighbour, by the words behind their openings. A line that fits no row is none.
+//! The lines about a neighbour or a peer group, by the words behind their openings. A line that fits no row is none.
 ghost use Rattle.std.specs.Prelude.{◌≡◌};
 ghost use Rattle.rc_openings.specs.Words.{words_left};
 ghost use Rattle.rc_gram_bgp.specs.NeighborLines as lines;
 
-use rc_base::{Addr, Name};
+use rc_base::Name;
 use rc_config::{Direction, Mention, NeighborSetting, direction_of};
-use rc_openings::{Words, number_in, word_addr, word_interface, word_u32};
-
-/// The neighbour that a line is about, by all words of the line: the opening fits any word in its place.
-pub(crate) fn neighbor_of(mut line: Words) -> Option<Addr>
-    ensures { result ≡ lines.neighbor_of (words_left line.entry) }
-{
-    match (line.next_word(), line.next_word()) {
-        (Some(_), Some(word)) => word_addr(word),
-        _ => None,
-    }
-}
+use rc_openings::{Words, number_in, word_interface, word_u32};
 
 /// `remote-as N`
 pub(crate) fn remote_as(mut words: Words) -> Option<NeighborSetting>

@@ -25,19 +25,20 @@ fn refused_words(form: BgpForm) -> Words<'static>
     }
 }
 
-/// What a line of this form says, by its words behind the opening that decides it, and by its number and all its words.
+/// What a line of this form says in a block, by its words behind the opening that decides it, and by its number and all its words.
 pub fn read_form(
     form: BgpForm,
     behind: Words,
     line: &Line,
+    block: &OpenBlock,
     file: &RouterText,
 ) -> Result<Command, LineError>
-    ensures row { Gives result (reading.row_answer file.now line.now.number (words_of line.now.text) form (words_left behind.entry)) }
+    ensures row { Gives result (reading.row_answer block.now file.now line.now.number (words_of line.now.text) form (words_left behind.entry)) }
     ensures takes_no_memory { result ≢ Err LineError.Memory }
     ensures in_range { IfOk result IsInRange }
     ensures fits { IfOk result (FitsFile file.now) }
 {
-    let said = row(form, file, line.number(), line.words(), behind);
+    let said = row(form, block, file, line.number(), line.words(), behind);
     match judged(said, behind, refused_words(form)) {
         Ok(command) => Ok(command),
         Err(refusal) => Err(LineError::Refused(refusal)),
@@ -54,7 +55,7 @@ fn read_in(line: &Line, block: &OpenBlock, file: &RouterText) -> Result<Command,
     match block.kind().decided(line.words()) {
         Decision::Passed => Ok(Command::Passed),
         Decision::Refused(refusal) => Err(LineError::Refused(refusal)),
-        Decision::Form(Form::Bgp(form), behind) => read_form(form, behind, line, file),
+        Decision::Form(Form::Bgp(form), behind) => read_form(form, behind, line, block, file),
         Decision::Form(_, _) => Err(LineError::Refused(LineRefusal::BadValue)),
     }
 }

@@ -1,10 +1,10 @@
-//! The rows of BGP: the line that opens the process of a router, and those in its block.
-ghost use Rattle.std.specs.Prelude.{◌≡◌, [], IfOk, IfSome};
-ghost use Rattle.std.specs.Option.{option_copied};
+//! The rows of BGP: the line that opens the process of a router, and those in its block and its address families.
+ghost use Rattle.std.specs.Prelude.{◌≡◌, IfOk, IfSome};
 ghost use Rattle.rc_openings.specs.Values.{number_within};
 ghost use Rattle.rc_openings.specs.Words.{words_left};
 ghost use Rattle.rc_config.specs.Bgp.{IsAsn, IsLawfulBgpLine};
 ghost use Rattle.rc_config.specs.Lawful.{FitsFile, IsInRange};
+ghost use Rattle.rc_gram_bgp.specs.Peers.{groups_of};
 ghost use Rattle.rc_gram_bgp.specs.Rows as rows;
 
 use crate::lines::{
@@ -12,11 +12,10 @@ use crate::lines::{
     redistribute_static, router_id,
 };
 use crate::neighbor_lines::{
-    alone, ebgp_multihop, neighbor_of, prefix_list, remote_as, route_map, send_community,
-    update_source, weight,
+    alone, ebgp_multihop, prefix_list, remote_as, route_map, send_community, update_source, weight,
 };
-use rc_base::Addr;
-use rc_config::{BgpLine, BgpProcess, Command, NeighborSetting, RouterText};
+use crate::peers::{activity, inactive_by_default, peer_group, unsaid_of, whom_of};
+use rc_config::{BgpLine, Command, NeighborSetting, OpenBlock, Peer, RouterText};
 use rc_openings::{BgpForm, LineRefusal, Words, number_in};
 
 /// The number of an AS that a word is, from 1 on.
@@ -27,42 +26,40 @@ fn word_asn(word: &[u8]) -> Option<u32>
     number_in(1, u32::MAX, word)
 }
 
+/// The AS of the process that is there.
+fn known_as(file: &RouterText) -> Option<u32>
+    ensures { result ≡ rows.known_as file.now }
+{
+    match &file.bgp {
+        Some(process) => Some(process.asn),
+        None => None,
+    }
+}
+
 /// The process in this AS, where it is the one that is there or the first one.
-fn opened(known: Option<&BgpProcess>, asn: u32) -> Result<Command, LineRefusal>
+fn opened(known: Option<u32>, asn: u32) -> Result<Command, LineRefusal>
     requires { IsAsn asn }
-    ensures row { result ≡ rows.opened (option_copied known.entry) asn }
+    ensures row { result ≡ rows.opened known asn }
     ensures in_range { IfOk result IsInRange }
     ensures fits { (file : RouterText) → IfOk result (FitsFile file) }
 {
     match known {
-        Some(other) if other.asn != asn => Err(LineRefusal::Unsupported),
+        Some(known) if known != asn => Err(LineRefusal::Unsupported),
         _ => Ok(Command::BgpOpened { asn }),
     }
 }
 
 /// `router bgp N`; a second AS isn't modelled.
-fn router_bgp(file: &RouterText, mut words: Words) -> Result<Command, LineRefusal>
-    ensures row { result ≡ rows.router_bgp file.now (words_left words.entry) }
-    ensures in_range { IfOk result IsInRange }
-    ensures fits { IfOk result (FitsFile file.now) }
-{
-    match (words.next_word(), words.next_word()) {
-        (Some(word), None) => match word_asn(word) {
-            Some(asn) => opened(file.bgp.as_ref(), asn),
-            None => Err(LineRefusal::BadValue),
-        },
-        _ => Err(LineRefusal::BadValue),
-    }
-}
-
-/// `neighbor A activate`, which has no effect.
-fn activate(address: Option<Addr>, mut words: Words) -> Result<Command, LineRefusal>
-    ensures row { result ≡ rows.activate address (words_left words.entry) }
+fn router_bgp(known: Option<u32>, mut words: Words) -> Result<Command, LineRefusal>
+    ensures row { result ≡ rows.router_bgp known (words_left words.entry) }
     ensures in_range { IfOk result IsInRange }
     ensures fits { (file : RouterText) → IfOk result (FitsFile file) }
 {
-    match (address, words.next_word()) {
-        (Some(_), None) => Ok(Command::Remark),
+    match (words.next_word(), words.next_word()) {
+        (Some(word), None) => match word_asn(word) {
+            Some(asn) => opened(known, asn),
+            None => Err(LineRefusal::BadValue),
+        },
         _ => Err(LineRefusal::BadValue),
     }
 }
@@ -80,13 +77,13 @@ fn in_block(line: Option<BgpLine>) -> Result<Command, LineRefusal>
     }
 }
 
-/// What a line sets for the neighbour that it is about.
-fn sets(line: Words, setting: Option<NeighborSetting>) -> Result<Command, LineRefusal>
-    ensures row { result ≡ rows.sets (words_left line.entry) setting }
+/// What a line sets of the neighbour or the peer group that it is about.
+fn sets(whom: Option<Peer>, setting: Option<NeighborSetting>) -> Result<Command, LineRefusal>
+    ensures row { result ≡ rows.sets whom setting }
     ensures in_range { IfOk result IsInRange }
     ensures fits { (file : RouterText) → IfOk result (FitsFile file) }
 {
-    in_block(about(neighbor_of(line), setting))
+    in_block(about(whom, setting))
 }
 
 fn is_extended(mut words: Words) -> bool
@@ -98,64 +95,116 @@ fn is_extended(mut words: Words) -> bool
     }
 }
 
-/// A line that has no effect, where it is about a neighbour.
-fn without_effect(address: Option<Addr>) -> Result<Command, LineRefusal>
-    ensures row { result ≡ rows.activate address [] }
+/// A line that has no effect, where it is about a neighbour or a peer group.
+fn without_effect(whom: Option<Peer>) -> Result<Command, LineRefusal>
+    ensures row { result ≡ rows.without_effect whom }
     ensures in_range { IfOk result IsInRange }
     ensures fits { (file : RouterText) → IfOk result (FitsFile file) }
 {
-    match address {
+    match whom {
         Some(_) => Ok(Command::Remark),
         None => Err(LineRefusal::BadValue),
     }
 }
 
-/// `neighbor A send-community [standard|both|extended]`
-fn communities(line: Words, behind: Words) -> Result<Command, LineRefusal>
-    ensures row { result ≡ rows.communities (words_left line.entry) (words_left behind.entry) }
+/// `neighbor * send-community [standard|both|extended]`
+fn communities(whom: Option<Peer>, behind: Words) -> Result<Command, LineRefusal>
+    ensures row { result ≡ rows.communities whom (words_left behind.entry) }
     ensures in_range { IfOk result IsInRange }
     ensures fits { (file : RouterText) → IfOk result (FitsFile file) }
 {
     if is_extended(behind) {
-        without_effect(neighbor_of(line))
+        without_effect(whom)
     } else {
-        sets(line, send_community(behind))
+        sets(whom, send_community(behind))
     }
 }
 
-/// What a line of a form says, by its number and all its words, and by those behind the opening.
+/// `address-family ipv4 [unicast]`
+fn ipv4_family(mut words: Words) -> Result<Command, LineRefusal>
+    ensures row { result ≡ rows.ipv4_family (words_left words.entry) }
+    ensures in_range { IfOk result IsInRange }
+    ensures fits { (file : RouterText) → IfOk result (FitsFile file) }
+{
+    match words.next_word() {
+        None => Ok(Command::FamilyOpened),
+        Some(_) => Err(LineRefusal::BadValue),
+    }
+}
+
+/// `exit-address-family`, in the block of a family.
+fn family_end(block: &OpenBlock, mut words: Words) -> Result<Command, LineRefusal>
+    ensures row { result ≡ rows.family_end block.now (words_left words.entry) }
+    ensures in_range { IfOk result IsInRange }
+    ensures fits { (file : RouterText) → IfOk result (FitsFile file) }
+{
+    if words.next_word().is_none() {
+        return Ok(Command::FamilyClosed);
+    }
+    match block {
+        OpenBlock::InOtherFamily => Ok(Command::Passed),
+        _ => Err(LineRefusal::BadValue),
+    }
+}
+
+/// What a line of a form says that sets something of a neighbour or a peer group, by its number and the words behind the opening.
+/// A line of another form sets nothing.
+fn about_peer(
+    form: BgpForm,
+    whom: Option<Peer>,
+    number: u64,
+    behind: Words,
+) -> Result<Command, LineRefusal>
+    ensures row { result ≡ rows.about_peer whom number form (words_left behind.entry) }
+    ensures in_range { IfOk result IsInRange }
+    ensures fits { (file : RouterText) → IfOk result (FitsFile file) }
+{
+    match form {
+        BgpForm::NeighborRemoteAs => sets(whom, remote_as(behind)),
+        BgpForm::NeighborUpdateSource => sets(whom, update_source(behind)),
+        BgpForm::NeighborEbgpMultihop => sets(whom, ebgp_multihop(behind)),
+        BgpForm::NeighborNextHopSelf => sets(whom, alone(NeighborSetting::NextHopSelf, behind)),
+        BgpForm::NeighborShutdown => sets(whom, alone(NeighborSetting::Shutdown, behind)),
+        BgpForm::NeighborDefaultOriginate => {
+            sets(whom, alone(NeighborSetting::DefaultOriginate, behind))
+        }
+        BgpForm::NeighborSendCommunity => communities(whom, behind),
+        BgpForm::NeighborRouteMap => sets(whom, route_map(number, behind)),
+        BgpForm::NeighborPrefixList => sets(whom, prefix_list(number, behind)),
+        BgpForm::NeighborWeight => sets(whom, weight(behind)),
+        _ => Err(LineRefusal::BadValue),
+    }
+}
+
+/// What a line of a form says in a block, by its number and all its words, and by those behind the opening.
 pub(crate) fn row(
     form: BgpForm,
+    block: &OpenBlock,
     file: &RouterText,
     number: u64,
     line: Words,
     behind: Words,
 ) -> Result<Command, LineRefusal>
-    ensures row { result ≡ rows.row file.now number (words_left line.entry) form (words_left behind.entry) }
+    ensures row { result ≡ rows.row block.now (rows.known_as file.now) (groups_of file.now) number (words_left line.entry) form (words_left behind.entry) }
     ensures in_range { IfOk result IsInRange }
     ensures fits { IfOk result (FitsFile file.now) }
 {
     match form {
-        BgpForm::RouterBgp => router_bgp(file, behind),
+        BgpForm::RouterBgp => router_bgp(known_as(file), behind),
         BgpForm::RouterId => in_block(router_id(behind)),
         BgpForm::MaximumPaths => in_block(maximum_paths(behind)),
         BgpForm::MaximumPathsIbgp => in_block(maximum_paths_ibgp(behind)),
         BgpForm::Network => in_block(network(behind)),
-        BgpForm::NeighborRemoteAs => sets(line, remote_as(behind)),
-        BgpForm::NeighborUpdateSource => sets(line, update_source(behind)),
-        BgpForm::NeighborEbgpMultihop => sets(line, ebgp_multihop(behind)),
-        BgpForm::NeighborNextHopSelf => sets(line, alone(NeighborSetting::NextHopSelf, behind)),
-        BgpForm::NeighborShutdown => sets(line, alone(NeighborSetting::Shutdown, behind)),
-        BgpForm::NeighborDefaultOriginate => {
-            sets(line, alone(NeighborSetting::DefaultOriginate, behind))
-        }
-        BgpForm::NeighborActivate => activate(neighbor_of(line), behind),
-        BgpForm::NeighborSendCommunity => communities(line, behind),
-        BgpForm::NeighborRouteMap => sets(line, route_map(number, behind)),
-        BgpForm::NeighborPrefixList => sets(line, prefix_list(number, behind)),
-        BgpForm::NeighborWeight => sets(line, weight(behind)),
+        BgpForm::NeighborActivate => in_block(activity(true, whom_of(file, line), behind)),
+        BgpForm::NoNeighborActivate => in_block(activity(false, unsaid_of(file, line), behind)),
+        BgpForm::NeighborPeerGroup => in_block(peer_group(file, line, behind)),
+        BgpForm::NoDefaultIpv4Unicast => in_block(inactive_by_default(behind)),
         BgpForm::RedistributeConnected => in_block(redistribute_connected(number, behind)),
         BgpForm::RedistributeStatic => in_block(redistribute_static(number, behind)),
         BgpForm::RedistributeOspf => in_block(redistribute_ospf(number, behind)),
+        BgpForm::AddressFamilyIpv4 => ipv4_family(behind),
+        BgpForm::AddressFamilyIpv6 => Ok(Command::OtherFamilyOpened),
+        BgpForm::ExitAddressFamily => family_end(block, behind),
+        _ => about_peer(form, whom_of(file, line), number, behind),
     }
 }

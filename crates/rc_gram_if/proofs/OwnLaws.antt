@@ -5,7 +5,7 @@ use Rattle.rc_openings.specs.declared.reading.LineError.{LineError}
 use Rattle.rc_openings.specs.declared.reading.LineRefusal.{LineRefusal}
 use Rattle.rc_openings.specs.declared.reading.LineRefusal.TheVariants.{Unknown, Unsupported, BadValue, OutOfPlace}
 use Rattle.rc_config.specs.declared.command.Command.{Command}
-use Rattle.rc_config.specs.declared.command.Command.TheVariants.{Passed, Remark, Hostname, Interface, InterfaceLine, StaticRoute, ListLine, MapOpened, MapLine, OspfOpened, OspfLine, BgpOpened, BgpLine}
+use Rattle.rc_config.specs.declared.command.Command.TheVariants.{Passed, Remark, Hostname, Interface, InterfaceLine, StaticRoute, ListLine, MapOpened, MapLine, OspfOpened, OspfLine, BgpOpened, BgpLine, FamilyOpened, OtherFamilyOpened, FamilyClosed}
 use Rattle.rc_config.specs.declared.router_text.RouterText.{RouterText}
 use Rattle.rc_config.specs.Lawful.{FitsFile, IsInRange}
 use Rattle.rc_gram_if.specs.Own.{IsOwn}
@@ -24,6 +24,9 @@ range-of (OspfOpened process) h = absurd h
 range-of (OspfLine line) h = absurd h
 range-of (BgpOpened asn) h = absurd h
 range-of (BgpLine line) h = absurd h
+range-of FamilyOpened h = absurd h
+range-of OtherFamilyOpened h = absurd h
+range-of FamilyClosed h = absurd h
 
 fits-of : (file : RouterText) (c : Command) → IsOwn c → FitsFile file c
 fits-of file Passed h = tt
@@ -39,6 +42,9 @@ fits-of file (OspfOpened process) h = absurd h
 fits-of file (OspfLine line) h = absurd h
 fits-of file (BgpOpened asn) h = absurd h
 fits-of file (BgpLine line) h = absurd h
+fits-of file FamilyOpened h = absurd h
+fits-of file OtherFamilyOpened h = absurd h
+fits-of file FamilyClosed h = absurd h
 
 pub own-range : (r : Result Command LineError) → IfOk r IsOwn → IfOk r IsInRange
 own-range (Ok c) h = range-of c h

@@ -1,6 +1,6 @@
 -- The commands of this grammar.
 use Rattle.rc_config.specs.declared.command.Command.{Command}
-use Rattle.rc_config.specs.declared.command.Command.TheVariants.{Passed, Remark, Hostname, Interface, InterfaceLine, StaticRoute, ListLine, MapOpened, MapLine, OspfOpened, OspfLine, BgpOpened, BgpLine}
+use Rattle.rc_config.specs.declared.command.Command.TheVariants.{Passed, Remark, Hostname, Interface, InterfaceLine, StaticRoute, ListLine, MapOpened, MapLine, OspfOpened, OspfLine, BgpOpened, BgpLine, FamilyOpened, OtherFamilyOpened, FamilyClosed}
 use Rattle.rc_config.specs.Lawful.{IsInRange}
 
 -- values are in range, and no list, route map, OSPF process or BGP process is opened or gets a line
@@ -18,3 +18,6 @@ IsOwn (OspfOpened process) = ⊥
 IsOwn (OspfLine line) = ⊥
 IsOwn (BgpOpened asn) = ⊥
 IsOwn (BgpLine line) = ⊥
+IsOwn FamilyOpened = ⊥
+IsOwn OtherFamilyOpened = ⊥
+IsOwn FamilyClosed = ⊥

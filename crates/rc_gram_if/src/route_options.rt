@@ -1,6 +1,6 @@
 //! What may stand behind the target of a static route.
-ghost use Rattle.std.specs.Prelude.{◌≡◌, ◌≤◌, ◌∷◌, List, Option, Some, IfSome, length, option_map};
-ghost use Rattle.rc_openings.specs.Values.{number_of};
+ghost use Rattle.std.specs.Prelude.{◌≡◌, ◌≤◌, ◌∷◌, List, Option, Some, IfSome, length};
+ghost use Rattle.std.specs.Option.{option_and_then};
 ghost use Rattle.rc_openings.specs.Words.{words_left};
 ghost use Rattle.rc_config.specs.Lawful.{IsDistance};
 ghost use Rattle.rc_gram_if.specs.RouteOptions as options;
@@ -18,7 +18,7 @@ struct RouteOptions {
 impl RouteOptions {
     /// The options with the distance that a word is, or `None` exactly where it is none or one stands there already.
     fn with_distance(self, word: &[u8]) -> Option<RouteOptions>
-        ensures value { (os : Option (List options.RouteOption)) → options.distance_after result os ≡ options.distance_with self (options.followed (options.distance_word word.now) os) }
+        ensures value { (os : Option (List options.RouteOption)) → option_and_then (λ more. options.said_behind more os) result ≡ options.said_behind self (options.followed (options.distance_word word.now) os) }
         ensures within { IfSome result (λ o. IfSome o.distance IsDistance) }
     {
         if self.distance.is_some() {
@@ -36,7 +36,7 @@ impl RouteOptions {
     /// The options with a name, or `None` exactly where one stands there already.
     fn with_name(self, name: &[u8]) -> Option<RouteOptions>
         requires { IfSome self.distance IsDistance }
-        ensures value { (os : Option (List options.RouteOption)) → options.distance_after result os ≡ options.distance_with self (options.followed (Some (options.Name name.now)) os) }
+        ensures value { (os : Option (List options.RouteOption)) → option_and_then (λ more. options.said_behind more os) result ≡ options.said_behind self (options.followed (Some options.Named) os) }
         ensures within { IfSome result (λ o. IfSome o.distance IsDistance) }
     {
         if self.named {
@@ -51,7 +51,7 @@ impl RouteOptions {
     /// The options with the tag that a word is, or `None` exactly where it is none or one stands there already.
     fn with_tag(self, word: &[u8]) -> Option<RouteOptions>
         requires { IfSome self.distance IsDistance }
-        ensures value { (os : Option (List options.RouteOption)) → options.distance_after result os ≡ options.distance_with self (options.followed (option_map options.Tag (number_of word.now)) os) }
+        ensures value { (os : Option (List options.RouteOption)) → option_and_then (λ more. options.said_behind more os) result ≡ options.said_behind self (options.followed (options.tag_with word.now) os) }
         ensures within { IfSome result (λ o. IfSome o.distance IsDistance) }
     {
         if self.tagged {
@@ -69,7 +69,7 @@ impl RouteOptions {
     /// The options with the one that begins with a word, and the words behind it.
     fn with_option<'a>(self, word: &[u8], behind: Words<'a>) -> Option<(RouteOptions, Words<'a>)>
         requires { IfSome self.distance IsDistance }
-        ensures value { options.distance_behind result ≡ options.distance_with self (options.options_of (word.now ∷ words_left behind.entry)) }
+        ensures value { option_and_then (λ p. options.options_behind p.0 (words_left p.1)) result ≡ options.options_behind self (word.now ∷ words_left behind.entry) }
         ensures within { IfSome result (λ p. IfSome p.0.distance IsDistance) }
         ensures shorter { IfSome result (λ p. length (words_left p.1) ≤ length (words_left behind.entry)) }
     {
@@ -91,7 +91,7 @@ impl RouteOptions {
 /// The options, if there are any, with the words behind them.
 fn with_rest<'a>(so_far: Option<RouteOptions>, rest: Words<'a>) -> Option<(RouteOptions, Words<'a>)>
     requires { IfSome so_far (λ o. IfSome o.distance IsDistance) }
-    ensures value { options.distance_behind result ≡ options.distance_after so_far (options.options_of (words_left rest.entry)) }
+    ensures value { option_and_then (λ p. options.options_behind p.0 (words_left p.1)) result ≡ option_and_then (λ o. options.options_behind o (words_left rest.entry)) so_far }
     ensures within { IfSome result (λ p. IfSome p.0.distance IsDistance) }
     ensures rest { IfSome result (λ p. words_left p.1 ≡ words_left rest.entry) }
 {
@@ -101,11 +101,10 @@ fn with_rest<'a>(so_far: Option<RouteOptions>, rest: Words<'a>) -> Option<(Route
     }
 }
 
-/// The administrative distance that the words behind a target give, 1 where they give none, or `None` exactly where they
-/// aren't options in any order, each at most once.
-pub(crate) fn read_distance(mut words: Words) -> Option<u8>
-    ensures value { result ≡ options.distance_of (words_left words.entry) }
-    ensures within { IfSome result IsDistance }
+/// What the words behind a target say, or `None` exactly where they aren't options in any order, each at most once.
+fn read_options(mut words: Words) -> Option<RouteOptions>
+    ensures value { result ≡ options.options_in (words_left words.entry) }
+    ensures within { IfSome result (λ o. IfSome o.distance IsDistance) }
 {
     let mut so_far = RouteOptions {
         distance: None,
@@ -121,5 +120,17 @@ pub(crate) fn read_distance(mut words: Words) -> Option<u8>
             None => return None,
         }
     }
-    Some(so_far.distance.unwrap_or(1))
+    Some(so_far)
+}
+
+/// The administrative distance that the words behind a target give, 1 where they give none, or `None` exactly where they
+/// aren't options in any order, each at most once.
+pub(crate) fn read_distance(words: Words) -> Option<u8>
+    ensures value { result ≡ options.distance_of (words_left words.entry) }
+    ensures within { IfSome result IsDistance }
+{
+    match read_options(words) {
+        Some(options) => Some(options.distance.unwrap_or(1)),
+        None => None,
+    }
 }

@@ -38,6 +38,9 @@ few-after r (command.OspfOpened process) room few = few
 few-after r (command.OspfLine line) room few = few
 few-after r (command.BgpOpened asn) room few = few
 few-after r (command.BgpLine line) room few = few
+few-after r command.FamilyOpened room few = few
+few-after r command.OtherFamilyOpened room few = few
+few-after r command.FamilyClosed room few = few
 few-after r (command.Interface name line) room few = length-with_value r.interfaces name _ 256 (new_is_few r.interfaces name room) few
 few-after r (command.InterfaceLine name line) room few = length-with_value r.interfaces name _ 256 (new_is_few r.interfaces name room) few
 

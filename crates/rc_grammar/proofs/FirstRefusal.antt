@@ -11,11 +11,12 @@ use Rattle.rc_lines.specs.declared.banner.Part.{Part}
 use Rattle.rc_lines.specs.declared.banner.Part.TheVariants as part
 use Rattle.rc_config.specs.declared.command.Command.{Command}
 use Rattle.rc_config.specs.declared.router_text.HostLine.{HostLine}
-use Rattle.rc_grammar.specs.File.{IsRefusal, RefusesTheFirst, at_line, at_line_of, by_part, file_of, interface_of, is_one_too_many, is_passed, refused, said, start, step, with_answer, with_command, with_host, with_lines, without_host}
+use Rattle.rc_grammar.specs.File.{IsRefusal, RefusesTheFirst, at_line, at_line_of, by_part, interface_of, is_one_too_many, is_passed, read_by, refused, said, start, step, with_answer, with_command, with_host, with_lines, without_host}
 use Rattle.rc_grammar.specs.declared.reading.Reading.{Reading}
 use Rattle.rc_grammar.specs.declared.refusal.FileCause.TheVariants.{NoHostName}
 use Rattle.rc_grammar.specs.declared.refusal.FileRefusal.{FileRefusal}
 use Rattle.rc_grammar.proofs.Refused.{with_lines-Err}
+use Rattle.rc_grammar.specs.Grammars.{says}
 
 abbrev Read : Type 0
 Read = Result Reading FileRefusal
@@ -36,14 +37,14 @@ answer-names : (n : ℕ) (r : Reading) (a : Result Command LineRefusal) → Name
 answer-names n r (Ok m) = command-names n r m
 answer-names n r (Err refusal) = refl
 
-part-names : (r : Reading) (l : TextLine) (p : Part) → Names l.number (by_part r l p)
-part-names r l part.Plain = either-names l.number (is_passed (words_of l.text)) _ _ tt (answer-names l.number (at_line r l.text) (said (at_line r l.text) l))
+part-names : (r : Reading) (l : TextLine) (p : Part) → Names l.number (by_part says r l p)
+part-names r l part.Plain = either-names l.number (is_passed (words_of l.text)) _ _ tt (answer-names l.number (at_line r l.text) (said says (at_line r l.text) l))
 part-names r l part.InBanner = tt
 part-names r l part.Banner = tt
 part-names r l part.ShortBanner = refl
 part-names r l part.OpenBanner = refl
 
-step-names : (r : Reading) (l : TextLine) → Names l.number (step r l)
+step-names : (r : Reading) (l : TextLine) → Names l.number (step says r l)
 unfolding step
 step-names r l = either-names l.number (is_too_long l.text) _ _ refl (part-names r l l.part)
 
@@ -65,14 +66,14 @@ record IsSplit (r : Reading) (ls : List TextLine) (refusal : FileRefusal) : Type
   later : List TextLine
   reading : Reading
   split : ls ≡ before ++ line ∷ later
-  taken : with_lines (Ok r) before ≡ Ok reading
-  refused : step reading line ≡ Err refusal
+  taken : with_lines says (Ok r) before ≡ Ok reading
+  refused : step says reading line ≡ Err refusal
 
-split-of : (r : Reading) (ls : List TextLine) (refusal : FileRefusal) → with_lines (Ok r) ls ≡ Err refusal → IsSplit r ls refusal
+split-of : (r : Reading) (ls : List TextLine) (refusal : FileRefusal) → with_lines says (Ok r) ls ≡ Err refusal → IsSplit r ls refusal
 split-of r [] refusal e = absurd (cc)
-split-of r (line ∷ ls) refusal e = by (step r line) refl (λ next. split-of next ls refusal) e
+split-of r (line ∷ ls) refusal e = by (step says r line) refl (λ next. split-of next ls refusal) e
   where
-    by : (read : Read) → step r line ≡ read → ((next : Reading) → with_lines (Ok next) ls ≡ Err refusal → IsSplit next ls refusal) → with_lines read ls ≡ Err refusal → IsSplit r (line ∷ ls) refusal
+    by : (read : Read) → step says r line ≡ read → ((next : Reading) → with_lines says (Ok next) ls ≡ Err refusal → IsSplit next ls refusal) → with_lines says read ls ≡ Err refusal → IsSplit r (line ∷ ls) refusal
     by (Err x) is rest e = record { before = []; line = line; later = ls; reading = r; split = refl; taken = refl; refused = is ∙ (sym (with_lines-Err x ls) ∙ e) }
     by (Ok next) is rest e =
         let found = rest next e in
@@ -82,13 +83,13 @@ split-of r (line ∷ ls) refusal e = by (step r line) refl (λ next. split-of ne
           later = found.later;
           reading = found.reading;
           split = ap (λ (ms : List TextLine). line ∷ ms) found.split;
-          taken = ap (λ (s : Read). with_lines s found.before) is ∙ found.taken;
+          taken = ap (λ (s : Read). with_lines says s found.before) is ∙ found.taken;
           refused = found.refused;
         }
 
-with_lines-append : (read : Read) (ls more : List TextLine) → with_lines read (ls ++ more) ≡ with_lines (with_lines read ls) more
+with_lines-append : (read : Read) (ls more : List TextLine) → with_lines says read (ls ++ more) ≡ with_lines says (with_lines says read ls) more
 with_lines-append read [] more = refl
-with_lines-append (Ok r) (line ∷ ls) more = with_lines-append (step r line) ls more
+with_lines-append (Ok r) (line ∷ ls) more = with_lines-append (step says r line) ls more
 with_lines-append (Err x) (line ∷ ls) more = with_lines-append (Err x) ls more
 
 abbrev err_of : {A : Type 0} → Result A FileRefusal → FileRefusal → FileRefusal
@@ -96,14 +97,14 @@ err_of (Ok x) other = other
 err_of (Err refusal) other = refusal
 
 pub first_refusal : RefusesTheFirst
-unfolding file_of
-first_refusal bytes refusal = (λ e. from (with_lines (Ok start) (lines_of bytes)) refl e, back)
+unfolding read_by
+first_refusal bytes refusal = (λ e. from (with_lines says (Ok start) (lines_of bytes)) refl e, back)
   where
-    unnamed : (reading : Reading) (host : Option HostLine) → reading.file.host ≡ host → with_lines (Ok start) (lines_of bytes) ≡ Ok reading → cond (is_some host) (Ok reading.file) (refused 0 NoHostName) ≡ Err refusal → IsRefusal bytes refusal
+    unnamed : (reading : Reading) (host : Option HostLine) → reading.file.host ≡ host → with_lines says (Ok start) (lines_of bytes) ≡ Ok reading → cond (is_some host) (Ok reading.file) (refused 0 NoHostName) ≡ Err refusal → IsRefusal bytes refusal
     unnamed reading (Some host) has is e = absurd (cc)
     unnamed reading None has is e = without_host reading is has (sym (ap (λ r. err_of r refusal) e))
 
-    from : (read : Read) → with_lines (Ok start) (lines_of bytes) ≡ read → with_host read ≡ Err refusal → IsRefusal bytes refusal
+    from : (read : Read) → with_lines says (Ok start) (lines_of bytes) ≡ read → with_host read ≡ Err refusal → IsRefusal bytes refusal
     from (Ok reading) is e = unnamed reading reading.file.host refl is e
     from (Err x) is e =
         let same : x ≡ refusal = ap (λ r. err_of r refusal) e in
@@ -112,9 +113,9 @@ first_refusal bytes refusal = (λ e. from (with_lines (Ok start) (lines_of bytes
         let number = number-of (lines bytes) found.before None 1 found.line found.later found.split in
         at_line_of found.before found.line found.later found.reading found.split found.taken found.refused (omega arith)
 
-    back : IsRefusal bytes refusal → with_host (with_lines (Ok start) (lines_of bytes)) ≡ Err refusal
+    back : IsRefusal bytes refusal → with_host (with_lines says (Ok start) (lines_of bytes)) ≡ Err refusal
     back (without_host reading is none same) = ap with_host is ∙ ap (λ (h : Option HostLine). cond (is_some h) (Ok reading.file) (refused 0 NoHostName)) none ∙ ap Err (sym same)
     back (at_line_of before line later reading split taken bad number) =
         ap with_host
-        (ap (with_lines (Ok start)) split ∙ with_lines-append (Ok start) before (line ∷ later) ∙ ap (λ (s : Read). with_lines s (line ∷ later)) taken
-        ∙ ap (λ (s : Read). with_lines s later) bad ∙ with_lines-Err refusal later)
+        (ap (with_lines says (Ok start)) split ∙ with_lines-append (Ok start) before (line ∷ later) ∙ ap (λ (s : Read). with_lines says s (line ∷ later)) taken
+        ∙ ap (λ (s : Read). with_lines says s later) bad ∙ with_lines-Err refusal later)

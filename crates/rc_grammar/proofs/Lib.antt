@@ -2,3 +2,6 @@ mod FewLaws
 mod Refused
 mod TextLaws
 mod FirstRefusal
+mod PassingLaws
+pub mod OldRowLaws
+pub mod OldFileLaws

@@ -19,7 +19,7 @@ use Rattle.rc_config.specs.declared.lists.ListLine.TheVariants as list_line
 use Rattle.rc_config.specs.declared.context.OpenBlock.{OpenBlock}
 use Rattle.rc_config.specs.declared.context.OpenBlock.TheVariants as block
 use Rattle.rc_config.specs.declared.router_text.RouterText.{RouterText}
-use Rattle.rc_grammar.specs.Grammars.{says}
+use Rattle.rc_grammar.specs.Grammars.{says, says_before}
 use Rattle.rc_grammar.specs.declared.reading.Reading.{Reading}
 use Rattle.rc_grammar.specs.declared.refusal.FileCause.{FileCause}
 use Rattle.rc_grammar.specs.declared.refusal.FileCause.TheVariants.{Line, LineTooLong, NoHostName, OpenBanner, TooManyInterfaces}
@@ -43,7 +43,8 @@ list_block list (list_line.AccessListOpened kind) = block.AccessList list kind
 list_block list _ = block.Closed
 
 -- The block that is open after a command: a line without indent closes the open block, `interface`, `ip access-list`, `route-map`,
--- `router ospf` and `router bgp` open one, and a line without indent that is passed over opens one whose lines are all passed over.
+-- `router ospf` and `router bgp` open one, and a line without indent that is passed over opens one whose lines are all passed over. In
+-- the block of a BGP process `address-family` opens that of a family, and its end leads back.
 abbrev pub open_after : OpenBlock → Command → OpenBlock
 open_after block.Global (command.Interface name line) = block.Interface name
 open_after block.Global (command.ListLine list line) = list_block list line
@@ -52,6 +53,10 @@ open_after block.Global (command.OspfOpened process) = block.Ospf
 open_after block.Global (command.BgpOpened asn) = block.Bgp
 open_after block.Global command.Passed = block.Ignored
 open_after block.Global _ = block.Closed
+open_after block.Bgp command.FamilyOpened = block.InFamily
+open_after block.Bgp command.OtherFamilyOpened = block.InOtherFamily
+open_after block.InFamily command.FamilyClosed = block.Bgp
+open_after block.InOtherFamily command.FamilyClosed = block.Bgp
 open_after at _ = at
 
 -- the interface whose block a command opens or changes. A static route names interfaces without declaring them.
@@ -69,6 +74,9 @@ interface_of (command.OspfOpened process) = None
 interface_of (command.OspfLine line) = None
 interface_of (command.BgpOpened asn) = None
 interface_of (command.BgpLine line) = None
+interface_of command.FamilyOpened = None
+interface_of command.OtherFamilyOpened = None
+interface_of command.FamilyClosed = None
 
 -- a file has at most 256 interfaces
 abbrev pub is_one_too_many : RouterText → Option (List ℕ) → Bool
@@ -85,37 +93,6 @@ abbrev pub with_answer : ℕ → Reading → Result Command LineRefusal → Resu
 with_answer number r (Err refusal) = refused number (Line refusal)
 with_answer number r (Ok m) = with_command number r m
 
--- what the line says where it stands
-abbrev pub said : Reading → TextLine → Result Command LineRefusal
-said r l = says r.block r.file l.number (words_of l.text)
-
-abbrev pub with_said : Reading → TextLine → Result Reading FileRefusal
-with_said r l = with_answer l.number r (said r l)
-
-abbrev pub with_text : Reading → TextLine → Result Reading FileRefusal
-with_text r l = if is_passed (words_of l.text) then Ok r else with_said (at_line r l.text) l
-
--- a line of a banner says nothing, and the first one closes the open block
-abbrev pub by_part : Reading → TextLine → Part → Result Reading FileRefusal
-by_part r l part.Plain = with_text r l
-by_part r l part.InBanner = Ok r
-by_part r l part.Banner = Ok (record r { block = block.Closed })
-by_part r l part.ShortBanner = refused l.number (Line BadValue)
-by_part r l part.OpenBanner = refused l.number OpenBanner
-
--- one line more; its length is tested first, that of a line which is passed over too
-unfoldable pub step : Reading → TextLine → Result Reading FileRefusal
-step r l = if is_too_long l.text then refused l.number LineTooLong else by_part r l l.part
-
--- a line, unless an earlier one was refused
-abbrev pub with_line : Result Reading FileRefusal → TextLine → Result Reading FileRefusal
-with_line (Err refusal) line = Err refusal
-with_line (Ok reading) line = step reading line
-
-abbrev pub with_lines : Result Reading FileRefusal → List TextLine → Result Reading FileRefusal
-with_lines so_far [] = so_far
-with_lines so_far (line ∷ lines) = with_lines (with_line so_far line) lines
-
 abbrev pub start : Reading
 start = record { file = empty; block = block.Closed }
 
@@ -124,16 +101,57 @@ abbrev pub with_host : Result Reading FileRefusal → Result RouterText FileRefu
 with_host (Err refusal) = Err refusal
 with_host (Ok reading) = if is_some reading.file.host then Ok reading.file else refused 0 NoHostName
 
--- the model of a file, or its first refusal: of the least line, then of the host name
-unfoldable pub file_of : List ℕ → Result RouterText FileRefusal
-file_of bytes = with_host (with_lines (Ok start) (lines_of bytes))
+-- by what a line says in a block, in a file that has said so much, by its number and its words
+module _ (say : OpenBlock → RouterText → ℕ → List (List ℕ) → Result Command LineRefusal) where
+  -- what the line says where it stands
+  abbrev pub said : Reading → TextLine → Result Command LineRefusal
+  said r l = say r.block r.file l.number (words_of l.text)
+
+  abbrev pub with_said : Reading → TextLine → Result Reading FileRefusal
+  with_said r l = with_answer l.number r (said r l)
+
+  abbrev pub with_text : Reading → TextLine → Result Reading FileRefusal
+  with_text r l = if is_passed (words_of l.text) then Ok r else with_said (at_line r l.text) l
+
+  -- a line of a banner says nothing, and the first one closes the open block
+  abbrev pub by_part : Reading → TextLine → Part → Result Reading FileRefusal
+  by_part r l part.Plain = with_text r l
+  by_part r l part.InBanner = Ok r
+  by_part r l part.Banner = Ok (record r { block = block.Closed })
+  by_part r l part.ShortBanner = refused l.number (Line BadValue)
+  by_part r l part.OpenBanner = refused l.number OpenBanner
+
+  -- one line more; its length is tested first, that of a line which is passed over too
+  unfoldable pub step : Reading → TextLine → Result Reading FileRefusal
+  step r l = if is_too_long l.text then refused l.number LineTooLong else by_part r l l.part
+
+  -- a line, unless an earlier one was refused
+  abbrev pub with_line : Result Reading FileRefusal → TextLine → Result Reading FileRefusal
+  with_line (Err refusal) line = Err refusal
+  with_line (Ok reading) line = step reading line
+
+  abbrev pub with_lines : Result Reading FileRefusal → List TextLine → Result Reading FileRefusal
+  with_lines so_far [] = so_far
+  with_lines so_far (line ∷ lines) = with_lines (with_line so_far line) lines
+
+  -- the model of a file, or its first refusal: of the least line, then of the host name
+  unfoldable pub read_by : List ℕ → Result RouterText FileRefusal
+  read_by bytes = with_host (with_lines (Ok start) (lines_of bytes))
+
+-- the model of a file, or its first refusal
+abbrev pub file_of : List ℕ → Result RouterText FileRefusal
+file_of bytes = read_by says bytes
+
+-- and as it was before netcheck read address families and peer groups
+abbrev pub file_before : List ℕ → Result RouterText FileRefusal
+file_before bytes = read_by says_before bytes
 
 -- A refusal is that of the least line that is refused, and every line before it is taken; or all lines are taken, and none gives
 -- the host name.
 pub data IsRefusal (bytes : List ℕ) (refusal : FileRefusal) : Type 0 where
-  at_line_of : (before : List TextLine) (line : TextLine) (later : List TextLine) (reading : Reading) → lines_of bytes ≡ before ++ line ∷ later → with_lines (Ok start) before ≡ Ok reading
-      → step reading line ≡ Err refusal → refusal.line ≡ length before + 1 → IsRefusal bytes refusal
-  without_host : (reading : Reading) → with_lines (Ok start) (lines_of bytes) ≡ Ok reading → reading.file.host ≡ None → refusal ≡ record { line = 0; cause = NoHostName } → IsRefusal bytes refusal
+  at_line_of : (before : List TextLine) (line : TextLine) (later : List TextLine) (reading : Reading) → lines_of bytes ≡ before ++ line ∷ later → with_lines says (Ok start) before ≡ Ok reading
+      → step says reading line ≡ Err refusal → refusal.line ≡ length before + 1 → IsRefusal bytes refusal
+  without_host : (reading : Reading) → with_lines says (Ok start) (lines_of bytes) ≡ Ok reading → reading.file.host ≡ None → refusal ≡ record { line = 0; cause = NoHostName } → IsRefusal bytes refusal
 
 -- a file is refused exactly with the refusal of its least line that is refused, or of its host name where all lines are taken
 abbrev pub RefusesTheFirst : Type 0

@@ -17,12 +17,14 @@ use Rattle.rc_openings.specs.declared.reading.LineRefusal.TheVariants.{BadValue,
 use Rattle.rc_lines.specs.Banners.{is_banner}
 use Rattle.rc_config.specs.AccessList.{any_address, host_address, standard_line}
 use Rattle.rc_config.specs.declared.bgp.OspfRedistribution.{OspfRedistribution}
-use Rattle.rc_config.specs.Bgp.{no_lines as no_bgp_lines, no_settings as no_neighbor_settings}
+use Rattle.rc_config.specs.Bgp.{no_lines as no_bgp_lines, fresh as fresh_neighbor}
 use Rattle.rc_config.specs.IfType.{type_of}
 use Rattle.rc_config.specs.Interface.{fresh}
 use Rattle.rc_config.specs.Lists.{no_lists}
 use Rattle.rc_config.specs.Ospf.{no_settings}
+use Rattle.rc_config.specs.Peering.{no_peering}
 use Rattle.rc_config.specs.RouteMap.{fresh_entry}
+use Rattle.rc_config.specs.Settings.{no_settings as no_neighbor_settings}
 use Rattle.rc_config.specs.Update.{after, empty}
 use Rattle.rc_config.specs.declared.access_list.AccessListKind.TheVariants.{Standard, Extended}
 use Rattle.rc_config.specs.declared.access_list.Action.TheVariants.{Permit, Deny}
@@ -43,7 +45,7 @@ use Rattle.rc_gram_acl.specs.Refused.{refused_words as of_access_lists}
 use Rattle.rc_gram_ospf.specs.Rows.{refused_words as of_ospf}
 use Rattle.rc_gram_policy.specs.Refused.{refused_in_entry, refused_in_list}
 use Rattle.rc_grammar.specs.Codes.{cause_code}
-use Rattle.rc_grammar.specs.File.{file_of, is_one_too_many, step}
+use Rattle.rc_grammar.specs.File.{file_of, is_one_too_many, read_by, step}
 use Rattle.rc_grammar.specs.declared.refusal.FileCause.{FileCause}
 use Rattle.rc_grammar.specs.declared.refusal.FileCause.TheVariants.{Line, LineTooLong, NoHostName, OpenBanner, TooManyInterfaces}
 
@@ -66,19 +68,19 @@ named name line = record { name = name; line = line }
 pub running :
     Makes (codes "Building configuration...\n\nCurrent configuration : 1492 bytes\n!\nversion 15.7\nno service password-encryption\n!\nhostname R1\n!\nenable secret 5 $1$abcd\nip cef\ncrypto pki certificate chain self\n certificate self-signed 01\n  30820240 308201A9\n  \tquit\n!\ninterface Embedded-Service-Engine0/0\n no ip address\n shutdown\n")
     (record empty { host = Some (record { name = codes "R1"; line = 8 }); interfaces = (codes "Embedded-Service-Engine0/0", record fresh { shutdown = true }) ∷ [] })
-unfolding file_of step decided decisive_row global global_forms global_refused global_ignored interface interface_forms interface_refused interface_ignored access_list access_list_forms access_list_refused access_list_ignored route_map route_map_forms route_map_refused route_map_ignored ospf ospf_forms ospf_refused ospf_ignored bgp bgp_forms bgp_refused bgp_ignored words_of is_banner mask_len type_of protocol_names port_names of_access_lists refused_in_entry refused_in_list of_ospf digits
+unfolding read_by step decided decisive_row global global_forms global_refused global_ignored interface interface_forms interface_refused interface_ignored access_list access_list_forms access_list_refused access_list_ignored route_map route_map_forms route_map_refused route_map_ignored ospf ospf_forms ospf_refused ospf_ignored bgp bgp_forms bgp_refused bgp_ignored words_of is_banner mask_len type_of protocol_names port_names of_access_lists refused_in_entry refused_in_list of_ospf digits
 running = refl
 
 -- of an interface the second address counts, and so does the last of `shutdown` and `no shutdown`
 pub interface_of_a_running_one :
     Makes (codes "hostname X\ninterface GigabitEthernet0/0\n description LAN\n ip address 10.0.0.1 255.255.255.0\n ip address 10.0.0.2 255.255.255.0\n ip address 10.0.1.1 255.255.255.0 secondary\n duplex auto\n shutdown\n!\ninterface GigabitEthernet0/0\n no shutdown\n!\nend\n")
     (record x { interfaces = (codes "GigabitEthernet0/0", record fresh { primary = Some (record { addr = 0x0a000002; len = 24 }); secondary = record { addr = 0x0a000101; len = 24 } ∷ [] }) ∷ [] })
-unfolding file_of step decided decisive_row global global_forms global_refused global_ignored interface interface_forms interface_refused interface_ignored access_list access_list_forms access_list_refused access_list_ignored route_map route_map_forms route_map_refused route_map_ignored ospf ospf_forms ospf_refused ospf_ignored bgp bgp_forms bgp_refused bgp_ignored words_of is_banner mask_len type_of protocol_names port_names of_access_lists refused_in_entry refused_in_list of_ospf digits
+unfolding read_by step decided decisive_row global global_forms global_refused global_ignored interface interface_forms interface_refused interface_ignored access_list access_list_forms access_list_refused access_list_ignored route_map route_map_forms route_map_refused route_map_ignored ospf ospf_forms ospf_refused ospf_ignored bgp bgp_forms bgp_refused bgp_ignored words_of is_banner mask_len type_of protocol_names port_names of_access_lists refused_in_entry refused_in_list of_ospf digits
 interface_of_a_running_one = refl
 
 -- what stands in a banner is passed over
 pub banner : Makes (codes "hostname X\nno ip http server\nbanner motd ^C\ninterface text in a banner\n^C\nline con 0\nline vty 0 4\n transport input ssh\n!\nend\n") x
-unfolding file_of step decided decisive_row global global_forms global_refused global_ignored interface interface_forms interface_refused interface_ignored access_list access_list_forms access_list_refused access_list_ignored route_map route_map_forms route_map_refused route_map_ignored ospf ospf_forms ospf_refused ospf_ignored bgp bgp_forms bgp_refused bgp_ignored words_of is_banner mask_len type_of protocol_names port_names of_access_lists refused_in_entry refused_in_list of_ospf digits
+unfolding read_by step decided decisive_row global global_forms global_refused global_ignored interface interface_forms interface_refused interface_ignored access_list access_list_forms access_list_refused access_list_ignored route_map route_map_forms route_map_refused route_map_ignored ospf ospf_forms ospf_refused ospf_ignored bgp bgp_forms bgp_refused bgp_ignored words_of is_banner mask_len type_of protocol_names port_names of_access_lists refused_in_entry refused_in_list of_ospf digits
 banner = refl
 
 -- static routes stand as written, the same one twice too; over an interface that isn't declared
@@ -93,14 +95,14 @@ pub static_routes :
           ∷ record { prefix = record { network = 0x0a010000; len = 16 }; target = target.Dev (codes "Serial9"); distance = 200 }
           ∷ [];
     })
-unfolding file_of step decided decisive_row global global_forms global_refused global_ignored interface interface_forms interface_refused interface_ignored access_list access_list_forms access_list_refused access_list_ignored route_map route_map_forms route_map_refused route_map_ignored ospf ospf_forms ospf_refused ospf_ignored bgp bgp_forms bgp_refused bgp_ignored words_of is_banner mask_len type_of protocol_names port_names of_access_lists refused_in_entry refused_in_list of_ospf digits
+unfolding read_by step decided decisive_row global global_forms global_refused global_ignored interface interface_forms interface_refused interface_ignored access_list access_list_forms access_list_refused access_list_ignored route_map route_map_forms route_map_refused route_map_ignored ospf ospf_forms ospf_refused ospf_ignored bgp bgp_forms bgp_refused bgp_ignored words_of is_banner mask_len type_of protocol_names port_names of_access_lists refused_in_entry refused_in_list of_ospf digits
 static_routes = refl
 
 -- of access groups the last one of each direction counts, and a list that is named isn't there by that
 pub access_groups :
     Makes (codes "hostname X\ninterface Serial0\n ip access-group 5 in\n ip access-group WEB out\n ip access-group 6 in\n")
     (record x { interfaces = (codes "Serial0", record fresh { access_group_in = Some (codes "6"); access_group_out = Some (codes "WEB") }) ∷ [] })
-unfolding file_of step decided decisive_row global global_forms global_refused global_ignored interface interface_forms interface_refused interface_ignored access_list access_list_forms access_list_refused access_list_ignored route_map route_map_forms route_map_refused route_map_ignored ospf ospf_forms ospf_refused ospf_ignored bgp bgp_forms bgp_refused bgp_ignored words_of is_banner mask_len type_of protocol_names port_names of_access_lists refused_in_entry refused_in_list of_ospf digits
+unfolding read_by step decided decisive_row global global_forms global_refused global_ignored interface interface_forms interface_refused interface_ignored access_list access_list_forms access_list_refused access_list_ignored route_map route_map_forms route_map_refused route_map_ignored ospf ospf_forms ospf_refused ospf_ignored bgp bgp_forms bgp_refused bgp_ignored words_of is_banner mask_len type_of protocol_names port_names of_access_lists refused_in_entry refused_in_list of_ospf digits
 access_groups = refl
 
 -- access lists: lines without a number get the next ten, a remark makes no line and no list, 005 is the list 5, and a list is there by its opening alone
@@ -124,7 +126,7 @@ pub access_lists :
             ∷ [];
       };
     })
-unfolding file_of step decided decisive_row global global_forms global_refused global_ignored interface interface_forms interface_refused interface_ignored access_list access_list_forms access_list_refused access_list_ignored route_map route_map_forms route_map_refused route_map_ignored ospf ospf_forms ospf_refused ospf_ignored bgp bgp_forms bgp_refused bgp_ignored words_of is_banner mask_len type_of protocol_names port_names of_access_lists refused_in_entry refused_in_list of_ospf digits
+unfolding read_by step decided decisive_row global global_forms global_refused global_ignored interface interface_forms interface_refused interface_ignored access_list access_list_forms access_list_refused access_list_ignored route_map route_map_forms route_map_refused route_map_ignored ospf ospf_forms ospf_refused ospf_ignored bgp bgp_forms bgp_refused bgp_ignored words_of is_banner mask_len type_of protocol_names port_names of_access_lists refused_in_entry refused_in_list of_ospf digits
 access_lists = refl
 
 -- prefix lists by number, also where a line is written later, with the next five where none is written; community lists in file order, and a numbered one by its number. Below a description lines are passed over.
@@ -157,7 +159,7 @@ pub policy_lists :
             ∷ [];
       };
     })
-unfolding file_of step decided decisive_row global global_forms global_refused global_ignored interface interface_forms interface_refused interface_ignored access_list access_list_forms access_list_refused access_list_ignored route_map route_map_forms route_map_refused route_map_ignored ospf ospf_forms ospf_refused ospf_ignored bgp bgp_forms bgp_refused bgp_ignored words_of is_banner mask_len type_of protocol_names port_names of_access_lists refused_in_entry refused_in_list of_ospf digits
+unfolding read_by step decided decisive_row global global_forms global_refused global_ignored interface interface_forms interface_refused interface_ignored access_list access_list_forms access_list_refused access_list_ignored route_map route_map_forms route_map_refused route_map_ignored ospf ospf_forms ospf_refused ospf_ignored bgp bgp_forms bgp_refused bgp_ignored words_of is_banner mask_len type_of protocol_names port_names of_access_lists refused_in_entry refused_in_list of_ospf digits
 policy_lists = refl
 
 -- route maps: an entry that is opened again has the later action and keeps its lines, of two values of one kind the later counts, and names stand with their lines
@@ -183,7 +185,7 @@ pub route_maps :
           ∷ (codes "EMPTY", record { entries = fresh_entry 0 Permit ∷ [] })
           ∷ [];
     })
-unfolding file_of step decided decisive_row global global_forms global_refused global_ignored interface interface_forms interface_refused interface_ignored access_list access_list_forms access_list_refused access_list_ignored route_map route_map_forms route_map_refused route_map_ignored ospf ospf_forms ospf_refused ospf_ignored bgp bgp_forms bgp_refused bgp_ignored words_of is_banner mask_len type_of protocol_names port_names of_access_lists refused_in_entry refused_in_list of_ospf digits
+unfolding read_by step decided decisive_row global global_forms global_refused global_ignored interface interface_forms interface_refused interface_ignored access_list access_list_forms access_list_refused access_list_ignored route_map route_map_forms route_map_refused route_map_ignored ospf ospf_forms ospf_refused ospf_ignored bgp bgp_forms bgp_refused bgp_ignored words_of is_banner mask_len type_of protocol_names port_names of_access_lists refused_in_entry refused_in_list of_ospf digits
 route_maps = refl
 
 -- an OSPF process and its interfaces: of two lines about one area, one source or one setting the later counts, and a process that is opened again keeps its lines
@@ -210,7 +212,7 @@ pub ospf_process :
         default_information = Some (record { always = true; metric = None; metric_type = None });
       });
     })
-unfolding file_of step decided decisive_row global global_forms global_refused global_ignored interface interface_forms interface_refused interface_ignored access_list access_list_forms access_list_refused access_list_ignored route_map route_map_forms route_map_refused route_map_ignored ospf ospf_forms ospf_refused ospf_ignored bgp bgp_forms bgp_refused bgp_ignored words_of is_banner mask_len type_of protocol_names port_names of_access_lists refused_in_entry refused_in_list of_ospf digits
+unfolding read_by step decided decisive_row global global_forms global_refused global_ignored interface interface_forms interface_refused interface_ignored access_list access_list_forms access_list_refused access_list_ignored route_map route_map_forms route_map_refused route_map_ignored ospf ospf_forms ospf_refused ospf_ignored bgp bgp_forms bgp_refused bgp_ignored words_of is_banner mask_len type_of protocol_names port_names of_access_lists refused_in_entry refused_in_list of_ospf digits
 ospf_process = refl
 
 -- a BGP process: a network without a mask is that of its class, neighbours stand by address, other address families are passed over, the later AS of a neighbour counts, and a process that is opened again keeps its lines
@@ -222,27 +224,28 @@ pub bgp_process :
         router_id = Some 0x01010101;
         networks = record { network = 0x0a090100; len = 24 } ∷ record { network = 0xac100000; len = 16 } ∷ [];
         neighbors =
-            record (no_neighbor_settings 0x0a000001) { remote_as = Some 65002 }
-            ∷ record (no_neighbor_settings 0x0a000002) { remote_as = Some 65000 }
-            ∷ record (no_neighbor_settings 0x0a000003) { is_shutdown = true }
+            record (fresh_neighbor 0x0a000001) { settings = record no_neighbor_settings { remote_as = Some 65002 } }
+            ∷ record (fresh_neighbor 0x0a000002) { settings = record no_neighbor_settings { remote_as = Some 65000 } }
+            ∷ record (fresh_neighbor 0x0a000003) { settings = record no_neighbor_settings { is_shutdown = true } }
             ∷ [];
       });
     })
-unfolding file_of step decided decisive_row global global_forms global_refused global_ignored interface interface_forms interface_refused interface_ignored access_list access_list_forms access_list_refused access_list_ignored route_map route_map_forms route_map_refused route_map_ignored ospf ospf_forms ospf_refused ospf_ignored bgp bgp_forms bgp_refused bgp_ignored words_of is_banner mask_len type_of protocol_names port_names of_access_lists refused_in_entry refused_in_list of_ospf digits
+unfolding read_by step decided decisive_row global global_forms global_refused global_ignored interface interface_forms interface_refused interface_ignored access_list access_list_forms access_list_refused access_list_ignored route_map route_map_forms route_map_refused route_map_ignored ospf ospf_forms ospf_refused ospf_ignored bgp bgp_forms bgp_refused bgp_ignored words_of is_banner mask_len type_of protocol_names port_names of_access_lists refused_in_entry refused_in_list of_ospf digits
 bgp_process = refl
 
--- the settings of a neighbour; a description says nothing, and nor do `activate` and extended communities
+-- the settings of a neighbour, and its activity; a description says nothing, and nor do extended communities
 pub bgp_neighbor :
     Makes (codes "hostname X\nrouter bgp 65001\n neighbor 10.0.0.2 update-source Loopback0\n neighbor 10.0.0.1 ebgp-multihop 2\n neighbor 10.0.0.1 description towards Y\n neighbor 10.0.0.1 activate\n neighbor 10.0.0.1 route-map M in\n neighbor 10.0.0.1 prefix-list P out\n neighbor 10.0.0.1 weight 7\n neighbor 10.0.0.1 send-community\n neighbor 10.0.0.1 send-community extended\n")
     (record x {
       bgp = Some (record (no_bgp_lines 65001) {
         neighbors =
-            record (no_neighbor_settings 0x0a000001) { is_multihop = true; send_community = true; weight = 7; map_in = Some (named (codes "M") 7); list_out = Some (named (codes "P") 8) }
-            ∷ record (no_neighbor_settings 0x0a000002) { update_source = Some (codes "Loopback0") }
+            record (fresh_neighbor 0x0a000001) { settings = record no_neighbor_settings { is_multihop = true; send_community = true; weight = Some 7; map_in = Some (named (codes "M") 7); list_out = Some (named (codes "P") 8) } }
+            ∷ record (fresh_neighbor 0x0a000002) { settings = record no_neighbor_settings { update_source = Some (codes "Loopback0") } }
             ∷ [];
+        peering = record no_peering { activities = record { address = 0x0a000001; is_active = true } ∷ [] };
       });
     })
-unfolding file_of step decided decisive_row global global_forms global_refused global_ignored interface interface_forms interface_refused interface_ignored access_list access_list_forms access_list_refused access_list_ignored route_map route_map_forms route_map_refused route_map_ignored ospf ospf_forms ospf_refused ospf_ignored bgp bgp_forms bgp_refused bgp_ignored words_of is_banner mask_len type_of protocol_names port_names of_access_lists refused_in_entry refused_in_list of_ospf digits
+unfolding read_by step decided decisive_row global global_forms global_refused global_ignored interface interface_forms interface_refused interface_ignored access_list access_list_forms access_list_refused access_list_ignored route_map route_map_forms route_map_refused route_map_ignored ospf ospf_forms ospf_refused ospf_ignored bgp bgp_forms bgp_refused bgp_ignored words_of is_banner mask_len type_of protocol_names port_names of_access_lists refused_in_entry refused_in_list of_ospf digits
 bgp_neighbor = refl
 
 -- what is redistributed, with a metric and a map, and external routes of type 1 alone
@@ -257,7 +260,7 @@ pub bgp_redistributions :
         };
       });
     })
-unfolding file_of step decided decisive_row global global_forms global_refused global_ignored interface interface_forms interface_refused interface_ignored access_list access_list_forms access_list_refused access_list_ignored route_map route_map_forms route_map_refused route_map_ignored ospf ospf_forms ospf_refused ospf_ignored bgp bgp_forms bgp_refused bgp_ignored words_of is_banner mask_len type_of protocol_names port_names of_access_lists refused_in_entry refused_in_list of_ospf digits
+unfolding read_by step decided decisive_row global global_forms global_refused global_ignored interface interface_forms interface_refused interface_ignored access_list access_list_forms access_list_refused access_list_ignored route_map route_map_forms route_map_refused route_map_ignored ospf ospf_forms ospf_refused ospf_ignored bgp bgp_forms bgp_refused bgp_ignored words_of is_banner mask_len type_of protocol_names port_names of_access_lists refused_in_entry refused_in_list of_ospf digits
 bgp_redistributions = refl
 
 -- the lines of two OSPF processes are those of two sources: each keeps its own map, in whichever order they stand
@@ -271,13 +274,13 @@ of_process process line = record {
 pub two_processes :
     Makes (codes "hostname X\nrouter bgp 65001\n redistribute ospf 1 route-map A\n redistribute ospf 2 route-map B\n")
     (record x { bgp = Some (record (no_bgp_lines 65001) { redistributions = record { connected = None; static_routes = None; ospf = of_process 1 3 ∷ of_process 2 4 ∷ [] } }) })
-unfolding file_of step decided decisive_row global global_forms global_refused global_ignored interface interface_forms interface_refused interface_ignored access_list access_list_forms access_list_refused access_list_ignored route_map route_map_forms route_map_refused route_map_ignored ospf ospf_forms ospf_refused ospf_ignored bgp bgp_forms bgp_refused bgp_ignored words_of is_banner mask_len type_of protocol_names port_names of_access_lists refused_in_entry refused_in_list of_ospf digits
+unfolding read_by step decided decisive_row global global_forms global_refused global_ignored interface interface_forms interface_refused interface_ignored access_list access_list_forms access_list_refused access_list_ignored route_map route_map_forms route_map_refused route_map_ignored ospf ospf_forms ospf_refused ospf_ignored bgp bgp_forms bgp_refused bgp_ignored words_of is_banner mask_len type_of protocol_names port_names of_access_lists refused_in_entry refused_in_list of_ospf digits
 two_processes = refl
 
 pub two_processes_in_turn :
     Makes (codes "hostname X\nrouter bgp 65001\n redistribute ospf 2 route-map B\n redistribute ospf 1 route-map A\n")
     (record x { bgp = Some (record (no_bgp_lines 65001) { redistributions = record { connected = None; static_routes = None; ospf = of_process 1 4 ∷ of_process 2 3 ∷ [] } }) })
-unfolding file_of step decided decisive_row global global_forms global_refused global_ignored interface interface_forms interface_refused interface_ignored access_list access_list_forms access_list_refused access_list_ignored route_map route_map_forms route_map_refused route_map_ignored ospf ospf_forms ospf_refused ospf_ignored bgp bgp_forms bgp_refused bgp_ignored words_of is_banner mask_len type_of protocol_names port_names of_access_lists refused_in_entry refused_in_list of_ospf digits
+unfolding read_by step decided decisive_row global global_forms global_refused global_ignored interface interface_forms interface_refused interface_ignored access_list access_list_forms access_list_refused access_list_ignored route_map route_map_forms route_map_refused route_map_ignored ospf ospf_forms ospf_refused ospf_ignored bgp bgp_forms bgp_refused bgp_ignored words_of is_banner mask_len type_of protocol_names port_names of_access_lists refused_in_entry refused_in_list of_ospf digits
 two_processes_in_turn = refl
 
 -- a line of a process says nothing where there is none
@@ -291,7 +294,7 @@ pub without_line_end :
     × Refuses (codes "hostname X\nhostname X") 2 (Line BadValue)
     × Refuses (codes "hostname X\n shutdown") 2 (Line OutOfPlace)
     × Refuses (codes "hostname X\nbanner motd #\nfrobnicate") 2 OpenBanner
-unfolding file_of step decided decisive_row global global_forms global_refused global_ignored interface interface_forms interface_refused interface_ignored access_list access_list_forms access_list_refused access_list_ignored route_map route_map_forms route_map_refused route_map_ignored ospf ospf_forms ospf_refused ospf_ignored bgp bgp_forms bgp_refused bgp_ignored words_of is_banner mask_len type_of protocol_names port_names of_access_lists refused_in_entry refused_in_list of_ospf digits
+unfolding read_by step decided decisive_row global global_forms global_refused global_ignored interface interface_forms interface_refused interface_ignored access_list access_list_forms access_list_refused access_list_ignored route_map route_map_forms route_map_refused route_map_ignored ospf ospf_forms ospf_refused ospf_ignored bgp bgp_forms bgp_refused bgp_ignored words_of is_banner mask_len type_of protocol_names port_names of_access_lists refused_in_entry refused_in_list of_ospf digits
 without_line_end = (refl, refl, refl, refl, refl)
 
 -- a line has at most 4096 bytes, one that is passed over and one of a banner too
@@ -300,7 +303,7 @@ pub long_lines :
     × Refuses (codes "banner motd #\n#\n" ++ replicate 4097 33) 3 LineTooLong
     × Refuses (codes "hostname X\n" ++ replicate 4097 33) 2 LineTooLong
     × Makes (codes "hostname X\n" ++ replicate 4096 33) x
-unfolding file_of step decided decisive_row global global_forms global_refused global_ignored interface interface_forms interface_refused interface_ignored access_list access_list_forms access_list_refused access_list_ignored route_map route_map_forms route_map_refused route_map_ignored ospf ospf_forms ospf_refused ospf_ignored bgp bgp_forms bgp_refused bgp_ignored words_of is_banner mask_len type_of protocol_names port_names of_access_lists refused_in_entry refused_in_list of_ospf digits
+unfolding read_by step decided decisive_row global global_forms global_refused global_ignored interface interface_forms interface_refused interface_ignored access_list access_list_forms access_list_refused access_list_ignored route_map route_map_forms route_map_refused route_map_ignored ospf ospf_forms ospf_refused ospf_ignored bgp bgp_forms bgp_refused bgp_ignored words_of is_banner mask_len type_of protocol_names port_names of_access_lists refused_in_entry refused_in_list of_ospf digits
 long_lines = (refl, refl, refl, refl)
 
 -- a file with so many interfaces

@@ -7,5 +7,6 @@ pub mod ListRows
 pub mod OspfRows
 pub mod BgpRows
 pub mod FileRows
+pub mod FamilyRows
 pub mod LineRows
 pub mod GrammarRows

@@ -19,6 +19,7 @@ use Rattle.rc_config.specs.declared.access_list.AccessListLine.{AccessListLine}
 use Rattle.rc_gram_acl.specs.NumberName.{icmp_type_names, protocol_names, port_names}
 use Rattle.rc_gram_acl.specs.Refused.{refused_words}
 use Rattle.rc_grammar.specs.File.{start, step, with_lines}
+use Rattle.rc_grammar.specs.Grammars.{says}
 use Rattle.rc_grammar.specs.declared.reading.Reading.{Reading}
 use Rattle.rc_grammar.specs.declared.refusal.FileCause.TheVariants.{Line}
 use Rattle.rc_grammar.specs.declared.refusal.FileRefusal.{FileRefusal}
@@ -41,7 +42,7 @@ lines_from n (text ∷ texts) = record { number = n; text = text; part = Plain }
 
 -- these lines from a file's first on make such lists
 abbrev pub Makes : List (List ℕ) → Numbers → Type 0
-Makes texts lists = numbers_of (with_lines (Ok start) (lines_from 1 texts)) ≡ lists
+Makes texts lists = numbers_of (with_lines says (Ok start) (lines_from 1 texts)) ≡ lists
 
 -- a line is refused
 abbrev pub refused_at : ℕ → LineRefusal → Numbers

@@ -33,7 +33,7 @@ fn read_form(
         Form::Policy(form) => rc_gram_policy::read_list_form(form, behind, file),
         Form::MapEntry(form) => { rc_gram_policy::read_entry_form(form, behind, line, block, file) }
         Form::Ospf(form) => rc_gram_ospf::read_form(form, behind, line, file),
-        Form::Bgp(form) => rc_gram_bgp::read_form(form, behind, line, file),
+        Form::Bgp(form) => rc_gram_bgp::read_form(form, behind, line, block, file),
     }
 }
 

@@ -7,6 +7,7 @@ ghost use Rattle.std.specs.Option.{option_copied};
 ghost use Rattle.rc_openings.specs.Words.{words_of};
 ghost use Rattle.rc_lines.specs.Lines.{TextLine, is_too_long, lines_of};
 ghost use Rattle.rc_config.specs.Lawful.{FitsFile, IsInRange, IsLawfulFile};
+ghost use Rattle.rc_grammar.specs.Grammars.{says};
 ghost use Rattle.rc_grammar.specs.File.{at_line, failed_at, file_of, interface_of, is_one_too_many, is_passed, list_block, open_after, start, step, with_command, with_host, with_lines, with_said, with_text, Gives, IsFit, Leaves, RefusesTheFirst};
 
 use crate::grammars::read_line;
@@ -59,6 +60,15 @@ fn block_after(block: &OpenBlock, command: &Command) -> OpenBlock
             Command::Passed => OpenBlock::Ignored,
             _ => OpenBlock::Closed,
         },
+        OpenBlock::Bgp => match command {
+            Command::FamilyOpened => OpenBlock::InFamily,
+            Command::OtherFamilyOpened => OpenBlock::InOtherFamily,
+            _ => OpenBlock::Bgp,
+        },
+        OpenBlock::InFamily | OpenBlock::InOtherFamily => match command {
+            Command::FamilyClosed => OpenBlock::Bgp,
+            _ => *block,
+        },
         _ => *block,
     }
 }
@@ -80,6 +90,9 @@ fn interface_named(command: &Command) -> Option<&Name>
         Command::OspfLine { .. } => None,
         Command::BgpOpened { .. } => None,
         Command::BgpLine { .. } => None,
+        Command::FamilyOpened => None,
+        Command::OtherFamilyOpened => None,
+        Command::FamilyClosed => None,
     }
 }
 
@@ -155,7 +168,7 @@ impl Reading {
     /// Puts what a line says in the block where it stands.
     fn put_said(&mut self, line: &Line) -> Result<(), ReadError>
         requires { IsFit self.old.file }
-        ensures step { Leaves result self.new (with_said self.old line.now) }
+        ensures step { Leaves result self.new (with_said says self.old line.now) }
         ensures fit { OnOk result (IsFit self.new.file) }
     {
         let context = Context {
@@ -185,7 +198,7 @@ impl Reading {
     /// Puts what a line outside banners says.
     fn put_text(&mut self, line: &Line) -> Result<(), ReadError>
         requires { IsFit self.old.file }
-        ensures step { Leaves result self.new (with_text self.old line.now) }
+        ensures step { Leaves result self.new (with_text says self.old line.now) }
         ensures memory { result ≡ Err ReadError.Memory → is_passed (words_of line.now.text) ≡ false }
         ensures fit { OnOk result (IsFit self.new.file) }
     {
@@ -200,7 +213,7 @@ impl Reading {
     #[tactic(auto, unfolding(crate::specs::File::step))]
     fn put_line(&mut self, line: &Line) -> Result<(), ReadError>
         requires { IsFit self.old.file }
-        ensures step { Leaves result self.new (step self.old line.now) }
+        ensures step { Leaves result self.new (step says self.old line.now) }
         ensures memory { result ≡ Err ReadError.Memory → (is_too_long line.now.text ≡ false) × (line.now.part ≡ Part.Plain) }
         ensures fit { OnOk result (IsFit self.new.file) }
     {
@@ -222,7 +235,7 @@ impl Reading {
     /// Puts all lines of a file.
     fn put_lines(&mut self, bytes: &[u8]) -> Result<(), ReadError>
         requires { IsFit self.old.file }
-        ensures lines { Leaves result self.new (with_lines (Ok self.old) (lines_of bytes.now)) }
+        ensures lines { Leaves result self.new (with_lines says (Ok self.old) (lines_of bytes.now)) }
         ensures fit { OnOk result (IsFit self.new.file) }
     {
         let mut lines = Lines::new(bytes);
@@ -257,7 +270,7 @@ impl Reading {
 ///
 /// It errs exactly where the file is refused, with the least line that is and its cause, or 0 where no line gives the
 /// host name (`first_refusal`); and where memory runs out.
-#[tactic(auto, unfolding(crate::specs::File::file_of))]
+#[tactic(auto, unfolding(crate::specs::File::read_by))]
 pub fn read_file(alloc: Global, bytes: &[u8]) -> Result<RouterText, ReadError>
     ensures file { Gives result (file_of bytes.now) }
     ensures lawful { IfOk result IsLawfulFile }

@@ -8,7 +8,9 @@ use Rattle.std.proofs.lemmas.List.Elements.{All-from_recursion, recursion_from_A
 use Rattle.std.proofs.lemmas.List.Sorted.{All-permutation, length_permutation}
 use Rattle.rc_config.specs.Named.{named, with_value, AreNamesInOrder}
 use Rattle.rc_config.proofs.NamedLaws.{with_value_new}
+use Rattle.rc_config.proofs.SettleLaws.{settled_lawful}
 use Rattle.rc_config.specs.Lawful.{IsLawful, IsLawfulFile, IsNamed}
+use Rattle.rc_config.specs.Update.{settled_router}
 use Rattle.rc_config.specs.declared.router_text.HostLine.{HostLine}
 use Rattle.rc_config.specs.declared.router_text.RouterText.{RouterText}
 use Rattle.rc_network.specs.Build.{Model, first_refusal, first_undefined, host_line, host_of, twice, twice_from, twice_refusal, under_host, undefined_in, IsBuilt}
@@ -90,19 +92,19 @@ not_some (Some x) h = absurd (cc)
 
 -- one whose host name is new goes last
 added : {T : Type 0} (x : T) (g known more : Gathered) (file : List ℕ) (model : RouterText) (host : HostLine) → model.host ≡ Some host → is_some (named g.routers host.name) ≡ false
-    → known ≡ record g { undefined = option_or g.undefined (undefined_in (file, model)) } → more ≡ record known { routers = with_value known.routers host.name model } → Adds g (file, model) more (Ok x)
+    → known ≡ record g { undefined = option_or g.undefined (undefined_in (file, model)) } → more ≡ record known { routers = with_value known.routers host.name (settled_router model) } → Adds g (file, model) more (Ok x)
 added x g known more file model host is new noted put =
     let name : host_of model ≡ host.name = ap (λ (h : Option HostLine). option_map_or (λ h. h.name) h []) is in
     let none : named g.routers host.name ≡ None = not_some (named g.routers host.name) new in
-    let last : with_value g.routers host.name model ≡ g.routers ++ (host_of model, model) ∷ [] =
-    with_value_new g.routers host.name model none ∙ ap (λ n. g.routers ++ (n, model) ∷ []) (sym name) in (
+    let last : with_value g.routers host.name (settled_router model) ≡ g.routers ++ (host_of model, settled_router model) ∷ [] =
+    with_value_new g.routers host.name (settled_router model) none ∙ ap (λ n. g.routers ++ (n, settled_router model) ∷ []) (sym name) in (
       ap (λ n. named g.routers n) name ∙ none,
-      put ∙ ap (λ (k : Gathered). record k { routers = with_value k.routers host.name model }) noted ∙ (λ i. record { routers = last i; undefined = option_or g.undefined (undefined_in (file, model)) }),
+      put ∙ ap (λ (k : Gathered). record k { routers = with_value k.routers host.name (settled_router model) }) noted ∙ (λ i. record { routers = last i; undefined = option_or g.undefined (undefined_in (file, model)) }),
     )
 
 pub added-by : {T : Type 0} (r : Result T BuildError) (g known : Gathered) (routers : Routers) (file : List ℕ) (model : RouterText) (host : HostLine) → model.host ≡ Some host
     → is_some (named g.routers host.name) ≡ false → known ≡ record g { undefined = option_or g.undefined (undefined_in (file, model)) }
-    → OnOk r (routers ≡ with_value known.routers host.name model) → IfErr r (λ e. e ≡ error.Memory) → Adds g (file, model) (record { routers = routers; undefined = known.undefined }) r
+    → OnOk r (routers ≡ with_value known.routers host.name (settled_router model)) → IfErr r (λ e. e ≡ error.Memory) → Adds g (file, model) (record { routers = routers; undefined = known.undefined }) r
 added-by (Ok x) g known routers file model host is new noted put err =
     added x g known (record { routers = routers; undefined = known.undefined }) file model host is new noted (λ i. record { routers = put i; undefined = known.undefined })
 added-by {T} (Err e) g known routers file model host is new noted put err =
@@ -157,7 +159,7 @@ lawful-built models routers sorted few lawful is moved in_order =
       few = omega (arith, length_permutation (map under_host models) sorted same, length-map models under_host);
       in_order = in_order;
       named = all-routers (λ e. IsNamed e.0 e.1) (λ m l. host-named m.1.host l.has_host) models sorted lawful same;
-      each = all-routers (λ e. IsLawfulFile e.1) (λ m l. l) models sorted lawful same;
+      each = all-routers (λ e. IsLawfulFile e.1) (λ m l. settled_lawful m.1 l) models sorted lawful same;
     }
 
 pub rest-lawful : (m : Model) (left rest : List Model) → left ≡ m ∷ rest → All (λ (m : Model). IsSome m.1.host) left → All (λ (m : Model). IsSome m.1.host) rest

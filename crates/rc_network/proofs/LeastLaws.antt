@@ -6,13 +6,9 @@ use Rattle.std.specs.Prelude.{slice_get}
 use Rattle.std.proofs.lemmas.List.Elements.{filter-append}
 use Rattle.std.proofs.lemmas.List.Sums.{fold-append}
 use Rattle.std.proofs.lemmas.List.{map-append}
-use Rattle.rc_config.specs.declared.route_map.RouteMap.{RouteMap}
 use Rattle.rc_config.specs.declared.router_text.RouterText.{RouterText}
 use Rattle.rc_network.specs.Least.{lower, least_from}
-use Rattle.rc_network.specs.Undefined.{NamedThing, defines, least, named_by_map, named_by_maps, undefined_lines}
-
-abbrev pub Maps : Type 0
-Maps = List (List ℕ × RouteMap)
+use Rattle.rc_network.specs.Undefined.{NamedThing, defines, least, undefined_lines}
 
 module _ (r : RouterText) where
   lines-append : (these those : List NamedThing) → undefined_lines r (these ++ those) ≡ undefined_lines r these ++ undefined_lines r those
@@ -24,13 +20,14 @@ module _ (r : RouterText) where
   pub least_from-append : (known : Option ℕ) (these those : List NamedThing) → least_from (least_from known r these) r those ≡ least_from known r (these ++ those)
   least_from-append known these those = sym (ap (fold lower known) (lines-append these those) ∙ fold-append lower known (undefined_lines r these) (undefined_lines r those))
 
-  -- what the route map at an index names, and then what the maps behind it do
-  pub least_from-index : (known : Option ℕ) (maps : Maps) (index : ℕ)
-      → least_from (option_map_or (λ e. least_from known r (named_by_map e.1)) (slice_get maps index) known) r (named_by_maps (drop (suc index) maps)) ≡ least_from known r (named_by_maps (drop index maps))
-  least_from-index known [] zero = refl
-  least_from-index known [] (suc index) = refl
-  least_from-index known (e ∷ maps) zero = least_from-append known (named_by_map e.1) (named_by_maps maps)
-  least_from-index known (e ∷ maps) (suc index) = least_from-index known maps index
+  -- what the one at an index names, of those under names, and then what those behind it do
+  pub least_from-index : {V : Type 0} (named_by_one : V → List NamedThing) (known : Option ℕ) (ones : List (List ℕ × V)) (index : ℕ)
+      → least_from (option_map_or (λ e. least_from known r (named_by_one e.1)) (slice_get ones index) known) r (flat_map (λ e. named_by_one e.1) (drop (suc index) ones))
+      ≡ least_from known r (flat_map (λ e. named_by_one e.1) (drop index ones))
+  least_from-index named_by_one known [] zero = refl
+  least_from-index named_by_one known [] (suc index) = refl
+  least_from-index named_by_one known (e ∷ ones) zero = least_from-append known (named_by_one e.1) (flat_map (λ e. named_by_one e.1) ones)
+  least_from-index named_by_one known (e ∷ ones) (suc index) = least_from-index named_by_one known ones index
 
   -- one part more: those that are left give the same answer
   pub left-part : {A : Type 0} (named_by_part : A → List NamedThing) (known more whole : Option ℕ) (left rest : List A) (e : A) → left ≡ e ∷ rest → more ≡ least_from known r (named_by_part e)
@@ -39,12 +36,13 @@ module _ (r : RouterText) where
       ap (λ n. least_from n r (flat_map named_by_part rest)) here ∙ least_from-append known (named_by_part e) (flat_map named_by_part rest)
       ∙ ap (λ es. least_from known r (flat_map named_by_part es)) (sym is) ∙ h
 
-  -- and one route map more
-  pub left-map : (known more whole : Option ℕ) (maps : Maps) (index : ℕ) → more ≡ option_map_or (λ e. least_from known r (named_by_map e.1)) (slice_get maps index) known
-      → least_from known r (named_by_maps (drop index maps)) ≡ whole → least_from more r (named_by_maps (drop (index + 1) maps)) ≡ whole
-  left-map known more whole maps index here h =
-      ap (λ n. least_from more r (named_by_maps (drop n maps))) (add-one index) ∙ ap (λ n. least_from n r (named_by_maps (drop (suc index) maps))) here
-      ∙ least_from-index known maps index ∙ h
+  -- and one more of those under names
+  pub left-named : {V : Type 0} (named_by_one : V → List NamedThing) (known more whole : Option ℕ) (ones : List (List ℕ × V)) (index : ℕ)
+      → more ≡ option_map_or (λ e. least_from known r (named_by_one e.1)) (slice_get ones index) known
+      → least_from known r (flat_map (λ e. named_by_one e.1) (drop index ones)) ≡ whole → least_from more r (flat_map (λ e. named_by_one e.1) (drop (index + 1) ones)) ≡ whole
+  left-named named_by_one known more whole ones index here h =
+      ap (λ n. least_from more r (flat_map (λ e. named_by_one e.1) (drop n ones))) (add-one index) ∙ ap (λ n. least_from n r (flat_map (λ e. named_by_one e.1) (drop (suc index) ones))) here
+      ∙ least_from-index named_by_one known ones index ∙ h
 
 with_known : (known : ℕ) (lines : List ℕ) → fold lower (Some known) lines ≡ Some (fold min known lines)
 with_known known [] = refl

@@ -2,3 +2,4 @@ mod BuildLaws
 mod LeastLaws
 pub mod OneNetwork
 mod TwiceLaws
+mod OldNetLaws

@@ -5,6 +5,7 @@ use Rattle.std.specs.Cmp.Lexicographic.{bytes_decides}
 use Rattle.std.proofs.lemmas.List.{map-append}
 use Rattle.rc_base.specs.Name.{same_name}
 use Rattle.rc_config.specs.Named.{named}
+use Rattle.rc_config.specs.Update.{settled_router}
 use Rattle.rc_network.specs.Build.{Model, first_twice, host_of, under_host}
 use Rattle.rc_network.specs.Twice.{IsFirstTwice, NamesTheFirstTwice, hosts}
 
@@ -59,7 +60,7 @@ there : (n : List ℕ) (ms : List Model) → is_some (named (map under_host ms) 
 there n [] = refl
 there n (m ∷ ms) = by (same_name n (host m)) (there n ms)
   where
-    by : (b : Bool) → is_some (named (map under_host ms) n) ≡ list_any (same_name n) (hosts ms) → is_some (cond b (Some m.1) (named (map under_host ms) n)) ≡ (b || list_any (same_name n) (hosts ms))
+    by : (b : Bool) → is_some (named (map under_host ms) n) ≡ list_any (same_name n) (hosts ms) → is_some (cond b (Some (settled_router m.1)) (named (map under_host ms) n)) ≡ (b || list_any (same_name n) (hosts ms))
     by true rest = refl
     by false rest = rest
 

@@ -3,6 +3,7 @@ use Rattle.std.specs.Prelude.{◌≡◌, ℕ, List, [], ◌∷◌, ◌++◌, map
 use Rattle.std.specs.List.{filter_map}
 use Rattle.std.specs.Option.{option_map, option_map_or, option_or}
 use Rattle.rc_config.specs.Named.{named, AreNamesInOrder}
+use Rattle.rc_config.specs.Update.{settled_router}
 use Rattle.rc_config.specs.declared.network.Network.{Network}
 use Rattle.rc_config.specs.declared.router_text.RouterText.{RouterText}
 use Rattle.rc_network.specs.Undefined.{undefined_line}
@@ -23,9 +24,9 @@ host_of r = option_map_or (λ h. h.name) r.host []
 abbrev pub host_line : RouterText → ℕ
 host_line r = option_map_or (λ h. h.line) r.host 0
 
--- a model under its host name
+-- the router of a model under its host name, with what holds of each BGP neighbour in the end
 abbrev pub under_host : Model → List ℕ × RouterText
-under_host m = (host_of m.1, m.1)
+under_host m = (host_of m.1, settled_router m.1)
 
 -- the first model whose host name is that of an earlier one
 abbrev pub first_twice : List (List ℕ × RouterText) → List Model → Option Model
@@ -54,7 +55,7 @@ first_undefined models = slice_get (filter_map undefined_in models) 0
 abbrev pub first_refusal : List Model → Option NetRefusal
 first_refusal models = option_or (twice models) (first_undefined models)
 
--- the models under their host names, in byte order of these
+-- the routers of the models under their host names, in byte order of these
 pub record IsNetworkOf (models : List Model) (net : Network) : Type 0 where
   pub same : IsPermutation (map under_host models) net.routers
   pub in_order : AreNamesInOrder net.routers

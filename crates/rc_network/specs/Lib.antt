@@ -4,4 +4,6 @@ pub mod Least
 pub mod Build
 pub mod Step
 pub mod Twice
+pub mod Files
+pub mod OldFiles
 pub mod Rows

@@ -1,6 +1,8 @@
 -- Worked cases of what is named and not defined, each by computation.
 use Rattle.std.specs.Prelude.{◌≡◌, ℕ, true, false, List, [], ◌∷◌, ◌++◌, fold, Some, None, codes, refl}
 use Rattle.rc_config.specs.AccessList.{host_address, standard_line}
+use Rattle.rc_config.specs.Bgp.{no_lines}
+use Rattle.rc_config.specs.Settings.{no_settings}
 use Rattle.rc_config.specs.Update.{after, empty}
 use Rattle.rc_config.specs.declared.bgp.BgpLine.TheVariants as bgp
 use Rattle.rc_config.specs.declared.bgp.BgpRedistribution.{BgpRedistribution}
@@ -19,10 +21,11 @@ use Rattle.rc_config.specs.declared.map_line.SetLine.TheVariants.{Weight}
 use Rattle.rc_config.specs.declared.ospf.OspfLine.TheVariants.{Redistribute}
 use Rattle.rc_config.specs.declared.ospf.RedistributedSource.{RedistributedSource}
 use Rattle.rc_config.specs.declared.ospf.RedistributedSource.TheVariants as source
+use Rattle.rc_config.specs.declared.peering.Peer.TheVariants as peer
 use Rattle.rc_config.specs.declared.route_map.Mention.{Mention}
 use Rattle.rc_config.specs.declared.router_text.RouterText.{RouterText}
 use Rattle.rc_base.specs.Prefix.{prefix_at}
-use Rattle.rc_network.specs.Build.{Model, first_refusal}
+use Rattle.rc_network.specs.Build.{Model, first_refusal, under_host}
 use Rattle.rc_network.specs.Undefined.{undefined_line}
 use Rattle.rc_network.specs.declared.refusal.NetCause.TheVariants.{TwiceNamed, Undefined}
 use Rattle.rc_network.specs.declared.refusal.NetRefusal.TheVariants.{InFile}
@@ -152,7 +155,7 @@ least_of_sources = refl
 
 -- a line about a neighbour, in the block of a process
 abbrev about : ℕ → NeighborSetting → Command
-about address setting = command.BgpLine (bgp.Neighbor address setting)
+about address setting = command.BgpLine (bgp.Setting (peer.Address address) setting)
 
 abbrev at : List ℕ → ℕ → Mention
 at name line = record { name = name; line = line }
@@ -186,6 +189,18 @@ other_direction = refl
 
 pub other_neighbor : undefined_line (file (command.MapOpened two 10 Permit ∷ command.BgpOpened 1 ∷ about 9 (setting.RouteMap (at one 5) In) ∷ about 7 (setting.RouteMap (at two 6) In) ∷ [])) ≡ Some 5
 other_neighbor = refl
+
+-- a line about a peer group
+abbrev shared : NeighborSetting → Command
+shared setting = command.BgpLine (bgp.Setting (peer.Group (codes "UP")) setting)
+
+-- what a peer group names has to be there, also where it has no member, or where its member has a line of its own
+pub group_names :
+    (undefined_line (file (command.BgpOpened 1 ∷ command.BgpLine (bgp.GroupDeclared (codes "UP")) ∷ shared (setting.RouteMap (at one 5) In) ∷ [])) ≡ Some 5)
+    × (undefined_line (file (command.BgpOpened 1 ∷ command.BgpLine (bgp.GroupDeclared (codes "UP")) ∷ shared (setting.PrefixList (at one 5) Out) ∷ [])) ≡ Some 5)
+    × (undefined_line (file (command.MapOpened two 10 Permit ∷ command.BgpOpened 1 ∷ command.BgpLine (bgp.GroupDeclared (codes "UP")) ∷ command.BgpLine (bgp.MemberOf 7 (codes "UP")) ∷ about 7 (setting.RouteMap (at two 4) In) ∷ shared (setting.RouteMap (at one 5) In) ∷ [])) ≡ Some 5)
+    × (undefined_line (file (command.MapOpened one 10 Permit ∷ command.BgpOpened 1 ∷ command.BgpLine (bgp.GroupDeclared (codes "UP")) ∷ shared (setting.RouteMap (at one 5) In) ∷ [])) ≡ None)
+group_names = (refl, refl, refl, refl)
 
 -- what redistributes into BGP by a route map
 abbrev by_map : List ℕ → ℕ → BgpRedistribution
@@ -243,3 +258,9 @@ host_name_first = refl
 
 pub none_refused : first_refusal (router first (codes "r1") (prefix_line one ∷ naming 5) ∷ router second (codes "r2") [] ∷ []) ≡ None
 none_refused = refl
+
+-- a router has what holds of its neighbours in the end, by whatever order of lines, and no groups
+pub settled_neighbors : (under_host (router first (codes "r1") (command.BgpOpened 1 ∷ command.BgpLine (bgp.GroupDeclared (codes "UP")) ∷ command.BgpLine (bgp.MemberOf 7 (codes "UP")) ∷ about 7 (setting.Weight 0) ∷ shared (setting.RemoteAs 2) ∷ shared (setting.Weight 5)
+    ∷ command.BgpLine (bgp.Active (peer.Group (codes "UP")) false) ∷ []))).1.bgp
+    ≡ Some (record (no_lines 1) { neighbors = record { address = 7; settings = record no_settings { remote_as = Some 2; weight = Some 0 }; is_active = false } ∷ [] })
+settled_neighbors = refl

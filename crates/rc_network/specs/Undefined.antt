@@ -12,10 +12,12 @@ use Rattle.rc_config.specs.declared.bgp.Neighbor.{Neighbor}
 use Rattle.rc_config.specs.declared.bgp.OspfRedistribution.{OspfRedistribution}
 use Rattle.rc_config.specs.declared.ospf.OspfProcess.{OspfProcess}
 use Rattle.rc_config.specs.declared.ospf.Redistribution.{Redistribution}
+use Rattle.rc_config.specs.declared.peering.Group.{Group}
 use Rattle.rc_config.specs.declared.route_map.MapEntry.{MapEntry}
 use Rattle.rc_config.specs.declared.route_map.Mention.{Mention}
 use Rattle.rc_config.specs.declared.route_map.RouteMap.{RouteMap}
 use Rattle.rc_config.specs.declared.router_text.RouterText.{RouterText}
+use Rattle.rc_config.specs.declared.settings.Settings.{Settings}
 use Rattle.rc_network.specs.declared.undefined.NamedKind.{NamedKind}
 use Rattle.rc_network.specs.declared.undefined.NamedKind.TheVariants as kind
 
@@ -48,12 +50,22 @@ named_by_process p = flat_map named_by_redistribution p.redistributions
 abbrev pub named_once : NamedKind → Option Mention → List NamedThing
 named_once kind mention = option_map_or (λ m. (kind, m) ∷ []) mention []
 
--- the route maps and prefix lists of a neighbour, by the last line of each direction
+-- the route maps and prefix lists of a neighbour or of a peer group, by the last line of each direction
+abbrev pub named_by_settings : Settings → List NamedThing
+named_by_settings s = named_once kind.RouteMap s.map_in ++ named_once kind.RouteMap s.map_out ++ named_once kind.PrefixList s.list_in ++ named_once kind.PrefixList s.list_out
+
 abbrev pub named_by_neighbor : Neighbor → List NamedThing
-named_by_neighbor n = named_once kind.RouteMap n.map_in ++ named_once kind.RouteMap n.map_out ++ named_once kind.PrefixList n.list_in ++ named_once kind.PrefixList n.list_out
+named_by_neighbor n = named_by_settings n.settings
 
 abbrev pub named_by_neighbors : List Neighbor → List NamedThing
 named_by_neighbors neighbors = flat_map named_by_neighbor neighbors
+
+-- those of peer groups, also of one without members
+abbrev pub named_by_group : Group → List NamedThing
+named_by_group g = named_by_settings g.settings
+
+abbrev pub named_by_groups : List (List ℕ × Group) → List NamedThing
+named_by_groups groups = flat_map (λ e. named_by_group e.1) groups
 
 -- the route maps through which routes are redistributed into BGP
 abbrev pub named_by_source : Option BgpRedistribution → List NamedThing
@@ -66,7 +78,7 @@ abbrev pub named_by_sources : BgpRedistributions → List NamedThing
 named_by_sources r = named_by_source r.connected ++ named_by_source r.static_routes ++ named_by_ospf r.ospf
 
 abbrev pub named_by_bgp : BgpProcess → List NamedThing
-named_by_bgp p = named_by_neighbors p.neighbors ++ named_by_sources p.redistributions
+named_by_bgp p = named_by_neighbors p.neighbors ++ named_by_groups p.peering.groups ++ named_by_sources p.redistributions
 
 -- what the processes of a file name
 abbrev pub named_by_processes : RouterText → List NamedThing

@@ -3,6 +3,7 @@ ghost use Rattle.std.specs.Prelude.{◌≡◌, ◌≤◌, All, IfErr, IfOk, IsSo
 ghost use Rattle.std.specs.Option.{option_or};
 ghost use Rattle.rc_config.specs.Lawful.{IsLawful, IsLawfulFile};
 ghost use Rattle.rc_config.specs.Named.{named, with_value};
+ghost use Rattle.rc_config.specs.Update.{settled_router};
 ghost use Rattle.rc_network.specs.Build.{host_of, undefined_in, HasOneNetwork, IsBuilt};
 ghost use Rattle.rc_network.specs.Step.{nothing, Adds, GathersAll, IsFinished};
 ghost use Rattle.rc_network.specs.Twice.{NamesTheFirstTwice};
@@ -51,15 +52,19 @@ impl Drop for Gathered {
     }
 }
 
-/// Puts a model under its host name.
+/// Puts a model under its host name, with what holds of each BGP neighbour in the end.
 fn put_router(
     routers: &mut Named<RouterText>,
     name: Name,
-    model: RouterText,
+    mut model: RouterText,
 ) -> Result<(), BuildError>
-    ensures put { OnOk result (routers.new ≡ with_value routers.old name model) }
+    ensures put { OnOk result (routers.new ≡ with_value routers.old name (settled_router model)) }
     ensures memory { IfErr result (λ e. e ≡ BuildError.Memory) }
 {
+    let alloc = routers.allocator();
+    let Ok(()) = model.settle(alloc) else {
+        return Err(BuildError::Memory);
+    };
     let Ok(_) = routers.insert(name, model) else {
         return Err(BuildError::Memory);
     };
@@ -141,6 +146,9 @@ impl Gathered {
 }
 
 /// The network of the models of files, which stand in the byte order of their files' names.
+///
+/// Each BGP neighbour has what holds of it in the end, by its own lines and those of its peer group; there are no groups any
+/// more.
 ///
 /// It errs exactly where a model's host name is that of an earlier one, with the first such file and the line that gives
 /// the name; else where a file names what it doesn't define, with the first such file and the least line that does; and where

@@ -6,6 +6,7 @@
 #![tactic(auto)]
 
 mod building;
+pub mod laws;
 mod refusal;
 mod undefined;
 

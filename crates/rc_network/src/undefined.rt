@@ -3,12 +3,12 @@ ghost use Rattle.std.specs.Prelude.{◌≡◌, [], None, slice_get};
 ghost use Rattle.std.specs.List.{flat_map};
 ghost use Rattle.std.specs.Option.{option_copied, option_map_or};
 ghost use Rattle.rc_network.specs.Least.{lower, least_from};
-ghost use Rattle.rc_network.specs.Undefined.{defines, is_standard, named_by_bgp, named_by_entry, named_by_map, named_by_maps, named_by_neighbor, named_by_neighbors, named_by_ospf, named_by_process, named_by_processes, named_by_redistribution, named_by_source, named_by_sources, named_once, of_kind, undefined_line};
+ghost use Rattle.rc_network.specs.Undefined.{defines, is_standard, named_by_bgp, named_by_entry, named_by_group, named_by_groups, named_by_map, named_by_maps, named_by_neighbors, named_by_ospf, named_by_process, named_by_processes, named_by_redistribution, named_by_settings, named_by_source, named_by_sources, named_once, of_kind, undefined_line};
 
 use rc_base::Name;
 use rc_config::{
-    AccessListKind, BgpRedistribution, BgpRedistributions, ByNumber, MapEntry, Mention, Neighbor,
-    OspfRedistribution, Redistribution, RouteMap, RouterText,
+    AccessListKind, BgpRedistribution, BgpRedistributions, ByNumber, Group, MapEntry, Mention,
+    Named, Neighbor, OspfRedistribution, Redistribution, RouteMap, RouterText, Settings,
 };
 
 /// What a line may name that has to be in its file.
@@ -195,22 +195,22 @@ fn least_of_mention(
     }
 }
 
-/// The same of the lines about a neighbour.
-fn least_of_neighbor(file: &RouterText, neighbor: &Neighbor, known: Option<u64>) -> Option<u64>
-    ensures { result ≡ least_from known file.now (named_by_neighbor neighbor.now) }
+/// The same of the lines about a neighbour or a peer group.
+fn least_of_settings(file: &RouterText, settings: &Settings, known: Option<u64>) -> Option<u64>
+    ensures { result ≡ least_from known file.now (named_by_settings settings.now) }
 {
-    let known = least_of_mention(file, NamedKind::RouteMap, neighbor.map_in.as_ref(), known);
-    let known = least_of_mention(file, NamedKind::RouteMap, neighbor.map_out.as_ref(), known);
+    let known = least_of_mention(file, NamedKind::RouteMap, settings.map_in.as_ref(), known);
+    let known = least_of_mention(file, NamedKind::RouteMap, settings.map_out.as_ref(), known);
     let known = least_of_mention(
         file,
         NamedKind::PrefixList,
-        neighbor.list_in.as_ref(),
+        settings.list_in.as_ref(),
         known,
     );
     least_of_mention(
         file,
         NamedKind::PrefixList,
-        neighbor.list_out.as_ref(),
+        settings.list_out.as_ref(),
         known,
     )
 }
@@ -225,7 +225,33 @@ fn least_of_neighbors(
 {
     let mut least = known;
     for neighbor in neighbors.iter() {
-        least = least_of_neighbor(file, neighbor, least);
+        least = least_of_settings(file, &neighbor.settings, least);
+    }
+    least
+}
+
+/// The same of the peer group at an index.
+fn least_of_group_at(
+    file: &RouterText,
+    groups: &Named<Group>,
+    index: usize,
+    known: Option<u64>,
+) -> Option<u64>
+    ensures { result ≡ option_map_or (λ e. least_from known file.now (named_by_group e.1)) (slice_get groups.now index) known }
+{
+    match groups.at(index) {
+        Some((_, group)) => least_of_settings(file, &group.settings, known),
+        None => known,
+    }
+}
+
+/// The same of the lines about all peer groups.
+fn least_of_groups(file: &RouterText, groups: &Named<Group>, known: Option<u64>) -> Option<u64>
+    ensures { result ≡ least_from known file.now (named_by_groups groups.now) }
+{
+    let mut least = known;
+    for index in 0..groups.len() {
+        least = least_of_group_at(file, groups, index, least);
     }
     least
 }
@@ -282,6 +308,7 @@ fn least_of_bgp(file: &RouterText, known: Option<u64>) -> Option<u64>
     match &file.bgp {
         Some(process) => {
             let known = least_of_neighbors(file, &process.neighbors, known);
+            let known = least_of_groups(file, &process.peering.groups, known);
             least_of_sources(file, &process.redistributions, known)
         }
         None => known,

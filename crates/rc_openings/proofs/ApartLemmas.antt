@@ -19,6 +19,7 @@ use Rattle.rc_openings.specs.AccessListOpenings.{access_list, access_list_forms,
 use Rattle.rc_openings.specs.RouteMapOpenings.{route_map, route_map_forms, route_map_refused, route_map_ignored}
 use Rattle.rc_openings.specs.OspfOpenings.{ospf, ospf_forms, ospf_refused, ospf_ignored}
 use Rattle.rc_openings.specs.BgpOpenings.{bgp, bgp_forms, bgp_refused, bgp_ignored}
+use Rattle.rc_openings.specs.FamilyOpenings.{ipv4_family, other_family}
 use Rattle.rc_openings.specs.Block.{rows_of}
 use Rattle.rc_openings.specs.Words.{words_of}
 
@@ -117,6 +118,14 @@ bgp_apart : are_apart bgp ≡ true
 unfolding bgp bgp_forms bgp_refused bgp_ignored words_of
 bgp_apart = refl
 
+ipv4_family_apart : are_apart ipv4_family ≡ true
+unfolding ipv4_family bgp bgp_forms bgp_refused bgp_ignored words_of
+ipv4_family_apart = refl
+
+other_family_apart : are_apart other_family ≡ true
+unfolding other_family words_of
+other_family_apart = refl
+
 apart_rows : (kind : Block) → are_apart (rows_of kind) ≡ true
 apart_rows block.Closed = refl
 apart_rows block.Global = global_apart
@@ -125,6 +134,8 @@ apart_rows block.AccessList = access_lists_apart
 apart_rows block.RouteMap = route_map_apart
 apart_rows block.Ospf = ospf_apart
 apart_rows block.Bgp = bgp_apart
+apart_rows block.Ipv4Family = ipv4_family_apart
+apart_rows block.OtherFamily = other_family_apart
 apart_rows block.Ignored = refl
 
 pub one_opening_decides : (kind : Block) (line : List (List ℕ)) (r s : Row) → IsDecisive (rows_of kind) line r → IsDecisive (rows_of kind) line s → r ≡ s

@@ -94,9 +94,9 @@ pub other_lines :
     × IsDecided block.Bgp (codes " maximum-paths ibgp 4") (Some (Form (form.Bgp bgp.MaximumPathsIbgp)))
     × IsDecided block.Bgp (codes " maximum-paths eibgp 4") (Some Refused)
     × IsDecided block.Ospf (codes " maximum-paths 4") (Some Refused)
-    × IsDecided block.Bgp (codes " no bgp default ipv4-unicast") (Some Refused)
+    × IsDecided block.Bgp (codes " no bgp default ipv4-unicast") (Some (Form (form.Bgp bgp.NoDefaultIpv4Unicast)))
     × IsDecided block.Bgp (codes " no synchronization") (Some Ignored)
-    × IsDecided block.Bgp (codes " exit-address-family") (Some Refused)
+    × IsDecided block.Bgp (codes " exit-address-family") None
     × IsDecided block.Bgp (codes " exit") (Some Ignored)
     × IsDecided block.Ignored (codes " anything at all") (Some Ignored)
     × IsDecided block.Closed (codes " ip address 10.0.0.1 255.0.0.0") None
@@ -112,12 +112,15 @@ pub unopened_lines :
     × (unopened (words_of (codes "neighbor 10.0.0.1 weight")) ≡ OutOfPlace)
     × (unopened (words_of (codes "maximum-paths 2")) ≡ OutOfPlace)
     × (unopened (words_of (codes "maximum-paths eibgp 2")) ≡ OutOfPlace)
-    × (unopened (words_of (codes "address-family ipv4")) ≡ Unknown)
-    × (unopened (words_of (codes "exit-address-family")) ≡ Unknown)
+    × (unopened (words_of (codes "address-family ipv4")) ≡ OutOfPlace)
+    × (unopened (words_of (codes "address-family vpnv4")) ≡ Unknown)
+    × (unopened (words_of (codes "exit-address-family")) ≡ OutOfPlace)
+    × (unopened (words_of (codes "no neighbor 10.0.0.1 activate")) ≡ OutOfPlace)
+    × (unopened (words_of (codes "no neighbor 10.0.0.1")) ≡ Unknown)
     × (unopened (words_of (codes "neighbor 10.0.0.1")) ≡ Unknown)
     × (unopened (words_of (codes "version 15.7")) ≡ Unknown)
 unfolding global global_forms global_refused global_ignored interface interface_forms interface_refused interface_ignored access_list access_list_forms access_list_refused access_list_ignored route_map route_map_forms route_map_refused route_map_ignored ospf ospf_forms ospf_refused ospf_ignored bgp bgp_forms bgp_refused bgp_ignored words_of
-unopened_lines = (refl, refl, refl, refl, refl, refl, refl, refl, refl, refl, refl)
+unopened_lines = (refl, refl, refl, refl, refl, refl, refl, refl, refl, refl, refl, refl, refl, refl)
 
 pub numbers :
     (number_of (codes "007") ≡ Some 7)
@@ -183,8 +186,8 @@ pub decisions :
 unfolding decided decisive_row global global_forms global_refused global_ignored interface interface_forms interface_refused interface_ignored access_list access_list_forms access_list_refused access_list_ignored route_map route_map_forms route_map_refused route_map_ignored ospf ospf_forms ospf_refused ospf_ignored bgp bgp_forms bgp_refused bgp_ignored words_of
 decisions = (refl, refl, refl, refl, refl, refl, refl, refl, refl, refl)
 
--- Under `router bgp` a line whose second word holds a colon is passed over where the first is `neighbor`, whatever stands behind; in
--- other blocks it is a line like any other.
+-- Under `router bgp` a line whose second word holds a colon is passed over where the first is `neighbor`, whatever stands behind, and so
+-- is one with `no` in front of these; in other blocks it is a line like any other.
 pub other_families :
     (decided block.Bgp (words_of (codes " neighbor 2001:db8::1 remote-as 65001")) ≡ Passed)
     × (decided block.Bgp (words_of (codes " neighbor 2001:db8::1 weight 5")) ≡ Passed)
@@ -194,8 +197,14 @@ pub other_families :
     × (decided block.Bgp (words_of (codes " neighbor 10.0.0.1 remote-as 1:1")) ≡ OfForm (form.Bgp bgp.NeighborRemoteAs) (codes "1:1" ∷ []))
     × (decided block.Bgp (words_of (codes " neighbor 10.0.0.1")) ≡ Decided.Refused Unsupported)
     × (decided block.Bgp (words_of (codes " neighbor")) ≡ Decided.Refused Unsupported)
-    × (decided block.Bgp (words_of (codes " no neighbor 2001:db8::1 activate")) ≡ Decided.Refused Unsupported)
+    × (decided block.Bgp (words_of (codes " no neighbor 2001:db8::1 activate")) ≡ Passed)
+    × (decided block.Bgp (words_of (codes " no neighbor 2001:db8::1")) ≡ Passed)
+    × (decided block.Bgp (words_of (codes " no neighbor 10.0.0.1 remote-as 1:1")) ≡ Decided.Refused Unsupported)
+    × (decided block.Bgp (words_of (codes " no neighbor")) ≡ Decided.Refused Unsupported)
     × (decided block.Bgp (words_of (codes " network 2001:db8::")) ≡ OfForm (form.Bgp bgp.Network) (codes "2001:db8::" ∷ []))
     × (decided block.Ospf (words_of (codes " neighbor 2001:db8::1")) ≡ Decided.Refused Unsupported)
+    × (decided block.Ospf (words_of (codes " no neighbor 2001:db8::1")) ≡ Passed)
+    × (decided block.Interface (words_of (codes " neighbor 2001:db8::1 activate")) ≡ Decided.Refused OutOfPlace)
+    × (decided block.RouteMap (words_of (codes " no neighbor 2001:db8::1 activate")) ≡ Decided.Refused OutOfPlace)
 unfolding decided decisive_row global global_forms global_refused global_ignored interface interface_forms interface_refused interface_ignored access_list access_list_forms access_list_refused access_list_ignored route_map route_map_forms route_map_refused route_map_ignored ospf ospf_forms ospf_refused ospf_ignored bgp bgp_forms bgp_refused bgp_ignored words_of
-other_families = (refl, refl, refl, refl, refl, refl, refl, refl, refl, refl, refl)
+other_families = (refl, refl, refl, refl, refl, refl, refl, refl, refl, refl, refl, refl, refl, refl, refl, refl, refl)

@@ -7,10 +7,12 @@ pub mod AccessListOpenings
 pub mod RouteMapOpenings
 pub mod OspfOpenings
 pub mod BgpOpenings
+pub mod FamilyOpenings
 pub mod Groups
 pub mod Block
 pub mod Values
 pub mod Part
 pub mod Reading
 pub mod Examples
+pub mod FamilyRows
 pub mod DecisionRows

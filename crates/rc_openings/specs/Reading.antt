@@ -1,5 +1,5 @@
 -- What a line says in a block: its opening decides, and the grammar of its form reads the words behind the opening.
-use Rattle.std.specs.Prelude.{◌≡◌, ◌==◌, ℕ, Bool, false, ◌&&◌, List, [], ◌∷◌, Option, Some, None, Result, Ok, Err, if◌then◌else◌, is_some, drop, length, codes}
+use Rattle.std.specs.Prelude.{◌≡◌, ◌==◌, ℕ, Bool, false, not, ◌&&◌, ◌||◌, List, [], ◌∷◌, Option, Some, None, Result, Ok, Err, if◌then◌else◌, is_some, drop, length, codes}
 use Rattle.std.specs.List.{list_any}
 use Rattle.std.specs.Str.{bytes_eq}
 use Rattle.rc_openings.specs.declared.block.Block.{Block}
@@ -14,9 +14,9 @@ use Rattle.rc_openings.specs.declared.reading.LineRefusal.TheVariants.{Unknown, 
 use Rattle.rc_openings.specs.declared.opening.Verdict.{Verdict}
 use Rattle.rc_openings.specs.declared.opening.Verdict.TheVariants as verdict
 use Rattle.rc_openings.specs.Block.{rows_of, begins_form_anywhere}
-use Rattle.rc_openings.specs.Opening.{Row, IsAnswer, decisive_row}
+use Rattle.rc_openings.specs.Opening.{Row, IsAnswer, begins_with, decisive_row}
 use Rattle.rc_openings.specs.Values.{number_within}
-use Rattle.rc_openings.specs.Words.{words_left}
+use Rattle.rc_openings.specs.Words.{words_left, words_of}
 
 -- the number of a refusal
 abbrev pub code_of : LineRefusal → ℕ
@@ -61,10 +61,19 @@ abbrev pub is_of_another_family : List (List ℕ) → Bool
 is_of_another_family (w ∷ a ∷ ws) = bytes_eq w (codes "neighbor") && has_colon a
 is_of_another_family _ = false
 
+-- a line that takes back what was said of such a neighbour: its third word is that neighbour's address
+abbrev pub unsays_another_family : List (List ℕ) → Bool
+unsays_another_family [] = false
+unsays_another_family (w ∷ line) = bytes_eq w (codes "no") && is_of_another_family line
+
+abbrev pub names_another_family : List (List ℕ) → Bool
+names_another_family line = is_of_another_family line || unsays_another_family line
+
 -- The block by whose openings a line is read: its own one, but for a line about a neighbour of another address family under
--- `router bgp`, which is passed over whatever it says.
+-- `router bgp` or `address-family ipv4`, which is passed over whatever it says.
 abbrev pub read_in : Block → List (List ℕ) → Block
-read_in block.Bgp line = if is_of_another_family line then block.Ignored else block.Bgp
+read_in block.Bgp line = if names_another_family line then block.Ignored else block.Bgp
+read_in block.Ipv4Family line = if names_another_family line then block.Ignored else block.Ipv4Family
 read_in at line = at
 
 -- what the openings of its block say of a line: it is passed over, it is refused, or it is of a form and has these words behind its
@@ -96,6 +105,34 @@ decision_of block own = decision_by own (decisive_row (rows_of block) own)
 -- what the openings of its block say of a line, computed
 unfoldable pub decided : Block → List (List ℕ) → Decision
 decided block line = decision_of (read_in block line) (own_words block line)
+
+-- With these began the lines of a BGP process that netcheck refused until it read address families and peer groups. It is what a law
+-- on the files of that time speaks of.
+unfoldable pub later : List (List (List ℕ))
+later =
+    words_of (codes "address-family")
+    ∷ words_of (codes "exit-address-family")
+    ∷ words_of (codes "no neighbor")
+    ∷ words_of (codes "no bgp default ipv4-unicast")
+    ∷ words_of (codes "neighbor * peer-group")
+    ∷ []
+
+abbrev pub begins_later : List (List ℕ) → Bool
+begins_later line = list_any (begins_with line) later
+
+-- the line was refused under `router bgp`: a line about an IPv6 neighbour was passed over then too, but one that takes something back was not
+abbrev pub was_refused : List (List ℕ) → Bool
+was_refused line = not (is_of_another_family line) && begins_later line
+
+-- in another block such a line was of no form that was known
+abbrev pub unplaced : List (List ℕ) → Decision → Decision
+unplaced line (Refused OutOfPlace) = if begins_later line then Refused Unknown else Refused OutOfPlace
+unplaced line decision = decision
+
+-- what the openings of its block said of a line then
+abbrev pub decided_before : Block → List (List ℕ) → Decision
+decided_before block.Bgp line = if was_refused line then Refused Unsupported else decided block.Bgp line
+decided_before at line = unplaced (own_words at line) (decided at line)
 
 -- what was found, with a cursor over the words behind the opening, is this decision
 abbrev pub IsDecision : Decision → Found → Type 0

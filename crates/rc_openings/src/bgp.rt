@@ -22,7 +22,6 @@ macro_rules! one_word {
                 b"default-metric" => Verdict::Refused,
             }
             b'e' {
-                b"exit-address-family" => Verdict::Refused,
                 b"exit" => Verdict::Ignored,
             }
             b'm' {
@@ -56,7 +55,7 @@ macro_rules! more_words {
     ($make:ident) => {
         $make! {
             b'b' {
-                b"no bgp default ipv4-unicast" => Verdict::Refused,
+                b"no bgp default ipv4-unicast" => Verdict::Form(Form::Bgp(BgpForm::NoDefaultIpv4Unicast)),
                 b"bgp bestpath compare-routerid" => Verdict::Ignored,
             }
             b'c' {
@@ -73,11 +72,18 @@ macro_rules! more_words {
             }
             b'i' {
                 b"maximum-paths ibgp" => Verdict::Form(Form::Bgp(BgpForm::MaximumPathsIbgp)),
+                b"address-family ipv4" => Verdict::Form(Form::Bgp(BgpForm::AddressFamilyIpv4)),
+                b"address-family ipv4 unicast" => Verdict::Form(Form::Bgp(BgpForm::AddressFamilyIpv4)),
+                b"address-family ipv6" => Verdict::Form(Form::Bgp(BgpForm::AddressFamilyIpv6)),
+                b"address-family ipv4 vrf" => Verdict::Refused,
+                b"address-family ipv4 multicast" => Verdict::Refused,
+                b"address-family ipv4 mdt" => Verdict::Refused,
             }
             b'l' {
                 b"bgp log-neighbor-changes" => Verdict::Ignored,
             }
             b'n' {
+                b"no neighbor * activate" => Verdict::Form(Form::Bgp(BgpForm::NoNeighborActivate)),
                 b"no neighbor" => Verdict::Refused,
             }
             b'o' {
@@ -99,7 +105,7 @@ static MORE_WORDS: [Opening; MORE_WORDS_COUNT] = more_words!(openings);
 
 static MORE_WORDS_STARTS: [u8; 59] = more_words!(starts);
 
-static STARRED: [Opening; 18] = [
+static STARRED: [Opening; 19] = [
     Opening {
         text: b"neighbor * remote-as",
         verdict: Verdict::Form(Form::Bgp(BgpForm::NeighborRemoteAs)),
@@ -143,6 +149,10 @@ static STARRED: [Opening; 18] = [
     Opening {
         text: b"neighbor * weight",
         verdict: Verdict::Form(Form::Bgp(BgpForm::NeighborWeight)),
+    },
+    Opening {
+        text: b"neighbor * peer-group",
+        verdict: Verdict::Form(Form::Bgp(BgpForm::NeighborPeerGroup)),
     },
     Opening {
         text: b"neighbor * description",

@@ -1,22 +1,24 @@
 //! The blocks of a configuration, and the openings of each.
-ghost use Rattle.std.specs.Prelude.{◌≡◌, ℕ, Bool, true, List, map, drop};
+ghost use Rattle.std.specs.Prelude.{◌≡◌, ℕ, Bool, true, List, [], ◌∷◌, map, drop};
 ghost use Rattle.std.specs.List.{list_any};
 ghost use Rattle.std.specs.Option.{option_map};
 ghost use Rattle.rc_openings.specs.Words.{words_left};
 ghost use Rattle.rc_openings.specs.Opening.{IsAnswer, IsDecisive, Row, begins_with, row_of, decisive_row};
 ghost use Rattle.rc_openings.specs.Apart.{front_has, forms_have, is_own, is_form_of};
 ghost use Rattle.rc_openings.specs.Block.{rows_of, begins_form_anywhere};
+ghost use Rattle.rc_openings.specs.FamilyOpenings.{family_end, other_family};
 ghost use Rattle.rc_openings.specs.declared.block.Block.{Block as BlockKind};
 ghost use Rattle.rc_openings.specs.declared.form.Form.{Form as FormKind};
 
 use crate::access_list::access_list_table;
 use crate::bgp::bgp_table;
-use crate::decide::decisive;
+use crate::decide::{begins_form, decisive};
+use crate::family::ipv4_family_table;
 use crate::global::global_table;
 use crate::interface::interface_table;
 use crate::ospf::ospf_table;
 use crate::route_map::route_map_table;
-use crate::{Opening, Verdict, Words};
+use crate::{BgpForm, Form, Opening, Verdict, Words};
 
 /// The kind of block that a line stands in.
 #[derive(Clone, Copy)]
@@ -31,6 +33,10 @@ pub enum Block {
     RouteMap,
     Ospf,
     Bgp,
+    /// IPv4's address family in the block of a BGP process.
+    Ipv4Family,
+    /// Another address family there, whose lines are passed over up to its end.
+    OtherFamily,
     /// A block whose lines are all passed over.
     Ignored,
 }
@@ -39,6 +45,36 @@ static ANY_LINE: [Opening; 1] = [Opening {
     text: b"",
     verdict: Verdict::Ignored,
 }];
+
+static FAMILY_END: [Opening; 1] = [Opening {
+    text: b"exit-address-family",
+    verdict: Verdict::Form(Form::Bgp(BgpForm::ExitAddressFamily)),
+}];
+
+static OTHER_FAMILY: [Opening; 2] = [
+    Opening {
+        text: b"",
+        verdict: Verdict::Ignored,
+    },
+    Opening {
+        text: b"exit-address-family",
+        verdict: Verdict::Form(Form::Bgp(BgpForm::ExitAddressFamily)),
+    },
+];
+
+/// The opening that ends a family.
+fn family_end_openings() -> &'static [Opening]
+    ensures { map row_of result.now ≡ family_end ∷ [] }
+{
+    &FAMILY_END
+}
+
+/// The openings of a family whose lines are passed over.
+fn other_family_openings() -> &'static [Opening]
+    ensures { map row_of result.now ≡ other_family }
+{
+    &OTHER_FAMILY
+}
 
 impl Block {
     /// The opening that decides the line in this block, or `None` exactly where it begins with none of the block's.
@@ -62,6 +98,8 @@ impl Block {
             Block::RouteMap => route_map_table().decide(line),
             Block::Ospf => ospf_table().decide(line),
             Block::Bgp => bgp_table().decide(line),
+            Block::Ipv4Family => ipv4_family_table().decide(line),
+            Block::OtherFamily => decisive(other_family_openings(), line),
             Block::Ignored => decisive(&ANY_LINE, line),
         }
     }
@@ -78,6 +116,7 @@ pub fn is_form(line: Words, from: usize) -> bool
         || route_map_table().begins_form(words)
         || ospf_table().begins_form(words)
         || bgp_table().begins_form(words)
+        || begins_form(family_end_openings(), words)
 }
 
 /// A law: no two openings of one block decide one line.

@@ -60,17 +60,34 @@ fn is_of_another_family(mut line: Words) -> bool
     }
 }
 
+/// Whether the line takes back what was said of such a neighbour.
+fn unsays_another_family(mut line: Words) -> bool
+    ensures { result ≡ reading.unsays_another_family (words_left line.entry) }
+{
+    match line.next_word() {
+        Some(word) => word == b"no".as_slice() && is_of_another_family(line),
+        None => false,
+    }
+}
+
+/// Whether the line is passed over for the neighbour that it names.
+fn names_another_family(line: Words) -> bool
+    ensures { result ≡ reading.names_another_family (words_left line.entry) }
+{
+    is_of_another_family(line) || unsays_another_family(line)
+}
+
 impl Block {
     /// The block by whose openings the line is read.
     fn read_in(self, line: Words) -> Block
         ensures { result ≡ reading.read_in self (words_left line.entry) }
     {
         match self {
-            Block::Bgp => {
-                if is_of_another_family(line) {
+            Block::Bgp | Block::Ipv4Family => {
+                if names_another_family(line) {
                     Block::Ignored
                 } else {
-                    Block::Bgp
+                    self
                 }
             }
             _ => self,
@@ -88,7 +105,8 @@ impl Block {
     }
 
     /// What the opening with most words says of the line in this block. In the block of an access list a sequence number
-    /// in front of the line is set aside first, and in that of a BGP process a line about an IPv6 neighbour is passed over.
+    /// in front of the line is set aside first, and in that of a BGP process, or of IPv4's family there, a line about an IPv6
+    /// neighbour is passed over.
     #[tactic(auto, unfolding(crate::specs::Reading::decided))]
     pub fn decided(self, line: Words) -> Decision
         ensures { reading.IsDecision (reading.decided self (words_left line.entry)) result }

@@ -172,6 +172,8 @@ pub enum BgpForm {
     NeighborDefaultOriginate,
     /// `neighbor * activate` under `router bgp`.
     NeighborActivate,
+    /// `no neighbor * activate` under `router bgp`.
+    NoNeighborActivate,
     /// `neighbor * send-community` under `router bgp`.
     NeighborSendCommunity,
     /// `neighbor * route-map` under `router bgp`.
@@ -180,10 +182,20 @@ pub enum BgpForm {
     NeighborPrefixList,
     /// `neighbor * weight` under `router bgp`.
     NeighborWeight,
+    /// `neighbor * peer-group` under `router bgp`.
+    NeighborPeerGroup,
+    /// `no bgp default ipv4-unicast` under `router bgp`.
+    NoDefaultIpv4Unicast,
     /// `redistribute connected` under `router bgp`.
     RedistributeConnected,
     /// `redistribute static` under `router bgp`.
     RedistributeStatic,
     /// `redistribute ospf` under `router bgp`.
     RedistributeOspf,
+    /// `address-family ipv4`, also with `unicast` behind it, under `router bgp`.
+    AddressFamilyIpv4,
+    /// `address-family ipv6` under `router bgp`.
+    AddressFamilyIpv6,
+    /// `exit-address-family` under `address-family`.
+    ExitAddressFamily,
 }

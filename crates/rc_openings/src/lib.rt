@@ -7,7 +7,7 @@
 //!
 //! The crate goes one way: the words of a line (`words`) and the values that they write (`values`); an opening and what it says of a
 //! line (`opening`, `form`), the one of several that decides it (`decide`, `table`); the openings of each block (`global`, `interface`,
-//! `ospf`, `bgp`, `route_map`, `access_list`, together in `block`); and what follows for the line (`decision`, `reading`).
+//! `ospf`, `bgp`, `family`, `route_map`, `access_list`, together in `block`); and what follows for the line (`decision`, `reading`).
 #![tactic(auto)]
 
 mod access_list;
@@ -15,6 +15,7 @@ mod bgp;
 mod block;
 mod decide;
 mod decision;
+mod family;
 mod form;
 mod global;
 mod interface;

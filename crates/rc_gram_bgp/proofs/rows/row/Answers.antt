@@ -1,5 +1,8 @@
 use Rattle.rc_gram_bgp.proofs.rows.row.Goals as goal
 
+pub returns-in-RouterBgp-clause-fits : goal.returns-in-RouterBgp-clause-fits
+returns-in-RouterBgp-clause-fits c = c.router_bgp.ensures.fits c.args.file.now
+
 pub returns-in-RouterId-clause-fits : goal.returns-in-RouterId-clause-fits
 returns-in-RouterId-clause-fits c = c.in_block.ensures.fits c.args.file.now
 
@@ -12,6 +15,18 @@ returns-in-MaximumPathsIbgp-clause-fits c = c.in_block-in-MaximumPathsIbgp.ensur
 pub returns-in-Network-clause-fits : goal.returns-in-Network-clause-fits
 returns-in-Network-clause-fits c = c.in_block-in-Network.ensures.fits c.args.file.now
 
+pub returns-in-NeighborActivate-clause-fits : goal.returns-in-NeighborActivate-clause-fits
+returns-in-NeighborActivate-clause-fits c = c.in_block-in-NeighborActivate.ensures.fits c.args.file.now
+
+pub returns-in-NoNeighborActivate-clause-fits : goal.returns-in-NoNeighborActivate-clause-fits
+returns-in-NoNeighborActivate-clause-fits c = c.in_block-in-NoNeighborActivate.ensures.fits c.args.file.now
+
+pub returns-in-NeighborPeerGroup-clause-fits : goal.returns-in-NeighborPeerGroup-clause-fits
+returns-in-NeighborPeerGroup-clause-fits c = c.in_block-in-NeighborPeerGroup.ensures.fits c.args.file.now
+
+pub returns-in-NoDefaultIpv4Unicast-clause-fits : goal.returns-in-NoDefaultIpv4Unicast-clause-fits
+returns-in-NoDefaultIpv4Unicast-clause-fits c = c.in_block-in-NoDefaultIpv4Unicast.ensures.fits c.args.file.now
+
 pub returns-in-RedistributeConnected-clause-fits : goal.returns-in-RedistributeConnected-clause-fits
 returns-in-RedistributeConnected-clause-fits c = c.in_block-in-RedistributeConnected.ensures.fits c.args.file.now
 
@@ -21,35 +36,11 @@ returns-in-RedistributeStatic-clause-fits c = c.in_block-in-RedistributeStatic.e
 pub returns-in-RedistributeOspf-clause-fits : goal.returns-in-RedistributeOspf-clause-fits
 returns-in-RedistributeOspf-clause-fits c = c.in_block-in-RedistributeOspf.ensures.fits c.args.file.now
 
-pub returns-in-NeighborActivate-clause-fits : goal.returns-in-NeighborActivate-clause-fits
-returns-in-NeighborActivate-clause-fits c = c.activate.ensures.fits c.args.file.now
+pub returns-in-AddressFamilyIpv4-clause-fits : goal.returns-in-AddressFamilyIpv4-clause-fits
+returns-in-AddressFamilyIpv4-clause-fits c = c.ipv4_family.ensures.fits c.args.file.now
 
-pub returns-in-NeighborSendCommunity-clause-fits : goal.returns-in-NeighborSendCommunity-clause-fits
-returns-in-NeighborSendCommunity-clause-fits c = c.communities.ensures.fits c.args.file.now
+pub returns-in-ExitAddressFamily-clause-fits : goal.returns-in-ExitAddressFamily-clause-fits
+returns-in-ExitAddressFamily-clause-fits c = c.family_end.ensures.fits c.args.file.now
 
-pub returns-in-NeighborRemoteAs-clause-fits : goal.returns-in-NeighborRemoteAs-clause-fits
-returns-in-NeighborRemoteAs-clause-fits c = c.sets.ensures.fits c.args.file.now
-
-pub returns-in-NeighborUpdateSource-clause-fits : goal.returns-in-NeighborUpdateSource-clause-fits
-returns-in-NeighborUpdateSource-clause-fits c = c.sets-in-NeighborUpdateSource.ensures.fits c.args.file.now
-
-pub returns-in-NeighborEbgpMultihop-clause-fits : goal.returns-in-NeighborEbgpMultihop-clause-fits
-returns-in-NeighborEbgpMultihop-clause-fits c = c.sets-in-NeighborEbgpMultihop.ensures.fits c.args.file.now
-
-pub returns-in-NeighborNextHopSelf-clause-fits : goal.returns-in-NeighborNextHopSelf-clause-fits
-returns-in-NeighborNextHopSelf-clause-fits c = c.sets-in-NeighborNextHopSelf.ensures.fits c.args.file.now
-
-pub returns-in-NeighborShutdown-clause-fits : goal.returns-in-NeighborShutdown-clause-fits
-returns-in-NeighborShutdown-clause-fits c = c.sets-in-NeighborShutdown.ensures.fits c.args.file.now
-
-pub returns-in-NeighborDefaultOriginate-clause-fits : goal.returns-in-NeighborDefaultOriginate-clause-fits
-returns-in-NeighborDefaultOriginate-clause-fits c = c.sets-in-NeighborDefaultOriginate.ensures.fits c.args.file.now
-
-pub returns-in-NeighborRouteMap-clause-fits : goal.returns-in-NeighborRouteMap-clause-fits
-returns-in-NeighborRouteMap-clause-fits c = c.sets-in-NeighborRouteMap.ensures.fits c.args.file.now
-
-pub returns-in-NeighborPrefixList-clause-fits : goal.returns-in-NeighborPrefixList-clause-fits
-returns-in-NeighborPrefixList-clause-fits c = c.sets-in-NeighborPrefixList.ensures.fits c.args.file.now
-
-pub returns-in-NeighborWeight-clause-fits : goal.returns-in-NeighborWeight-clause-fits
-returns-in-NeighborWeight-clause-fits c = c.sets-in-NeighborWeight.ensures.fits c.args.file.now
+pub returns-in_default-clause-fits : goal.returns-in_default-clause-fits
+returns-in_default-clause-fits c = c.about_peer.ensures.fits c.args.file.now

@@ -2,13 +2,13 @@ use Rattle.std.proofs.Common.{◌≡◌, length}
 use Rattle.std.specs.Prelude.{IfSome}
 use Rattle.rc_openings.specs.Words.{words_left}
 use Rattle.rc_config.specs.Lawful.{IsDistance}
-use Rattle.rc_gram_if.specs.RouteOptions.{distance_of, distance_with, options_of}
-use Rattle.rc_gram_if.proofs.route_options.read_distance.Given as goal
+use Rattle.rc_gram_if.specs.RouteOptions.{options_behind, options_in}
+use Rattle.rc_gram_if.proofs.route_options.read_options.Given as goal
 
--- what is left gives the same distance
+-- what is left, behind what was read, says what all words say
 abbrev pub invariant-loop-word : goal.invariant-loop-word
 invariant-loop-word l = record {
-  same : distance_with l.so_far (options_of (words_left l.words)) ≡ distance_of (words_left l.fn.words);
+  same : options_behind l.so_far (words_left l.words) ≡ options_in (words_left l.fn.words);
   within : IfSome l.so_far.distance IsDistance;
 }
 
