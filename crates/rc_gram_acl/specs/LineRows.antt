@@ -3,7 +3,7 @@ use Rattle.std.specs.Prelude.{◌≡◌, refl, ℕ, ◌+◌, List, [], ◌∷◌
 use Rattle.rc_openings.specs.Reading.{judged}
 use Rattle.rc_openings.specs.Words.{words_of}
 use Rattle.rc_openings.specs.declared.reading.LineRefusal.{LineRefusal}
-use Rattle.rc_openings.specs.declared.reading.LineRefusal.TheVariants.{Unsupported, BadValue}
+use Rattle.rc_openings.specs.declared.reading.LineRefusal.TheVariants.{BadValue}
 use Rattle.rc_config.specs.ActionWord.{action_of}
 use Rattle.rc_config.specs.AccessList.{any_address, host_address, standard_line}
 use Rattle.rc_config.specs.declared.access_list.Action.{Action}

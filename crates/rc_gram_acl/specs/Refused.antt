@@ -1,5 +1,5 @@
 -- The words that make a line of an access list one that isn't modelled, where it fits no row.
-use Rattle.std.specs.Prelude.{ℕ, Bool, true, false, ◌||◌, ◌&&◌, ◌==◌, not, List, [], ◌∷◌, Option, Some, None, if◌then◌else◌, take, codes}
+use Rattle.std.specs.Prelude.{ℕ, Bool, false, ◌||◌, ◌&&◌, ◌==◌, not, List, [], ◌∷◌, Option, Some, None, if◌then◌else◌, take, codes}
 use Rattle.std.specs.List.{list_any}
 use Rattle.rc_openings.specs.Words.{words_of, is_none_left}
 use Rattle.rc_openings.specs.Part.{Part}

@@ -1,14 +1,12 @@
 -- What may stand behind `redistribute` and its source: options in any order, each kind at most once.
 use Rattle.std.specs.Prelude.{ℕ, Bool, true, false, ◌&&◌, List, [], ◌∷◌, ◌++◌, Option, Some, None, if◌then◌else◌, is_some, option_map, codes}
 use Rattle.std.specs.List.{filter_map}
-use Rattle.std.specs.Option.{option_to_list}
+use Rattle.std.specs.Option.{option_and_then, option_to_list}
 use Rattle.std.specs.Str.{bytes_eq}
 use Rattle.rc_base.specs.Name.{name_of}
 use Rattle.rc_config.specs.declared.sets.MetricType.{MetricType}
 use Rattle.rc_config.specs.declared.sets.MetricType.TheVariants.{Type1, Type2}
 use Rattle.rc_openings.specs.Values.{number_within}
-use Rattle.rc_openings.specs.Words.{words_left}
-use Rattle.rc_openings.specs.declared.words.Words.{Words}
 use Rattle.rc_gram_ospf.specs.declared.redistribute_options.RedistributeOptions.{RedistributeOptions}
 
 -- `metric N`, below LSInfinity (RFC 2328 appendix B); `metric-type 1` or `metric-type 2`; `subnets`; or `route-map NAME`
@@ -106,25 +104,18 @@ options_said (Some os) = said_by os
 abbrev pub options_in : List (List ℕ) → Option RedistributeOptions
 options_in words = options_said (options_of words)
 
--- ---- one option after another, as they are read
+-- ---- options behind others
 
-abbrev pub flags : Bool → List Bool
-flags true = true ∷ []
-flags false = []
+-- the options that say this, as they are written
+abbrev pub written : RedistributeOptions → List RedistributeOption
+written o =
+    option_to_list (option_map Metric o.metric) ++ option_to_list (option_map OfType o.metric_type)
+    ++ (if o.subnets then Subnets ∷ [] else []) ++ option_to_list (option_map ByMap o.route_map)
 
--- what is said by those so far with these options behind them
-abbrev pub options_with : RedistributeOptions → Option (List RedistributeOption) → Option RedistributeOptions
-options_with so_far None = None
-options_with so_far (Some os) =
-    said_once (option_to_list so_far.metric ++ filter_map metric_in os) (option_to_list so_far.metric_type ++ filter_map type_in os)
-    (flags so_far.subnets ++ filter_map subnets_in os) (option_to_list so_far.route_map ++ filter_map map_in os)
+-- what options say behind those that say this
+abbrev pub said_behind : RedistributeOptions → Option (List RedistributeOption) → Option RedistributeOptions
+said_behind before os = option_and_then (λ (more : List RedistributeOption). said_by (written before ++ more)) os
 
--- the same after one option more, if it is one and may stand there
-abbrev pub options_after : Option RedistributeOptions → Option (List RedistributeOption) → Option RedistributeOptions
-options_after None os = None
-options_after (Some so_far) os = options_with so_far os
-
--- and in front of the words that are left
-abbrev pub options_behind : Option (RedistributeOptions × Words) → Option RedistributeOptions
-options_behind None = None
-options_behind (Some p) = options_with p.0 (options_of (words_left p.1))
+-- what words say behind them
+abbrev pub options_behind : RedistributeOptions → List (List ℕ) → Option RedistributeOptions
+options_behind before words = said_behind before (options_of words)

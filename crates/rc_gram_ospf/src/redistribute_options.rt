@@ -1,5 +1,6 @@
 //! What may stand behind `redistribute` and its source.
 ghost use Rattle.std.specs.Prelude.{◌≡◌, ◌≤◌, ◌∷◌, List, Option, Some, IfSome, length};
+ghost use Rattle.std.specs.Option.{option_and_then};
 ghost use Rattle.rc_openings.specs.Words.{words_left};
 ghost use Rattle.rc_gram_ospf.specs.RedistributeOptions as options;
 
@@ -32,7 +33,7 @@ pub(crate) fn metric_type_of(word: &[u8]) -> Option<MetricType>
 impl RedistributeOptions {
     /// The options with the metric that a word is, or `None` exactly where it is none or one stands there already.
     fn with_metric(self, word: &[u8]) -> Option<RedistributeOptions>
-        ensures value { (os : Option (List options.RedistributeOption)) → options.options_after result os ≡ options.options_with self (options.followed (options.metric_with word.now) os) }
+        ensures value { (os : Option (List options.RedistributeOption)) → option_and_then (λ more. options.said_behind more os) result ≡ options.said_behind self (options.followed (options.metric_with word.now) os) }
         ensures within { IfSome result (λ o. IfSome o.metric (λ n. n ≤ 16777214)) }
     {
         if self.metric.is_some() {
@@ -50,7 +51,7 @@ impl RedistributeOptions {
     /// The options with the metric type that a word is, or `None` exactly where it is none or one stands there already.
     fn with_metric_type(self, word: &[u8]) -> Option<RedistributeOptions>
         requires { IfSome self.metric (λ n. n ≤ 16777214) }
-        ensures value { (os : Option (List options.RedistributeOption)) → options.options_after result os ≡ options.options_with self (options.followed (options.type_with word.now) os) }
+        ensures value { (os : Option (List options.RedistributeOption)) → option_and_then (λ more. options.said_behind more os) result ≡ options.said_behind self (options.followed (options.type_with word.now) os) }
         ensures within { IfSome result (λ o. IfSome o.metric (λ n. n ≤ 16777214)) }
     {
         if self.metric_type.is_some() {
@@ -68,7 +69,7 @@ impl RedistributeOptions {
     /// The options with the route map of a name, or `None` exactly where it is none or one stands there already.
     fn with_route_map(self, word: &[u8]) -> Option<RedistributeOptions>
         requires { IfSome self.metric (λ n. n ≤ 16777214) }
-        ensures value { (os : Option (List options.RedistributeOption)) → options.options_after result os ≡ options.options_with self (options.followed (options.map_with word.now) os) }
+        ensures value { (os : Option (List options.RedistributeOption)) → option_and_then (λ more. options.said_behind more os) result ≡ options.said_behind self (options.followed (options.map_with word.now) os) }
         ensures within { IfSome result (λ o. IfSome o.metric (λ n. n ≤ 16777214)) }
     {
         if self.route_map.is_some() {
@@ -86,7 +87,7 @@ impl RedistributeOptions {
     /// The options with `subnets`, or `None` exactly where it stands there already.
     fn with_subnets(self) -> Option<RedistributeOptions>
         requires { IfSome self.metric (λ n. n ≤ 16777214) }
-        ensures value { (os : Option (List options.RedistributeOption)) → options.options_after result os ≡ options.options_with self (options.followed (Some options.Subnets) os) }
+        ensures value { (os : Option (List options.RedistributeOption)) → option_and_then (λ more. options.said_behind more os) result ≡ options.said_behind self (options.followed (Some options.Subnets) os) }
         ensures within { IfSome result (λ o. IfSome o.metric (λ n. n ≤ 16777214)) }
     {
         if self.subnets {
@@ -101,7 +102,7 @@ impl RedistributeOptions {
     /// The options with the one that a word alone is.
     fn with_alone(self, word: &[u8]) -> Option<RedistributeOptions>
         requires { IfSome self.metric (λ n. n ≤ 16777214) }
-        ensures value { (os : Option (List options.RedistributeOption)) → options.options_after result os ≡ options.options_with self (options.followed (options.option_alone word.now) os) }
+        ensures value { (os : Option (List options.RedistributeOption)) → option_and_then (λ more. options.said_behind more os) result ≡ options.said_behind self (options.followed (options.option_alone word.now) os) }
         ensures within { IfSome result (λ o. IfSome o.metric (λ n. n ≤ 16777214)) }
     {
         if word == b"subnets".as_slice() {
@@ -114,7 +115,7 @@ impl RedistributeOptions {
     /// The options with the one that a word and its value are.
     fn with_value(self, word: &[u8], value: &[u8]) -> Option<RedistributeOptions>
         requires { IfSome self.metric (λ n. n ≤ 16777214) }
-        ensures value { (os : Option (List options.RedistributeOption)) → options.options_after result os ≡ options.options_with self (options.followed (options.option_with word.now value.now) os) }
+        ensures value { (os : Option (List options.RedistributeOption)) → option_and_then (λ more. options.said_behind more os) result ≡ options.said_behind self (options.followed (options.option_with word.now value.now) os) }
         ensures within { IfSome result (λ o. IfSome o.metric (λ n. n ≤ 16777214)) }
     {
         if word == b"metric".as_slice() {
@@ -136,7 +137,7 @@ impl RedistributeOptions {
         behind: Words<'a>,
     ) -> Option<(RedistributeOptions, Words<'a>)>
         requires { IfSome self.metric (λ n. n ≤ 16777214) }
-        ensures value { options.options_behind result ≡ options.options_with self (options.options_of (word.now ∷ words_left behind.entry)) }
+        ensures value { option_and_then (λ p. options.options_behind p.0 (words_left p.1)) result ≡ options.options_behind self (word.now ∷ words_left behind.entry) }
         ensures within { IfSome result (λ p. IfSome p.0.metric (λ n. n ≤ 16777214)) }
         ensures shorter { IfSome result (λ p. length (words_left p.1) ≤ length (words_left behind.entry)) }
     {
@@ -157,7 +158,7 @@ fn with_rest<'a>(
     rest: Words<'a>,
 ) -> Option<(RedistributeOptions, Words<'a>)>
     requires { IfSome so_far (λ o. IfSome o.metric (λ n. n ≤ 16777214)) }
-    ensures value { options.options_behind result ≡ options.options_after so_far (options.options_of (words_left rest.entry)) }
+    ensures value { option_and_then (λ p. options.options_behind p.0 (words_left p.1)) result ≡ option_and_then (λ o. options.options_behind o (words_left rest.entry)) so_far }
     ensures within { IfSome result (λ p. IfSome p.0.metric (λ n. n ≤ 16777214)) }
     ensures rest { IfSome result (λ p. words_left p.1 ≡ words_left rest.entry) }
 {
