@@ -16,21 +16,21 @@ use Rattle.rc_route.specs.declared.path.BgpPath.{BgpPath}
 use Rattle.rc_route.specs.declared.route.Route.{Route}
 use Rattle.rc_route.specs.declared.state.RouterState.{RouterState}
 use Rattle.rc_topology.proofs.ListLaws.{all_filter, any_append, filter_agree}
-use Rattle.rc_bgp.specs.Candidates.{advertised_best, advertised_default, best_at, best_among, best_of, best_paths, heard, own_at, prefixes_of, prefixes_seen, reachable, sender_prefixes}
-use Rattle.rc_bgp.specs.Changes.{AreChanges, AreMended, CoversChange, IsHeardAlike, ReadsAlike, changes_of, mended_paths, suspects}
+use Rattle.rc_bgp.specs.Candidates.{advertised_best, advertised_default, best_at, best_among, best_of, best_paths, path_heard, own_at, prefixes_of, prefixes_seen, reachable, sender_prefixes}
+use Rattle.rc_bgp.specs.Changes.{AreChanges, AreUpdated, CoversChange, IsHeardAlike, ReadsAlike, changes_of, updated_paths, changed_at_senders}
 use Rattle.rc_bgp.specs.Maximum.{maximum_of}
 use Rattle.rc_config.specs.declared.bgp.MaximumPaths.{MaximumPaths}
-use Rattle.rc_bgp.specs.Known.{paths_of, table_of}
-use Rattle.rc_bgp.specs.Mending.{mended}
-use Rattle.rc_bgp.specs.Own.{own_paths}
-use Rattle.rc_bgp_session.specs.Passing.{as_received, as_sent, default_path, export, exported, import, imported, is_withheld, mapped_path, next_hop_over, originated_default, passes_list, with_med}
+use Rattle.rc_bgp.specs.RouterStates.{paths_of, table_of}
+use Rattle.rc_bgp.specs.Updating.{updated}
+use Rattle.rc_bgp.specs.AllOriginated.{own_paths}
+use Rattle.rc_bgp_session.specs.Passing.{as_received, as_sent, default_path, export, exported, import, imported, is_withheld, mapped_path, next_hop_over, originated_default, passes_list, weight_of, with_med}
 use Rattle.rc_bgp.specs.Reaching.{metric_to}
 use Rattle.rc_bgp.specs.Sessions.{is_up, sessions_of, up_sessions}
 use Rattle.rc_bgp_session.specs.declared.session.Session.{Session}
 use Rattle.rc_bgp.proofs.BestLaws.{among_has, best_in_order}
 use Rattle.rc_bgp.proofs.ChangeLaws.{covered, none_best_for, none_named}
 use Rattle.rc_bgp.proofs.ListLaws.{first_left}
-use Rattle.rc_bgp.proofs.ListedLaws.{at_made, at_mended, same_lists, up_mended}
+use Rattle.rc_bgp.proofs.ListedLaws.{at_made, at_updated, same_lists, up_updated}
 use Rattle.rc_bgp.proofs.PartLaws.{Has, ask_has, either_has, map_has, mapped_has, none_has, or_has, some_has, then_has}
 
 abbrev best_prefix : Best → Cidr
@@ -42,12 +42,12 @@ abbrev hop_of : BgpPath → ℕ
 hop_of x = x.next_hop
 
 sender_hop : (s : Session) → s.is_external ≡ true → (n : Neighbor) (x : BgpPath) → next_hop_over s n x ≡ s.sender_address
-sender_hop s is n x = ap (λ b. cond (b || n.next_hop_self || is_originated x.source) s.sender_address x.next_hop) is
+sender_hop s is n x = ap (λ b. cond (b || n.settings.next_hop_self || is_originated x.source) s.sender_address x.next_hop) is
 
 exported_hop : (s : Session) → s.is_external ≡ true → (x : BgpPath) (file : RouterText) (asn : ℕ) (n : Neighbor) → Has hop_of s.sender_address (exported file asn n s x)
 exported_hop s is x file asn n =
     either_has hop_of s.sender_address (is_withheld s x) None _ (none_has hop_of s.sender_address)
-    (either_has hop_of s.sender_address (not (passes_list file n.list_out x.prefix)) None _ (none_has hop_of s.sender_address) (sent (mapped_path file n.map_out (with_med s x))))
+    (either_has hop_of s.sender_address (not (passes_list file n.settings.list_out x.prefix)) None _ (none_has hop_of s.sender_address) (sent (mapped_path file n.settings.map_out (with_med s x))))
   where
     sent : (o : Option BgpPath) → Has hop_of s.sender_address (option_map (as_sent asn s n) o)
     sent None = none_has hop_of s.sender_address
@@ -56,8 +56,8 @@ exported_hop s is x file asn n =
 imported_hop : (a : ℕ) (s : Session) (x : BgpPath) → x.next_hop ≡ a → (file : RouterText) (asn : ℕ) (n : Neighbor) → Has hop_of a (imported file asn n s x)
 imported_hop a s x is file asn n =
     either_has hop_of a _ None _ (none_has hop_of a)
-    (either_has hop_of a (not (passes_list file n.list_in x.prefix)) None _ (none_has hop_of a)
-    (mapped_has hop_of a (as_received s) (λ y. refl) (mapped_path file n.map_in (record x { weight = n.weight })) (map_has hop_of (λ y b. refl) a file n.map_in (record x { weight = n.weight }) is)))
+    (either_has hop_of a (not (passes_list file n.settings.list_in x.prefix)) None _ (none_has hop_of a)
+    (mapped_has hop_of a (as_received s) (λ y. refl) (mapped_path file n.settings.map_in (record x { weight = weight_of n })) (map_has hop_of (λ y b. refl) a file n.settings.map_in (record x { weight = weight_of n }) is)))
 
 module _ (net : Network) (s : Session) (external : s.is_external ≡ true) where
   abbrev offered : Cidr → Option BgpPath → Option BgpPath
@@ -68,8 +68,8 @@ module _ (net : Network) (s : Session) (external : s.is_external ≡ true) where
   best_hop (Some x) = ask_has hop_of s.sender_address net s.sender s.receiver_address (λ file asn n. exported file asn n s x) (exported_hop s external x)
 
   default_hop : Has hop_of s.sender_address (originated_default net s)
-  default_hop = ask_has hop_of s.sender_address net s.sender s.receiver_address (λ file asn n. cond n.default_originate (Some (default_path asn s)) None)
-      (λ file asn n. either_has hop_of s.sender_address n.default_originate (Some (default_path asn s)) None (some_has hop_of s.sender_address (default_path asn s) refl) (none_has hop_of s.sender_address))
+  default_hop = ask_has hop_of s.sender_address net s.sender s.receiver_address (λ file asn n. cond n.settings.default_originate (Some (default_path asn s)) None)
+      (λ file asn n. either_has hop_of s.sender_address n.settings.default_originate (Some (default_path asn s)) None (some_has hop_of s.sender_address (default_path asn s) refl) (none_has hop_of s.sender_address))
 
   offered_hop : (p : Cidr) (o : Option BgpPath) → Has hop_of s.sender_address (offered p o)
   offered_hop p o = either_has hop_of s.sender_address (same_prefix p default_prefix) _ _ (or_has hop_of s.sender_address (originated_default net s) _ default_hop (best_hop o)) (best_hop o)
@@ -86,7 +86,7 @@ module _ (net : Network) (s : Session) (external : s.is_external ≡ true) where
       ap (option_map (λ metric. record x { igp_metric = metric })) (ap (metric_to t) is ∙ same ∙ sym (ap (metric_to u) is))
 
   heard_alike : (old now : List RouterState) (t u : List Route) (p : Cidr) → metric_to t s.sender_address ≡ metric_to u s.sender_address → best_path_for (paths_of old s.sender) p ≡ best_path_for (paths_of now s.sender) p
-      → heard net old t s p ≡ heard net now u s p
+      → path_heard net old t s p ≡ path_heard net now u s p
   heard_alike old now t u p metric same =
       ap (λ o. option_and_then (reachable t) (option_and_then (import net s) (offered p o))) same
       ∙ reached_alike t u metric (option_and_then (import net s) (offered p (best_path_for (paths_of now s.sender) p))) (taken_hop p (best_path_for (paths_of now s.sender) p))
@@ -112,11 +112,11 @@ module _ (net : Network) (old : List RouterState) where
       let parts = or_parts (list_any (same_prefix p) (prefixes_of paths)) (list_any (same_prefix p) (flat_map prefixes_of rest)) (sym (any_append (same_prefix p) (prefixes_of paths) (flat_map prefixes_of rest)) ∙ none) in
       ap (λ o. cons_option o (own_at rest p)) (none_named paths p parts.0) ∙ none_own rest p parts.1
 
-  none_heard : (table : List Route) (ss : List Session) (p : Cidr) → same_prefix p default_prefix ≡ false → list_any (same_prefix p) (flat_map (sender_prefixes old) ss) ≡ false → filter_map (λ s. heard net old table s p) ss ≡ []
+  none_heard : (table : List Route) (ss : List Session) (p : Cidr) → same_prefix p default_prefix ≡ false → list_any (same_prefix p) (flat_map (sender_prefixes old) ss) ≡ false → filter_map (λ s. path_heard net old table s p) ss ≡ []
   none_heard table [] p other none = refl
   none_heard table (s ∷ ss) p other none =
       let parts = or_parts (list_any (same_prefix p) (sender_prefixes old s)) (list_any (same_prefix p) (flat_map (sender_prefixes old) ss)) (sym (any_append (same_prefix p) (sender_prefixes old s) (flat_map (sender_prefixes old) ss)) ∙ none) in
-      ap (λ o. cons_option o (filter_map (λ t. heard net old table t p) ss))
+      ap (λ o. cons_option o (filter_map (λ t. path_heard net old table t p) ss))
       (ap (λ b. option_and_then (reachable table) (option_and_then (import net s) (cond b (advertised_default net old s p) (advertised_best net old s p)))) other
       ∙ ap (λ o. option_and_then (reachable table) (option_and_then (import net s) (option_and_then (export net s) o))) (ap (option_map (λ (b : Best). b.path)) (none_best_for (paths_of old s.sender) p parts.0)))
       ∙ none_heard table ss p other parts.1
@@ -132,26 +132,26 @@ module _ (net : Network) (sessions : List (List Session)) (r : ℕ) (changes : L
   keeps : (p : Cidr) (b : Best) → best_at net sessions now r p ≡ Some b → b.path.prefix ≡ p
   keeps p = among_has net now p (maximum_of net r) (table_of now r) (own_paths net (table_of now r) r) (up_sessions sessions now r)
 
-  ordered : IsStrictlySortedBy prefix_cmp (suspects changes (up_sessions sessions now r))
+  ordered : IsStrictlySortedBy prefix_cmp (changed_at_senders changes (up_sessions sessions now r))
   ordered = in_order-sorted prefix_cmp prefix_cmp_total (flat_map (λ (s : Session). changes_of changes s.sender) (up_sessions sessions now r))
 
-  -- what is mended, from its parts
+  -- what is updated, from its parts
   pub of_parts : (most : MaximumPaths) (table : List Route) (own : List (List BgpPath)) (up : List Session) (known paths : List Best) (ps : List Cidr) → most ≡ maximum_of net r → table ≡ table_of now r → own ≡ own_paths net (table_of now r) r → up ≡ up_sessions sessions now r
-      → known ≡ paths_of now r → ps ≡ suspects changes (up_sessions sessions now r) → paths ≡ mended best_prefix (best_among net now most table own up) known ps → paths ≡ mended_paths net sessions changes now r
-  of_parts most table own up known paths ps m a b c d e is = is ∙ (λ i. mended best_prefix (best_among net now (m i) (a i) (b i) (c i)) (d i) (e i))
+      → known ≡ paths_of now r → ps ≡ changed_at_senders changes (up_sessions sessions now r) → paths ≡ updated best_prefix (best_among net now most table own up) known ps → paths ≡ updated_paths net sessions changes now r
+  of_parts most table own up known paths ps m a b c d e is = is ∙ (λ i. updated best_prefix (best_among net now (m i) (a i) (b i) (c i)) (d i) (e i))
 
-  -- what is mended is in order; at the prefixes that changed at senders it says what is best now, and at others what is known
-  pub mended_in_order : IsBestList (paths_of now r) → (paths : List Best) → paths ≡ mended_paths net sessions changes now r → IsBestList paths
-  mended_in_order up paths is = subst IsBestList (sym is) (up_mended best_prefix (best_at net sessions now r) keeps (suspects changes (up_sessions sessions now r)) ordered (paths_of now r) up)
+  -- what is updated is in order; at the prefixes that changed at senders it says what is best now, and at others what is known
+  pub updated_in_order : IsBestList (paths_of now r) → (paths : List Best) → paths ≡ updated_paths net sessions changes now r → IsBestList paths
+  updated_in_order up paths is = subst IsBestList (sym is) (up_updated best_prefix (best_at net sessions now r) keeps (changed_at_senders changes (up_sessions sessions now r)) ordered (paths_of now r) up)
 
-  says_mended : (paths : List Best) → paths ≡ mended_paths net sessions changes now r → (p : Cidr)
-      → best_for paths p ≡ cond (list_any (same_prefix p) (suspects changes (up_sessions sessions now r))) (best_at net sessions now r p) (best_for (paths_of now r) p)
-  says_mended paths is p = ap (λ l. best_for l p) is ∙ at_mended best_prefix (best_at net sessions now r) keeps (suspects changes (up_sessions sessions now r)) ordered (paths_of now r) p
+  says_updated : (paths : List Best) → paths ≡ updated_paths net sessions changes now r → (p : Cidr)
+      → best_for paths p ≡ cond (list_any (same_prefix p) (changed_at_senders changes (up_sessions sessions now r))) (best_at net sessions now r p) (best_for (paths_of now r) p)
+  says_updated paths is p = ap (λ l. best_for l p) is ∙ at_updated best_prefix (best_at net sessions now r) keeps (changed_at_senders changes (up_sessions sessions now r)) ordered (paths_of now r) p
 
-  pub mended_covered : (paths : List Best) (changed : List Cidr) → AreMended net sessions changes now r paths changed → CoversChange changed (paths_of now r) paths
-  mended_covered paths changed mended =
-      covered (suspects changes (up_sessions sessions now r)) changed (paths_of now r) paths
-      (λ p none. sym (says_mended paths mended.value p ∙ ap (λ b. cond b (best_at net sessions now r p) (best_for (paths_of now r) p)) none)) mended.told
+  pub updated_covered : (paths : List Best) (changed : List Cidr) → AreUpdated net sessions changes now r paths changed → CoversChange changed (paths_of now r) paths
+  updated_covered paths changed updated =
+      covered (changed_at_senders changes (up_sessions sessions now r)) changed (paths_of now r) paths
+      (λ p none. sym (says_updated paths updated.value p ∙ ap (λ b. cond b (best_at net sessions now r p) (best_for (paths_of now r) p)) none)) updated.told
 
 module _ (net : Network) (sessions : List (List Session)) (r : ℕ) where
   -- at every prefix the best paths say what is best there
@@ -177,7 +177,7 @@ module _ (net : Network) (sessions : List (List Session)) (r : ℕ) where
     same_up = filter_agree (is_up old) (is_up now) (sessions_of sessions r) (ups_alike (sessions_of sessions r) alike.heard)
 
     all_heard : (p : Cidr) (ss : List Session) → AllByRecursion (IsHeardAlike r old now) ss → list_any (same_prefix p) (flat_map (λ (s : Session). changes_of changes s.sender) ss) ≡ false
-        → filter_map (λ s. heard net old (table_of old r) s p) ss ≡ filter_map (λ s. heard net now (table_of now r) s p) ss
+        → filter_map (λ s. path_heard net old (table_of old r) s p) ss ≡ filter_map (λ s. path_heard net now (table_of now r) s p) ss
     all_heard p [] all none = refl
     all_heard p (s ∷ ss) all none =
         let parts = or_parts (list_any (same_prefix p) (changes_of changes s.sender)) (list_any (same_prefix p) (flat_map (λ (t : Session). changes_of changes t.sender) ss))
@@ -186,19 +186,19 @@ module _ (net : Network) (sessions : List (List Session)) (r : ℕ) where
         λ i. cons_option (here i) (all_heard p ss all.1 parts.1 i)
 
     -- what didn't change at a sender of a session that is up has the best path that it had
-    stays_best : (p : Cidr) → list_any (same_prefix p) (suspects changes (up_sessions sessions now r)) ≡ false → best_at net sessions old r p ≡ best_at net sessions now r p
+    stays_best : (p : Cidr) → list_any (same_prefix p) (changed_at_senders changes (up_sessions sessions now r)) ≡ false → best_at net sessions old r p ≡ best_at net sessions now r p
     stays_best p none =
         let unsuspected = sym (any-in_order prefix_cmp same_by_prefix_cmp (same_prefix p) (flat_map (λ (s : Session). changes_of changes s.sender) (up_sessions sessions now r))) ∙ none in
-        ap (λ ss. best_of (maximum_of net r) (own_at (own_paths net (table_of old r) r) p ++ filter_map (λ s. heard net old (table_of old r) s p) ss)) same_up
+        ap (λ ss. best_of (maximum_of net r) (own_at (own_paths net (table_of old r) r) p ++ filter_map (λ s. path_heard net old (table_of old r) s p) ss)) same_up
         ∙ (λ i. best_of (maximum_of net r) (own_at (alike.own i) p ++ all_heard p (up_sessions sessions now r) (all_filter (IsHeardAlike r old now) (is_up now) (sessions_of sessions r) alike.heard) unsuspected i))
 
-    pub mended_is_best : (paths : List Best) (changed : List Cidr) → paths_of now r ≡ best_paths net sessions old r → AreMended net sessions changes now r paths changed → paths ≡ best_paths net sessions now r
-    mended_is_best paths changed is mended =
-        same_lists best_prefix paths (best_paths net sessions now r) (mended_in_order net sessions r changes now (subst IsBestList (sym is) (best_up old)) paths mended.value) (best_up now)
-        (λ p. says_mended net sessions r changes now paths mended.value p ∙ by p (list_any (same_prefix p) (suspects changes (up_sessions sessions now r))) refl ∙ sym (says_best now p))
+    pub updated_is_best : (paths : List Best) (changed : List Cidr) → paths_of now r ≡ best_paths net sessions old r → AreUpdated net sessions changes now r paths changed → paths ≡ best_paths net sessions now r
+    updated_is_best paths changed is updated =
+        same_lists best_prefix paths (best_paths net sessions now r) (updated_in_order net sessions r changes now (subst IsBestList (sym is) (best_up old)) paths updated.value) (best_up now)
+        (λ p. says_updated net sessions r changes now paths updated.value p ∙ by p (list_any (same_prefix p) (changed_at_senders changes (up_sessions sessions now r))) refl ∙ sym (says_best now p))
       where
-        by : (p : Cidr) (b : Bool) → list_any (same_prefix p) (suspects changes (up_sessions sessions now r)) ≡ b
-            → cond (list_any (same_prefix p) (suspects changes (up_sessions sessions now r))) (best_at net sessions now r p) (best_for (paths_of now r) p) ≡ best_at net sessions now r p
+        by : (p : Cidr) (b : Bool) → list_any (same_prefix p) (changed_at_senders changes (up_sessions sessions now r)) ≡ b
+            → cond (list_any (same_prefix p) (changed_at_senders changes (up_sessions sessions now r))) (best_at net sessions now r p) (best_for (paths_of now r) p) ≡ best_at net sessions now r p
         by p true e = ap (λ b. cond b (best_at net sessions now r p) (best_for (paths_of now r) p)) e
         by p false e =
             ap (λ b. cond b (best_at net sessions now r p) (best_for (paths_of now r) p)) e ∙ ap (λ paths. best_for paths p) is ∙ says_best old p ∙ stays_best p e

@@ -25,12 +25,12 @@ use Rattle.rc_route.specs.declared.path.PathSource.TheVariants.{Network as ByNet
 use Rattle.rc_route.specs.Tables.{IsBestList, IsPathList, IsTable, best_for, best_path_for}
 use Rattle.rc_topology.proofs.ListLaws.{all_append, found_passes}
 use Rattle.rc_bgp.specs.Maximum.{number_for}
-use Rattle.rc_bgp.specs.Known.{path_at, paths_of, route_at}
+use Rattle.rc_bgp.specs.RouterStates.{path_at, paths_of, route_at}
 use Rattle.rc_bgp.specs.Originating.{by_network, by_networks, from_route, is_bgp, originated}
-use Rattle.rc_bgp.specs.Redistributing.{med_of, redistributed, redistributed_paths, takes}
-use Rattle.rc_bgp_session.specs.Passing.{as_sent, as_received, default_path, exported, export, imported, import, is_withheld, mapped_path, originated_default, passes_list, with_med}
+use Rattle.rc_bgp.specs.Redistributing.{med_of, redistributed, redistributed_paths, redistributes}
+use Rattle.rc_bgp_session.specs.Passing.{as_sent, as_received, default_path, exported, export, imported, import, is_withheld, mapped_path, originated_default, passes_list, weight_of, with_med}
 use Rattle.rc_bgp.specs.Reaching.{metric_to}
-use Rattle.rc_bgp.specs.Candidates.{advertised, advertised_best, advertised_default, best_among, best_of, candidates_at, further, heard, own_at, prefixes_of, prefixes_seen, reachable, sender_prefixes, with_further}
+use Rattle.rc_bgp.specs.Candidates.{advertised, advertised_best, advertised_default, best_among, best_of, candidates_at, further, path_heard, own_at, prefixes_of, prefixes_seen, reachable, sender_prefixes, with_further}
 use Rattle.rc_bgp_session.specs.declared.session.Session.{Session}
 use Rattle.rc_config.specs.declared.bgp.MaximumPaths.{MaximumPaths}
 use Rattle.rc_bgp.proofs.PartLaws.{Has, ask_has, either_has, map_has, mapped_has, none_has, or_has, some_has, then_has}
@@ -47,14 +47,14 @@ prefix_of x = x.prefix
 exported_has : (p : Cidr) (s : Session) (x : BgpPath) → x.prefix ≡ p → (file : RouterText) (asn : ℕ) (n : Neighbor) → Has prefix_of p (exported file asn n s x)
 exported_has p s x is file asn n =
     either_has prefix_of p (is_withheld s x) None _ (none_has prefix_of p)
-    (either_has prefix_of p (not (passes_list file n.list_out x.prefix)) None _ (none_has prefix_of p)
-    (mapped_has prefix_of p (as_sent asn s n) (λ y. refl) (mapped_path file n.map_out (with_med s x)) (map_has prefix_of (λ x a. refl) p file n.map_out (with_med s x) is)))
+    (either_has prefix_of p (not (passes_list file n.settings.list_out x.prefix)) None _ (none_has prefix_of p)
+    (mapped_has prefix_of p (as_sent asn s n) (λ y. refl) (mapped_path file n.settings.map_out (with_med s x)) (map_has prefix_of (λ x a. refl) p file n.settings.map_out (with_med s x) is)))
 
 imported_has : (p : Cidr) (s : Session) (x : BgpPath) → x.prefix ≡ p → (file : RouterText) (asn : ℕ) (n : Neighbor) → Has prefix_of p (imported file asn n s x)
 imported_has p s x is file asn n =
     either_has prefix_of p (list_any (λ a. a == asn) x.as_path) None _ (none_has prefix_of p)
-    (either_has prefix_of p (not (passes_list file n.list_in x.prefix)) None _ (none_has prefix_of p)
-    (mapped_has prefix_of p (as_received s) (λ y. refl) (mapped_path file n.map_in (record x { weight = n.weight })) (map_has prefix_of (λ x a. refl) p file n.map_in (record x { weight = n.weight }) is)))
+    (either_has prefix_of p (not (passes_list file n.settings.list_in x.prefix)) None _ (none_has prefix_of p)
+    (mapped_has prefix_of p (as_received s) (λ y. refl) (mapped_path file n.settings.map_in (record x { weight = weight_of n })) (map_has prefix_of (λ x a. refl) p file n.settings.map_in (record x { weight = weight_of n }) is)))
 
 -- ---- candidates
 
@@ -69,8 +69,8 @@ known_has p paths = by (best_for paths p) (λ b e. sym (same_is p b.path.prefix 
     by (Some b) has = some_has prefix_of p b.path (has b refl)
 
 default_has : (p : Cidr) (net : Network) (s : Session) → default_prefix ≡ p → Has prefix_of p (originated_default net s)
-default_has p net s is = ask_has prefix_of p net s.sender s.receiver_address (λ file asn n. cond n.default_originate (Some (default_path asn s)) None)
-    (λ file asn n. either_has prefix_of p n.default_originate (Some (default_path asn s)) None (some_has prefix_of p (default_path asn s) is) (none_has prefix_of p))
+default_has p net s is = ask_has prefix_of p net s.sender s.receiver_address (λ file asn n. cond n.settings.default_originate (Some (default_path asn s)) None)
+    (λ file asn n. either_has prefix_of p n.settings.default_originate (Some (default_path asn s)) None (some_has prefix_of p (default_path asn s) is) (none_has prefix_of p))
 
 module _ (net : Network) (old : List RouterState) where
   best_has : (p : Cidr) (s : Session) → Has prefix_of p (advertised_best net old s p)
@@ -90,19 +90,19 @@ module _ (net : Network) (old : List RouterState) where
       by None = none_has prefix_of p
       by (Some metric) = some_has prefix_of p (record x { igp_metric = metric }) is
 
-  heard_has : (p : Cidr) (table : List Route) (s : Session) → Has prefix_of p (heard net old table s p)
+  heard_has : (p : Cidr) (table : List Route) (s : Session) → Has prefix_of p (path_heard net old table s p)
   heard_has p table s =
       then_has prefix_of p (reachable table) (reachable_has p table) (option_and_then (import net s) (advertised net old s p))
       (then_has prefix_of p (import net s) (λ x is. ask_has prefix_of p net s.receiver s.sender_address (λ file asn n. imported file asn n s x) (imported_has p s x is)) (advertised net old s p) (advertised_has p s))
 
   candidates_have : (p : Cidr) (table : List Route) (own : List (List BgpPath)) (sessions : List Session) → AllByRecursion (λ (x : BgpPath). x.prefix ≡ p) (candidates_at net old table own sessions p)
-  candidates_have p table own sessions = all_append (λ (x : BgpPath). x.prefix ≡ p) (own_at own p) (filter_map (λ s. heard net old table s p) sessions) (own_all own) (heard_all sessions)
+  candidates_have p table own sessions = all_append (λ (x : BgpPath). x.prefix ≡ p) (own_at own p) (filter_map (λ s. path_heard net old table s p) sessions) (own_all own) (heard_all sessions)
     where
-      heard_all : (ss : List Session) → AllByRecursion (λ (x : BgpPath). x.prefix ≡ p) (filter_map (λ s. heard net old table s p) ss)
+      heard_all : (ss : List Session) → AllByRecursion (λ (x : BgpPath). x.prefix ≡ p) (filter_map (λ s. path_heard net old table s p) ss)
       heard_all [] = tt
-      heard_all (s ∷ ss) = by (heard net old table s p) (heard_has p table s) (heard_all ss)
+      heard_all (s ∷ ss) = by (path_heard net old table s p) (heard_has p table s) (heard_all ss)
         where
-          by : (o : Option BgpPath) → Has prefix_of p o → AllByRecursion (λ (x : BgpPath). x.prefix ≡ p) (filter_map (λ t. heard net old table t p) ss) → AllByRecursion (λ (x : BgpPath). x.prefix ≡ p) (cons_option o (filter_map (λ t. heard net old table t p) ss))
+          by : (o : Option BgpPath) → Has prefix_of p o → AllByRecursion (λ (x : BgpPath). x.prefix ≡ p) (filter_map (λ t. path_heard net old table t p) ss) → AllByRecursion (λ (x : BgpPath). x.prefix ≡ p) (cons_option o (filter_map (λ t. path_heard net old table t p) ss))
           by None has rest = rest
           by (Some x) has rest = (has x refl, rest)
 
@@ -152,7 +152,7 @@ networks_in_order r table networks paths is = subst IsPathList (sym is)
 -- redistributed paths stand as the routes do
 redistributed_has : (r : ℕ) (file : RouterText) (source : PathSource) (k : OspfKinds) (prefixes : List Cidr) (line : BgpRedistribution) (x : Route) → Has prefix_of x.prefix (redistributed r file source k prefixes line x)
 redistributed_has r file source k prefixes line x =
-    either_has prefix_of x.prefix (not (takes source k prefixes x)) None _ (none_has prefix_of x.prefix)
+    either_has prefix_of x.prefix (not (redistributes source k prefixes x)) None _ (none_has prefix_of x.prefix)
     (either_has prefix_of x.prefix (same_prefix x.prefix default_prefix) None _ (none_has prefix_of x.prefix)
     (map_has prefix_of (λ x a. refl) x.prefix file line.route_map (originated r source Incomplete (med_of line x) x.prefix) refl))
 

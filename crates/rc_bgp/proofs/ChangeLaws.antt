@@ -1,5 +1,5 @@
 -- What changed between two lists of paths.
-use Rattle.std.proofs.Common.{refl, ◌≡◌, ap, sym, ◌∙◌, subst, ℕ, ◌+◌, ◌<◌, Bool, true, false, cond, nat_eq, ◌&&◌, ◌||◌, List, [], ◌∷◌, ◌++◌, length, get_or, drop, Some, None}
+use Rattle.std.proofs.Common.{refl, ◌≡◌, ap, sym, ◌∙◌, subst, ℕ, ◌+◌, ◌<◌, Bool, true, false, cond, nat_eq, ◌||◌, List, [], ◌∷◌, ◌++◌, length, get_or, drop, Some, None}
 use Rattle.std.specs.Bool.{Decides}
 use Rattle.std.specs.List.{fold, list_any}
 use Rattle.std.specs.BTreeSet.{insert_key}
@@ -17,7 +17,7 @@ use Rattle.rc_route.specs.declared.path.BgpPath.{BgpPath}
 use Rattle.rc_topology.proofs.ListLaws.{any_append}
 use Rattle.rc_bgp.specs.Candidates.{best_prefixes, prefixes_of}
 use Rattle.rc_bgp.specs.Changes.{AreToldAmong, CoversChange}
-use Rattle.rc_bgp.specs.Known.{path_at}
+use Rattle.rc_bgp.specs.RouterStates.{path_at}
 use Rattle.rc_bgp.proofs.ListLaws.{first_left}
 use Rattle.rc_bgp.proofs.PrefixLaws.{same_is}
 

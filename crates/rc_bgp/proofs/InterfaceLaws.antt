@@ -1,5 +1,5 @@
 -- The OSPF interfaces of one router among those of all.
-use Rattle.std.proofs.Common.{◌≡◌, ◌≢◌, ℕ, zero, suc, ◌+◌, ◌<◌, ◌≤◌, ◌==◌, Bool, true, false, cond, if◌then◌else◌, List, [], ◌∷◌, ◌++◌, length, map, Option, Some, None, refl, ap, sym, ◌∙◌, append_assoc, arith}
+use Rattle.std.proofs.Common.{◌≡◌, ◌≢◌, ℕ, zero, suc, ◌+◌, ◌<◌, ◌≤◌, ◌==◌, Bool, true, false, cond, if◌then◌else◌, List, [], ◌∷◌, ◌++◌, length, Option, Some, None, refl, ap, sym, ◌∙◌, append_assoc, arith}
 use Rattle.std.specs.Prelude.{slice_get, option_and_then}
 use Rattle.std.specs.List.{filter_map, flat_map, cons_option, range_with_len}
 use Rattle.std.specs.Option.{option_map, option_map_or}
@@ -10,7 +10,7 @@ use Rattle.std.proofs.Math.Decide.{dec_lt}
 use Rattle.rc_base.specs.Prefix.{Cidr}
 use Rattle.rc_base.specs.declared.position.IfId.{IfId}
 use Rattle.rc_config.specs.Down.{Entries, is_down}
-use Rattle.rc_config.specs.Members.{router_at, router_ids}
+use Rattle.rc_config.specs.Members.{router_at}
 use Rattle.rc_config.specs.declared.interface.IfAddr.{IfAddr}
 use Rattle.rc_config.specs.declared.network.Network.{Network}
 use Rattle.rc_config.specs.declared.ospf.OspfProcess.{OspfProcess}

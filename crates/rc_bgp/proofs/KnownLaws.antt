@@ -9,7 +9,7 @@ use Rattle.rc_route.specs.declared.best.Best.{Best}
 use Rattle.rc_route.specs.declared.path.BgpPath.{BgpPath}
 use Rattle.rc_route.specs.declared.route.Route.{Route}
 use Rattle.rc_route.specs.declared.state.RouterState.{RouterState}
-use Rattle.rc_bgp.specs.Known.{paths_of, table_of}
+use Rattle.rc_bgp.specs.RouterStates.{paths_of, table_of}
 
 tables : (state : List RouterState) (r : ℕ) → AllByRecursion IsRouterState state → IsTable (table_of state r)
 unfolding IsStrictlySortedBy

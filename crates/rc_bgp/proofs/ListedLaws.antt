@@ -10,7 +10,7 @@ use Rattle.rc_base.specs.Prefix.{Cidr, prefix_cmp, same_prefix}
 use Rattle.rc_base.proofs.GroupLaws.{same_itself}
 use Rattle.rc_base.proofs.OrderedLaws.{all-weaker, prefix_cmp_total, same_by_prefix_cmp}
 use Rattle.rc_topology.proofs.ListLaws.{find_each, find_filter, find_never}
-use Rattle.rc_bgp.specs.Mending.{before, behind, mended}
+use Rattle.rc_bgp.specs.Updating.{before, behind, updated}
 use Rattle.rc_bgp.proofs.ListLaws.{first_left}
 use Rattle.rc_bgp.proofs.PrefixLaws.{below, map_itself, none_later, same_is}
 
@@ -189,17 +189,17 @@ module _ {A : Type 0} (prefix_of : A → Cidr) where
     parts q p xs o turn any = option_or (cond (is_lt o) (at q xs) None) (option_or (cond (is_eq o) (f p) None) (cond any (f q) (cond (is_lt turn) (at q xs) None)))
 
     -- at those prefixes the list says what the function says, and at others what it said
-    pub at_mended : (ps : List Cidr) → IsStrictlySortedBy prefix_cmp ps → (xs : List A) (q : Cidr) → at q (mended prefix_of f xs ps) ≡ cond (list_any (same_prefix q) ps) (f q) (at q xs)
+    pub at_updated : (ps : List Cidr) → IsStrictlySortedBy prefix_cmp ps → (xs : List A) (q : Cidr) → at q (updated prefix_of f xs ps) ≡ cond (list_any (same_prefix q) ps) (f q) (at q xs)
     unfolding IsStrictlySortedBy
-    at_mended [] up xs q = refl
-    at_mended (p ∷ ps) up xs q =
-        at_append q (before prefix_of p xs) (option_to_list (f p) ++ mended prefix_of f (behind prefix_of p xs) ps)
-        ∙ ap (option_or (at q (before prefix_of p xs))) (at_append q (option_to_list (f p)) (mended prefix_of f (behind prefix_of p xs) ps))
-        ∙ (λ i. option_or (at_filter (λ r. is_lt (prefix_cmp r p)) q xs i) (option_or (at_one q p i) (rest (at_mended ps up.1 (behind prefix_of p xs) q) i)))
+    at_updated [] up xs q = refl
+    at_updated (p ∷ ps) up xs q =
+        at_append q (before prefix_of p xs) (option_to_list (f p) ++ updated prefix_of f (behind prefix_of p xs) ps)
+        ∙ ap (option_or (at q (before prefix_of p xs))) (at_append q (option_to_list (f p)) (updated prefix_of f (behind prefix_of p xs) ps))
+        ∙ (λ i. option_or (at_filter (λ r. is_lt (prefix_cmp r p)) q xs i) (option_or (at_one q p i) (rest (at_updated ps up.1 (behind prefix_of p xs) q) i)))
         ∙ by (prefix_cmp q p) refl
       where
-        rest : at q (mended prefix_of f (behind prefix_of p xs) ps) ≡ cond (list_any (same_prefix q) ps) (f q) (at q (behind prefix_of p xs))
-            → at q (mended prefix_of f (behind prefix_of p xs) ps) ≡ cond (list_any (same_prefix q) ps) (f q) (cond (is_lt (prefix_cmp p q)) (at q xs) None)
+        rest : at q (updated prefix_of f (behind prefix_of p xs) ps) ≡ cond (list_any (same_prefix q) ps) (f q) (at q (behind prefix_of p xs))
+            → at q (updated prefix_of f (behind prefix_of p xs) ps) ≡ cond (list_any (same_prefix q) ps) (f q) (cond (is_lt (prefix_cmp p q)) (at q xs) None)
         rest again = again ∙ ap (cond (list_any (same_prefix q) ps) (f q)) (at_filter (λ r. is_lt (prefix_cmp p r)) q xs)
 
         by : (o : Ordering) → prefix_cmp q p ≡ o → parts q p xs (prefix_cmp q p) (prefix_cmp p q) (list_any (same_prefix q) ps) ≡ cond (is_eq (prefix_cmp q p) || list_any (same_prefix q) ps) (f q) (at q xs)
@@ -227,12 +227,12 @@ module _ {A : Type 0} (prefix_of : A → Cidr) where
         by None = tt
         by (Some x) = (tt, tt)
 
-    below_mended : (r : Cidr) (ps : List Cidr) (xs : List A) → AllByRecursion (λ p. prefix_cmp r p ≡ Less) ps → Below r xs → Below r (mended prefix_of f xs ps)
-    below_mended r [] xs all all' = all'
-    below_mended r (p ∷ ps) xs all all' =
+    below_updated : (r : Cidr) (ps : List Cidr) (xs : List A) → AllByRecursion (λ p. prefix_cmp r p ≡ Less) ps → Below r xs → Below r (updated prefix_of f xs ps)
+    below_updated r [] xs all all' = all'
+    below_updated r (p ∷ ps) xs all all' =
         all_behind (λ q. prefix_cmp r q ≡ Less) (before prefix_of p xs) _ (all_kept (λ q. prefix_cmp r q ≡ Less) (λ x. is_lt (prefix_cmp (prefix_of x) p)) xs all')
         (all_behind (λ q. prefix_cmp r q ≡ Less) (option_to_list (f p)) _ (all_one (λ q. prefix_cmp r q ≡ Less) p all.0)
-        (below_mended r ps (behind prefix_of p xs) all.1 (all_kept (λ q. prefix_cmp r q ≡ Less) (λ x. is_lt (prefix_cmp p (prefix_of x))) xs all')))
+        (below_updated r ps (behind prefix_of p xs) all.1 (all_kept (λ q. prefix_cmp r q ≡ Less) (λ x. is_lt (prefix_cmp p (prefix_of x))) xs all')))
 
     lt_less : (o : Ordering) → is_lt o ≡ true → o ≡ Less
     lt_less Less e = refl
@@ -240,24 +240,24 @@ module _ {A : Type 0} (prefix_of : A → Cidr) where
     lt_less Greater e = absurd (cc e)
 
     -- it stays in order
-    pub up_mended : (ps : List Cidr) → IsStrictlySortedBy prefix_cmp ps → (xs : List A) → IsUp xs → IsUp (mended prefix_of f xs ps)
+    pub up_updated : (ps : List Cidr) → IsStrictlySortedBy prefix_cmp ps → (xs : List A) → IsUp xs → IsUp (updated prefix_of f xs ps)
     unfolding IsStrictlySortedBy
-    up_mended [] up xs up' = up'
-    up_mended (p ∷ ps) up xs up' =
-        up_append (before prefix_of p xs) (option_to_list (f p) ++ mended prefix_of f (behind prefix_of p xs) ps) (up_filter (λ x. is_lt (prefix_cmp (prefix_of x) p)) xs up')
-        (up_append (option_to_list (f p)) (mended prefix_of f (behind prefix_of p xs) ps) (up_one p) (up_mended ps up.1 (behind prefix_of p xs) (up_filter (λ x. is_lt (prefix_cmp p (prefix_of x))) xs up')) (all_one (λ q. Below q (mended prefix_of f (behind prefix_of p xs) ps)) p later))
-        (all_passed (λ q. Below q (option_to_list (f p) ++ mended prefix_of f (behind prefix_of p xs) ps)) (λ q. is_lt (prefix_cmp q p))
+    up_updated [] up xs up' = up'
+    up_updated (p ∷ ps) up xs up' =
+        up_append (before prefix_of p xs) (option_to_list (f p) ++ updated prefix_of f (behind prefix_of p xs) ps) (up_filter (λ x. is_lt (prefix_cmp (prefix_of x) p)) xs up')
+        (up_append (option_to_list (f p)) (updated prefix_of f (behind prefix_of p xs) ps) (up_one p) (up_updated ps up.1 (behind prefix_of p xs) (up_filter (λ x. is_lt (prefix_cmp p (prefix_of x))) xs up')) (all_one (λ q. Below q (updated prefix_of f (behind prefix_of p xs) ps)) p later))
+        (all_passed (λ q. Below q (option_to_list (f p) ++ updated prefix_of f (behind prefix_of p xs) ps)) (λ q. is_lt (prefix_cmp q p))
         (λ q e. let less = lt_less (prefix_cmp q p) e in
-        all_behind (λ r. prefix_cmp q r ≡ Less) (option_to_list (f p)) _ (all_one (λ r. prefix_cmp q r ≡ Less) p less) (farther q p (map prefix_of (mended prefix_of f (behind prefix_of p xs) ps)) less later)) xs)
+        all_behind (λ r. prefix_cmp q r ≡ Less) (option_to_list (f p)) _ (all_one (λ r. prefix_cmp q r ≡ Less) p less) (farther q p (map prefix_of (updated prefix_of f (behind prefix_of p xs) ps)) less later)) xs)
       where
-        later : Below p (mended prefix_of f (behind prefix_of p xs) ps)
-        later = below_mended p ps (behind prefix_of p xs) up.0 (all_passed (λ q. prefix_cmp p q ≡ Less) (λ q. is_lt (prefix_cmp p q)) (λ q e. lt_less (prefix_cmp p q) e) xs)
+        later : Below p (updated prefix_of f (behind prefix_of p xs) ps)
+        later = below_updated p ps (behind prefix_of p xs) up.0 (all_passed (λ q. prefix_cmp p q ≡ Less) (λ q. is_lt (prefix_cmp p q)) (λ q e. lt_less (prefix_cmp p q) e) xs)
 
-  -- one prefix more of a loop that mends
-  pub one_mended : (f : Cidr → Option A) (ps : List Cidr) (i : ℕ) (p : Cidr) (made copied more done left next : List A) (o : Option A) → i < length ps → p ≡ get_or ps i p
+  -- one prefix more of a loop that updates
+  pub one_updated : (f : Cidr → Option A) (ps : List Cidr) (i : ℕ) (p : Cidr) (made copied more done left next : List A) (o : Option A) → i < length ps → p ≡ get_or ps i p
       → copied ≡ made ++ before prefix_of p left → next ≡ behind prefix_of p left → o ≡ f p → more ≡ copied ++ option_to_list o
-      → made ++ mended prefix_of f left (drop i ps) ≡ done → more ++ mended prefix_of f next (drop (i + 1) ps) ≡ done
-  one_mended f ps i p made copied more done left next o less is copy stays best pushed kept =
-      let rest = mended prefix_of f next (drop (i + 1) ps) in
-      ap (λ t. t ++ rest) pushed ∙ append_assoc copied (option_to_list o) rest ∙ (λ k. copy k ++ (option_to_list (best k) ++ mended prefix_of f (stays k) (drop (i + 1) ps)))
-      ∙ append_assoc made (before prefix_of p left) (option_to_list (f p) ++ mended prefix_of f (behind prefix_of p left) (drop (i + 1) ps)) ∙ ap (λ t. made ++ mended prefix_of f left t) (sym (first_left ps i p less is)) ∙ kept
+      → made ++ updated prefix_of f left (drop i ps) ≡ done → more ++ updated prefix_of f next (drop (i + 1) ps) ≡ done
+  one_updated f ps i p made copied more done left next o less is copy stays best pushed kept =
+      let rest = updated prefix_of f next (drop (i + 1) ps) in
+      ap (λ t. t ++ rest) pushed ∙ append_assoc copied (option_to_list o) rest ∙ (λ k. copy k ++ (option_to_list (best k) ++ updated prefix_of f (stays k) (drop (i + 1) ps)))
+      ∙ append_assoc made (before prefix_of p left) (option_to_list (f p) ++ updated prefix_of f (behind prefix_of p left) (drop (i + 1) ps)) ∙ ap (λ t. made ++ updated prefix_of f left t) (sym (first_left ps i p less is)) ∙ kept

@@ -12,7 +12,7 @@ use Rattle.rc_config.specs.declared.router_text.RouterText.{RouterText}
 use Rattle.rc_policy.specs.Policy.{mapped}
 use Rattle.rc_policy.specs.declared.attrs.Attrs.{Attrs}
 use Rattle.rc_route.specs.declared.path.BgpPath.{BgpPath}
-use Rattle.rc_bgp_session.specs.Passing.{ask, attrs_of, mapped_path, with_attrs}
+use Rattle.rc_bgp_session.specs.Passing.{ask, attrs_of_path, mapped_path, with_attrs}
 
 module _ {X : Type 0} (part : BgpPath → X) where
   -- each path that may come has this part
@@ -64,4 +64,4 @@ module _ {X : Type 0} (part : BgpPath → X) where
     attrs_has v x is (Some a) = some_has v (with_attrs x a) (stays x a ∙ is)
 
     pub map_has : (v : X) (file : RouterText) (map : Option Mention) (x : BgpPath) → part x ≡ v → Has v (mapped_path file map x)
-    map_has v file map x is = attrs_has v x is (mapped file map (attrs_of x))
+    map_has v file map x is = attrs_has v x is (mapped file map (attrs_of_path x))

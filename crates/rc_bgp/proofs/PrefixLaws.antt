@@ -8,7 +8,7 @@ use Rattle.std.specs.declared.cmp.Ordering.TheVariants.{Less, Equal, Greater}
 use Rattle.rc_base.specs.Prefix.{Cidr, prefix_cmp, same_prefix}
 use Rattle.rc_base.specs.contracts.prefix.PrefixPartialOrd.TheImpl as partial_impl
 use Rattle.rc_base.proofs.OrderedLaws.{all-weaker, prefix_cmp_total, same_by_prefix_cmp}
-use Rattle.rc_bgp.specs.Known.{is_before}
+use Rattle.rc_bgp.specs.RouterStates.{is_before}
 use Rattle.rc_topology.proofs.ListLaws.{all_at}
 
 both_lt : (a b : Ordering) → is_some_and is_lt (partial_ordering_then (Some a) (Some b)) ≡ is_lt (ordering_then a b)

@@ -1,8 +1,10 @@
 -- Worked cases of origination, candidates and best paths, each by computation.
-use Rattle.std.specs.Prelude.{◌≡◌, true, List, [], ◌∷◌, map, Some, None, refl}
+use Rattle.std.specs.Prelude.{◌≡◌, List, [], ◌∷◌, map, Some, None, refl}
 use Rattle.rc_base.specs.Prefix.{prefix_at}
+use Rattle.rc_config.specs.Bgp.{with_own}
 use Rattle.rc_config.specs.IfType.{type_of}
 use Rattle.rc_config.specs.declared.bgp.Neighbor.{Neighbor}
+use Rattle.rc_config.specs.declared.bgp.NeighborSetting.TheVariants.{DefaultOriginate}
 use Rattle.rc_config.specs.declared.network.Network.{Network}
 use Rattle.rc_config.specs.declared.router_text.RouterText.{RouterText}
 use Rattle.rc_fib.specs.Forwarding.{hops_within}
@@ -103,11 +105,11 @@ next_hop_by_default = refl
 abbrev default_of_r1 : BgpPath
 default_of_r1 = record heard_by_r2 { prefix = prefix_at 0 0 }
 
-pub default_originate : best_paths (pair (record (peer (ip 12 2) 65002) { default_originate = true })) one_session (state (connected 1 (subnet 12) 0 ∷ [])) 1 ≡ map alone (default_of_r1 ∷ heard_by_r2 ∷ [])
+pub default_originate : best_paths (pair (with_own (peer (ip 12 2) 65002) DefaultOriginate)) one_session (state (connected 1 (subnet 12) 0 ∷ [])) 1 ≡ map alone (default_of_r1 ∷ heard_by_r2 ∷ [])
 unfolding best_paths hops_within multi_places
 default_originate = refl
 
-pub default_in_place : best_paths (pair (record (peer (ip 12 2) 65002) { default_originate = true })) one_session
+pub default_in_place : best_paths (pair (with_own (peer (ip 12 2) 65002) DefaultOriginate)) one_session
     (knows [] (record (ninth 0 External) { prefix = prefix_at 0 0; med = 70; as_path = 65003 ∷ [] } ∷ []) ∷ knows (connected 1 (subnet 12) 0 ∷ []) [] ∷ []) 1 ≡ map alone (default_of_r1 ∷ [])
 unfolding best_paths hops_within multi_places
 default_in_place = refl

@@ -13,9 +13,9 @@ use Rattle.rc_route.specs.declared.best.Best.{Best}
 use Rattle.rc_route.specs.declared.path.BgpPath.{BgpPath}
 use Rattle.rc_route.specs.declared.route.Route.{Route}
 use Rattle.rc_route.specs.declared.state.RouterState.{RouterState}
-use Rattle.rc_bgp.specs.Known.{path_at, paths_of, table_of}
+use Rattle.rc_bgp.specs.RouterStates.{path_at, paths_of, table_of}
 use Rattle.rc_bgp.specs.Maximum.{maximum_of, number_for}
-use Rattle.rc_bgp.specs.Own.{own_paths}
+use Rattle.rc_bgp.specs.AllOriginated.{own_paths}
 use Rattle.rc_bgp_session.specs.Passing.{export, import, originated_default}
 use Rattle.rc_bgp.specs.Reaching.{metric_to}
 use Rattle.rc_bgp.specs.Sessions.{received, up_sessions}
@@ -68,12 +68,12 @@ module _ (net : Network) (old : List RouterState) where
   advertised s p = if same_prefix p default_prefix then advertised_default s p else advertised_best s p
 
   -- what a router with this table hears over a session for a prefix
-  abbrev pub heard : List Route → Session → Cidr → Option BgpPath
-  heard table s p = option_and_then (reachable table) (option_and_then (import net s) (advertised s p))
+  abbrev pub path_heard : List Route → Session → Cidr → Option BgpPath
+  path_heard table s p = option_and_then (reachable table) (option_and_then (import net s) (advertised s p))
 
   -- the candidates for a prefix: what the router originates, then what it hears over each session
   abbrev pub candidates_at : List Route → List (List BgpPath) → List Session → Cidr → List BgpPath
-  candidates_at table own sessions p = own_at own p ++ filter_map (λ s. heard table s p) sessions
+  candidates_at table own sessions p = own_at own p ++ filter_map (λ s. path_heard table s p) sessions
 
   -- all candidates, by prefix, then sender, then the sender's address; what the router originates stands first
   abbrev pub all_candidates : List Route → List (List BgpPath) → List Session → List BgpPath

@@ -11,7 +11,7 @@ use Rattle.rc_route.specs.declared.route.Route.{Route}
 use Rattle.rc_route.specs.declared.state.RouterState.{RouterState}
 use Rattle.rc_bgp_decide.specs.Multipath.{multi_places}
 use Rattle.rc_bgp.specs.Candidates.{best_paths}
-use Rattle.rc_bgp.specs.Changes.{changes_of, mended_paths, suspects}
+use Rattle.rc_bgp.specs.Changes.{changes_of, updated_paths, changed_at_senders}
 use Rattle.rc_bgp_session.specs.Nets.{ip, subnet, gigabit, gigabit_1, on, peer, process, router, two, external, connected, knows, ninth}
 use Rattle.rc_bgp.specs.Sessions.{is_up}
 use Rattle.rc_bgp_session.specs.declared.session.Session.{Session}
@@ -20,8 +20,8 @@ pub changes_past_the_end : changes_of ((subnet 9 ∷ []) ∷ []) 1 ≡ []
 changes_past_the_end = refl
 
 -- what two senders tell counts once, in order; a router without a session to this one is none of them
-pub suspects_of_two : suspects ((subnet 9 ∷ subnet 8 ∷ []) ∷ (subnet 7 ∷ []) ∷ (subnet 9 ∷ []) ∷ []) (external 0 (ip 12 1) 1 (ip 12 2) ∷ external 2 (ip 23 3) 1 (ip 23 2) ∷ []) ≡ subnet 8 ∷ subnet 9 ∷ []
-suspects_of_two = refl
+pub changed_at_two : changed_at_senders ((subnet 9 ∷ subnet 8 ∷ []) ∷ (subnet 7 ∷ []) ∷ (subnet 9 ∷ []) ∷ []) (external 0 (ip 12 1) 1 (ip 12 2) ∷ external 2 (ip 23 3) 1 (ip 23 2) ∷ []) ≡ subnet 8 ∷ subnet 9 ∷ []
+changed_at_two = refl
 
 -- ---- R1 of AS 65001 has a session with R2 of AS 65002 on 10.0.12.0/24
 
@@ -46,7 +46,7 @@ heard p = record (ninth 0 External) { prefix = p; next_hop = ip 12 1; weight = 0
 
 -- what R2 makes of its known paths, where R1 tells of these prefixes
 abbrev made : List Cidr → List BgpPath → List BgpPath → List Best
-made changed first second = mended_paths net all (changed ∷ [] ∷ []) (state first second) 1
+made changed first second = updated_paths net all (changed ∷ [] ∷ []) (state first second) 1
 
 pub gains : made (subnet 9 ∷ []) (sent (subnet 9) ∷ []) [] ≡ map alone (heard (subnet 9) ∷ [])
 unfolding hops_within multi_places

@@ -8,9 +8,9 @@ use Rattle.rc_route.specs.Tables.{best_for}
 use Rattle.rc_route.specs.declared.best.Best.{Best}
 use Rattle.rc_route.specs.declared.state.RouterState.{RouterState}
 use Rattle.rc_bgp.specs.Candidates.{best_at}
-use Rattle.rc_bgp.specs.Known.{paths_of, table_of}
-use Rattle.rc_bgp.specs.Mending.{mended}
-use Rattle.rc_bgp.specs.Own.{own_paths}
+use Rattle.rc_bgp.specs.RouterStates.{paths_of, table_of}
+use Rattle.rc_bgp.specs.Updating.{updated}
+use Rattle.rc_bgp.specs.AllOriginated.{own_paths}
 use Rattle.rc_bgp.specs.Reaching.{metric_to}
 use Rattle.rc_bgp.specs.Sessions.{is_up, sessions_of, up_sessions}
 use Rattle.rc_bgp_session.specs.declared.session.Session.{Session}
@@ -45,15 +45,15 @@ pub record ReadsAlike (net : Network) (sessions : List (List Session)) (old now 
   pub heard : AllByRecursion (IsHeardAlike r old now) (sessions_of sessions r)
 
 -- the prefixes that changed at the senders of some sessions, in order
-abbrev pub suspects : List (List Cidr) → List Session → List Cidr
-suspects changes ss = in_order prefix_cmp (flat_map (λ (s : Session). changes_of changes s.sender) ss)
+abbrev pub changed_at_senders : List (List Cidr) → List Session → List Cidr
+changed_at_senders changes ss = in_order prefix_cmp (flat_map (λ (s : Session). changes_of changes s.sender) ss)
 
 -- the known paths of a router, with what is best now at the prefixes that changed at the senders of its sessions
-abbrev pub mended_paths : Network → List (List Session) → List (List Cidr) → List RouterState → ℕ → List Best
-mended_paths net sessions changes now r =
-    mended (λ (b : Best). b.path.prefix) (best_at net sessions now r) (paths_of now r) (suspects changes (up_sessions sessions now r))
+abbrev pub updated_paths : Network → List (List Session) → List (List Cidr) → List RouterState → ℕ → List Best
+updated_paths net sessions changes now r =
+    updated (λ (b : Best). b.path.prefix) (best_at net sessions now r) (paths_of now r) (changed_at_senders changes (up_sessions sessions now r))
 
 -- these are those paths, and of those prefixes all are told at which they say other than what is known
-pub record AreMended (net : Network) (sessions : List (List Session)) (changes : List (List Cidr)) (now : List RouterState) (r : ℕ) (paths : List Best) (changed : List Cidr) : Type 0 where
-  pub value : paths ≡ mended_paths net sessions changes now r
-  pub told : AreToldAmong (suspects changes (up_sessions sessions now r)) changed (paths_of now r) paths
+pub record AreUpdated (net : Network) (sessions : List (List Session)) (changes : List (List Cidr)) (now : List RouterState) (r : ℕ) (paths : List Best) (changed : List Cidr) : Type 0 where
+  pub value : paths ≡ updated_paths net sessions changes now r
+  pub told : AreToldAmong (changed_at_senders changes (up_sessions sessions now r)) changed (paths_of now r) paths

@@ -10,7 +10,6 @@ use Rattle.rc_route.specs.declared.path.BgpPath.{BgpPath}
 use Rattle.rc_route.specs.declared.path.PathSource.{PathSource}
 use Rattle.rc_route.specs.declared.path.PathSource.TheVariants.{Network as ByNetwork, External, Internal}
 use Rattle.rc_route.specs.declared.route.Hop.TheVariants.{Via}
-use Rattle.rc_route.specs.declared.route.Route.{Route}
 use Rattle.rc_route.specs.declared.route.Source.TheVariants.{Ebgp, Ibgp}
 use Rattle.rc_bgp.specs.Candidates.{advertised_best, best_of}
 use Rattle.rc_bgp.specs.Learning.{learned_route}

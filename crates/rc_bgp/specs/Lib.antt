@@ -1,4 +1,4 @@
-pub mod Known
+pub mod RouterStates
 pub mod Speakers
 pub mod Sessions
 pub mod Levels
@@ -6,11 +6,11 @@ pub mod Reaching
 pub mod Ways
 pub mod Originating
 pub mod Redistributing
-pub mod Own
+pub mod AllOriginated
 pub mod Maximum
 pub mod Candidates
 pub mod Learning
-pub mod Mending
+pub mod Updating
 pub mod Changes
 pub mod SessionRows
 pub mod LearningRows

@@ -11,7 +11,7 @@ use Rattle.rc_route.specs.declared.path.PathSource.TheVariants.{Network as ByNet
 use Rattle.rc_route.specs.declared.route.Route.{Route}
 use Rattle.rc_route.specs.declared.route.Source.{Source}
 use Rattle.rc_route.specs.declared.route.Source.TheVariants.{Ebgp, Ibgp}
-use Rattle.rc_bgp.specs.Known.{route_at}
+use Rattle.rc_bgp.specs.RouterStates.{route_at}
 
 -- a path as its router originates it: weight 32768, local preference 100, an empty AS path, no community
 abbrev pub originated : ℕ → PathSource → Origin → ℕ → Cidr → BgpPath

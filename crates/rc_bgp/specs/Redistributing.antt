@@ -46,11 +46,11 @@ is_of_kinds k is_on_ospf OspfE2 = k.external_2
 is_of_kinds k is_on_ospf _ = false
 
 -- which routes a line of a source takes, where these are the prefixes of OSPF interfaces
-abbrev pub takes : PathSource → OspfKinds → List Cidr → Route → Bool
-takes path.Connected k prefixes x = is_connected x.source
-takes path.Static k prefixes x = is_static x.source
-takes path.Ospf k prefixes x = is_of_kinds k (list_any (same_prefix x.prefix) prefixes) x.source
-takes _ k prefixes x = false
+abbrev pub redistributes : PathSource → OspfKinds → List Cidr → Route → Bool
+redistributes path.Connected k prefixes x = is_connected x.source
+redistributes path.Static k prefixes x = is_static x.source
+redistributes path.Ospf k prefixes x = is_of_kinds k (list_any (same_prefix x.prefix) prefixes) x.source
+redistributes _ k prefixes x = false
 
 abbrev pub med_of : BgpRedistribution → Route → ℕ
 med_of line x = unwrap_or line.metric x.metric
@@ -62,7 +62,7 @@ path_of_route r file source line x = mapped_path file line.route_map (originated
 -- 0.0.0.0/0 never passes
 abbrev pub redistributed : ℕ → RouterText → PathSource → OspfKinds → List Cidr → BgpRedistribution → Route → Option BgpPath
 redistributed r file source k prefixes line x =
-    if not (takes source k prefixes x) then None
+    if not (redistributes source k prefixes x) then None
     else if same_prefix x.prefix default_prefix then None
     else path_of_route r file source line x
 

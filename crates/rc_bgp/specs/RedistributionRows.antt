@@ -22,7 +22,7 @@ use Rattle.rc_route.specs.declared.route.Source.TheVariants as source
 use Rattle.rc_ospf_interfaces.specs.Interfaces.{ospf_interfaces}
 use Rattle.rc_bgp_session.specs.Nets.{subnet, gigabit, loopback, on}
 use Rattle.rc_bgp.specs.Originating.{originated}
-use Rattle.rc_bgp.specs.Own.{own_paths}
+use Rattle.rc_bgp.specs.AllOriginated.{own_paths}
 use Rattle.rc_bgp.specs.Redistributing.{no_kinds, redistributed_paths}
 
 -- 10.0.m.0/24 from a source, with the metric m

@@ -1,10 +1,15 @@
 -- Worked cases of identifiers and sessions, each by computation.
-use Rattle.std.specs.Prelude.{◌≡◌, ℕ, true, false, List, [], ◌∷◌, Some, None, codes, refl}
+use Rattle.std.specs.Prelude.{◌≡◌, ℕ, true, false, List, [], ◌∷◌, Some, codes, refl}
+use Rattle.std.specs.List.{fold}
 use Rattle.rc_base.specs.Prefix.{prefix_at}
-use Rattle.rc_config.specs.Bgp.{no_lines}
+use Rattle.rc_config.specs.Bgp.{fresh, no_lines, settled, with_line, with_own}
 use Rattle.rc_config.specs.IfType.{type_of}
+use Rattle.rc_config.specs.declared.bgp.BgpLine.{BgpLine}
+use Rattle.rc_config.specs.declared.bgp.BgpLine.TheVariants.{Setting, Active, GroupDeclared, MemberOf, InactiveByDefault}
 use Rattle.rc_config.specs.declared.bgp.BgpProcess.{BgpProcess}
 use Rattle.rc_config.specs.declared.bgp.Neighbor.{Neighbor}
+use Rattle.rc_config.specs.declared.bgp.NeighborSetting.TheVariants.{RemoteAs, UpdateSource, EbgpMultihop, Shutdown}
+use Rattle.rc_config.specs.declared.peering.Peer.TheVariants.{Address, Group}
 use Rattle.rc_config.specs.declared.interface.Interface.{Interface}
 use Rattle.rc_config.specs.declared.network.Network.{Network}
 use Rattle.rc_config.specs.declared.router_text.RouterText.{RouterText}
@@ -87,17 +92,81 @@ pub another_address : Gives (two (first to_second) (second (peer (ip 12 9) 65001
 unfolding configured_sessions speakers links_of type_of
 another_address = refl
 
-pub no_remote_as : Gives (two (first (record to_second { remote_as = None })) (second to_first)) ([] ∷ [] ∷ [])
+pub no_remote_as : Gives (two (first (fresh (ip 12 2))) (second to_first)) ([] ∷ [] ∷ [])
 unfolding configured_sessions speakers links_of type_of
 no_remote_as = refl
 
-pub shut_down : Gives (two (first (record to_second { is_shutdown = true })) (second to_first)) ([] ∷ [] ∷ [])
+pub shut_down : Gives (two (first (with_own to_second Shutdown)) (second to_first)) ([] ∷ [] ∷ [])
 unfolding configured_sessions speakers links_of type_of
 shut_down = refl
 
-pub shut_down_there : Gives (two (first to_second) (second (record to_first { is_shutdown = true }))) ([] ∷ [] ∷ [])
+pub shut_down_there : Gives (two (first to_second) (second (with_own to_first Shutdown))) ([] ∷ [] ∷ [])
 unfolding configured_sessions speakers links_of type_of
 shut_down_there = refl
+
+-- a session is there where the neighbour is active on both sides, and neither where one of them isn't nor where both aren't
+abbrev inactive : Neighbor → Neighbor
+inactive n = record n { is_active = false }
+
+pub inactive_here : Gives (two (first (inactive to_second)) (second to_first)) ([] ∷ [] ∷ [])
+unfolding configured_sessions speakers links_of type_of
+inactive_here = refl
+
+pub inactive_there : Gives (two (first to_second) (second (inactive to_first))) ([] ∷ [] ∷ [])
+unfolding configured_sessions speakers links_of type_of
+inactive_there = refl
+
+pub inactive_on_both : Gives (two (first (inactive to_second)) (second (inactive to_first))) ([] ∷ [] ∷ [])
+unfolding configured_sessions speakers links_of type_of
+inactive_on_both = refl
+
+-- ---- the second router's neighbour is a member of the group UP, whose lines stand for its own
+
+abbrev up : List ℕ
+up = codes "UP"
+
+-- `neighbor UP peer-group`, `neighbor UP remote-as 65001`, `neighbor 10.0.12.1 peer-group UP`, and then these lines
+abbrev in_group : List BgpLine → RouterText
+in_group lines =
+    router ((gigabit, on 12 2 24) ∷ []) (settled (fold with_line (no_lines 65002) (GroupDeclared up ∷ Setting (Group up) (RemoteAs 65001) ∷ MemberOf (ip 12 1) up ∷ lines)))
+
+abbrev HasSession : List BgpLine → Type 0
+HasSession lines = Gives (two (first to_second) (in_group lines)) ((external 1 (ip 12 2) 0 (ip 12 1) ∷ []) ∷ (external 0 (ip 12 1) 1 (ip 12 2) ∷ []) ∷ [])
+
+abbrev HasNone : List BgpLine → Type 0
+HasNone lines = Gives (two (first to_second) (in_group lines)) ([] ∷ [] ∷ [])
+
+pub as_of_the_group : HasSession []
+unfolding configured_sessions speakers links_of type_of
+as_of_the_group = refl
+
+pub own_as_first : HasNone (Setting (Address (ip 12 1)) (RemoteAs 65003) ∷ [])
+unfolding configured_sessions speakers links_of type_of
+own_as_first = refl
+
+pub group_shut_down : HasNone (Setting (Group up) Shutdown ∷ [])
+unfolding configured_sessions speakers links_of type_of
+group_shut_down = refl
+
+pub not_active_by_default : HasNone (InactiveByDefault ∷ [])
+unfolding configured_sessions speakers links_of type_of
+not_active_by_default = refl
+
+pub activated : HasSession (InactiveByDefault ∷ Active (Address (ip 12 1)) true ∷ [])
+unfolding configured_sessions speakers links_of type_of
+activated = refl
+
+pub activated_by_its_group : HasSession (InactiveByDefault ∷ Active (Group up) true ∷ [])
+unfolding configured_sessions speakers links_of type_of
+activated_by_its_group = refl
+
+pub own_line_first : HasNone (Active (Address (ip 12 1)) false ∷ Active (Group up) true ∷ [])
+unfolding configured_sessions speakers links_of type_of
+own_line_first = refl
+
+pub last_line_counts : HasSession (Active (Address (ip 12 1)) false ∷ Active (Address (ip 12 1)) true ∷ [])
+unfolding configured_sessions speakers links_of type_of
+last_line_counts = refl
 
 -- one AS: the session is internal
 pub one_as : Gives (two (first (peer (ip 12 2) 65001)) (router ((gigabit, on 12 2 24) ∷ []) (process 65001 (to_first ∷ [])))) ((internal 1 (ip 12 2) 0 (ip 12 1) ∷ []) ∷ (internal 0 (ip 12 1) 1 (ip 12 2) ∷ []) ∷ [])
@@ -123,7 +192,7 @@ other_lengths = refl
 -- ---- off a shared subnet: loopbacks 10.0.1.1 and 10.0.2.2, named by `update-source`
 
 abbrev by_loopback : ℕ → ℕ → Neighbor
-by_loopback address asn = record (peer address asn) { update_source = Some loopback }
+by_loopback address asn = with_own (peer address asn) (UpdateSource loopback)
 
 abbrev far_first : Neighbor → RouterText
 far_first n = router ((gigabit, on 12 1 24) ∷ (loopback, on 1 1 32) ∷ []) (process 65001 (n ∷ []))
@@ -135,7 +204,7 @@ abbrev far : Session → Session
 far s = record s { is_shared = false }
 
 abbrev multihop : Neighbor → Neighbor
-multihop n = record n { is_multihop = true }
+multihop n = with_own n EbgpMultihop
 
 pub multihop_on_both : Gives (two (far_first (multihop (by_loopback (ip 2 2) 65002))) (far_second 65002 (multihop (by_loopback (ip 1 1) 65001))))
     ((far (external 1 (ip 2 2) 0 (ip 1 1)) ∷ []) ∷ (far (external 0 (ip 1 1) 1 (ip 2 2)) ∷ []) ∷ [])

@@ -6,7 +6,7 @@ use Rattle.rc_config.specs.declared.network.Network.{Network}
 use Rattle.rc_route.specs.declared.state.RouterState.{RouterState}
 use Rattle.rc_topology.specs.Links.{are_linked}
 use Rattle.rc_topology.specs.Topology.{Topology}
-use Rattle.rc_bgp.specs.Known.{table_of}
+use Rattle.rc_bgp.specs.RouterStates.{table_of}
 use Rattle.rc_bgp.specs.Reaching.{reaches}
 use Rattle.rc_bgp.specs.Speakers.{speakers, statement_about}
 use Rattle.rc_bgp_session.specs.declared.session.Session.{Session}

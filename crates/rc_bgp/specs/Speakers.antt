@@ -1,5 +1,5 @@
 -- What each router says in BGP: its AS, its identifier (RFC 4271 s.4.2), its own addresses and those from which it speaks.
-use Rattle.std.specs.Prelude.{ℕ, max, if◌then◌else◌, List, [], map, length, Option, Some, None, unwrap_or, option_and_then, slice_get}
+use Rattle.std.specs.Prelude.{ℕ, max, not, ◌||◌, if◌then◌else◌, List, [], map, length, Option, Some, None, unwrap_or, option_and_then, slice_get}
 use Rattle.std.specs.List.{filter, filter_map, flat_map, find, fold, range_with_len}
 use Rattle.std.specs.Option.{option_map, option_map_or, option_or}
 use Rattle.std.specs.Ordering.{nat_cmp}
@@ -66,13 +66,13 @@ abbrev pub facing : List OwnAddr → ℕ → Option ℕ
 facing own a = option_map (λ (o : OwnAddr). o.addr) (find (λ (o : OwnAddr). contains o.prefix a) own)
 
 abbrev pub local_address : Entries → List OwnAddr → Neighbor → Option ℕ
-local_address entries own n = option_map_or (source_address entries) n.update_source (facing own n.address)
+local_address entries own n = option_map_or (source_address entries) n.settings.update_source (facing own n.address)
 
--- a statement that may make sessions: it isn't shut down, names an AS and has a local address
+-- a statement that may make sessions: it is active and not shut down, names an AS and has a local address
 abbrev pub statement_of : Entries → List OwnAddr → Neighbor → Option Statement
 statement_of entries own n =
-    if n.is_shutdown then None
-    else option_and_then (λ asn. option_map (λ a. record { local = a; neighbor = n.address; remote_as = asn; is_multihop = n.is_multihop }) (local_address entries own n)) n.remote_as
+    if n.settings.is_shutdown || not n.is_active then None
+    else option_and_then (λ asn. option_map (λ a. record { local = a; neighbor = n.address; remote_as = asn; is_multihop = n.settings.is_multihop }) (local_address entries own n)) n.settings.remote_as
 
 -- ---- speakers
 

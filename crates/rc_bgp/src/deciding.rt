@@ -8,13 +8,13 @@ ghost use Rattle.rc_bgp_decide.specs.Decision.{best_path};
 ghost use Rattle.rc_route.specs.Tables.{IsBestList, IsPathList, IsRouterState};
 ghost use Rattle.rc_bgp.specs.Candidates as spec;
 
+use crate::all_originated::own_paths;
 use crate::further::further;
 use crate::hearing::candidates_at;
-use crate::known::{paths_of, table_of};
 use crate::maximum::{maximum_of, number_for};
 use crate::originating::{insert, listed};
-use crate::own_paths::own_paths;
 use crate::resolver::Resolver;
+use crate::router_state::{paths_of, table_of};
 use crate::up::{received, up_sessions};
 use crate::{ConfiguredSessions, Session, Sessions};
 use rc_as_path::AsPath;

@@ -3,11 +3,11 @@ ghost use Rattle.std.specs.Prelude.{◌≡◌, ◌++◌, All, IfOk, OnOk, option
 ghost use Rattle.std.specs.Option.{option_to_list};
 ghost use Rattle.rc_route.specs.Tables.{IsPathList, IsRouterState};
 ghost use Rattle.rc_bgp.specs.Candidates as spec;
-ghost use Rattle.rc_bgp.specs.Known.{path_at};
+ghost use Rattle.rc_bgp.specs.RouterStates.{path_at};
 ghost use Rattle.rc_bgp_session.specs.Passing as pass;
 
-use crate::known::paths_of;
 use crate::resolver::Resolver;
+use crate::router_state::paths_of;
 use crate::{Session, export};
 use rc_base::{Items, Prefix};
 use rc_bgp_session::{originated_default, taken};
@@ -108,7 +108,7 @@ fn heard_path(
 }
 
 /// What a router with this table hears over a session for a prefix.
-fn heard(
+fn path_heard(
     alloc: Global,
     net: &Network,
     state: &State,
@@ -117,7 +117,7 @@ fn heard(
     prefix: &Prefix,
 ) -> Result<Option<BgpPath>, AllocError>
     requires { All IsRouterState state.now }
-    ensures value { IfOk result (λ made. made ≡ spec.heard net.now state.now resolver.old session.now prefix.now) }
+    ensures value { IfOk result (λ made. made ≡ spec.path_heard net.now state.now resolver.old session.now prefix.now) }
     ensures same { OnOk result (resolver.new ≡ resolver.old) }
 {
     let advertised = advertised(alloc, net, state, session, prefix)?;
@@ -184,7 +184,7 @@ pub(crate) fn candidates_at(
 {
     let mut paths = own_at(alloc, own, prefix)?;
     for session in sessions {
-        let path = heard(alloc, net, state, resolver, session, prefix)?;
+        let path = path_heard(alloc, net, state, resolver, session, prefix)?;
         push_some(&mut paths, path)?;
     }
     Ok(paths)

@@ -6,39 +6,40 @@
 //! network, the sessions and what all routers knew before, in their order. Rounds keep the sessions that are configured, which no state
 //! changes, and see in each state which are up.
 //!
-//! The crate goes one way: what a router says of itself and its neighbours (`speaker`, `own`, `statement`), the sessions that two such
-//! statements make (`pairing`) and those that are up in a state (`up`, by `reaching` and `resolver`); the paths that a router originates
-//! (`originating`, `redistributing`, `own_paths`), what it hears of what others knew (`known`, `hearing`), its candidates and the best of
-//! them (`deciding`) with as many further next hops as it may use (`maximum`, `further`), and the routes that these give (`learning`).
-//! From one round to the next it decides again only where something that it read has changed (`alike`, `changes`, `mending`,
-//! `renewing`).
+//! The crate goes one way: what a router says of itself and its neighbours (`speaker`, `own_addresses`, `statement`), the sessions that two
+//! such statements make (`pairing`) and those that are up in a state (`up`, by `reaching` and `resolver`); the paths that a router originates
+//! (`originating` by lines `network`, `redistributing`, and `all_originated`), what it knew (`router_state`) and hears of what others knew
+//! (`hearing`), its candidates and the best of them (`deciding`) with as many further next hops as it may use (`maximum`, `further`), and the
+//! routes that these give (`learning`). `round_paths` gives a router's best paths from one round to the next and what changed in them
+//! (`changes`): where a router reads what it read before (`same_inputs`), only the prefixes that its senders told anew are decided again
+//! (`updating`).
 #![tactic(auto)]
 
-mod alike;
+mod all_originated;
 mod changes;
 mod deciding;
 mod further;
 mod hearing;
-mod known;
 mod learning;
 mod maximum;
-mod mending;
 mod originating;
-mod own;
-mod own_paths;
+mod own_addresses;
 mod pairing;
 mod reaching;
 mod redistributing;
-mod renewing;
 mod resolver;
+mod round_paths;
+mod router_state;
+mod same_inputs;
 mod speaker;
 mod statement;
 mod up;
+mod updating;
 
 pub use changes::{Changes, Renewed};
 pub use deciding::candidates;
 pub use learning::learned_route;
 pub use pairing::{ConfiguredSessions, configured_sessions};
 pub use rc_bgp_session::{Session, export, import};
-pub use renewing::{first_paths, renewed_paths};
+pub use round_paths::{first_paths, renewed_paths};
 pub use up::{Sessions, sessions};

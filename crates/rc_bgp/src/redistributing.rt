@@ -59,8 +59,8 @@ fn is_among(prefixes: &[Prefix], prefix: &Prefix) -> bool
 }
 
 /// Whether a line of a source takes a route.
-fn takes(source: PathSource, kinds: &OspfKinds, prefixes: &[Prefix], route: &Route) -> bool
-    ensures { result ≡ spec.takes source kinds.now prefixes.now route.now }
+fn redistributes(source: PathSource, kinds: &OspfKinds, prefixes: &[Prefix], route: &Route) -> bool
+    ensures { result ≡ spec.redistributes source kinds.now prefixes.now route.now }
 {
     match source {
         PathSource::Connected => is_connected(route.source),
@@ -93,7 +93,7 @@ fn redistributed(
 ) -> Result<Option<BgpPath>, AllocError>
     ensures { IfOk result (λ made. made ≡ spec.redistributed router file.now source kinds.now prefixes.now line.now route.now) }
 {
-    if !takes(source, kinds, prefixes, route) {
+    if !redistributes(source, kinds, prefixes, route) {
         return Ok(None);
     }
     if route.prefix.is_default() {

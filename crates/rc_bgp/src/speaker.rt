@@ -6,7 +6,7 @@ ghost use Rattle.std.specs.Ordering.{nat_cmp};
 ghost use Rattle.std.specs.BTreeSet.{keys, insert_key};
 ghost use Rattle.rc_bgp.specs.Speakers as spec;
 
-use crate::own::{identifier, router_addresses};
+use crate::own_addresses::{identifier, router_addresses};
 use crate::statement::statement_of;
 use rc_base::{Addr, IfId, Items, Prefix, RouterId};
 use rc_config::{BgpProcess, Network, RouterText};

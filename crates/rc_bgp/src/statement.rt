@@ -50,13 +50,13 @@ fn facing(own: &[OwnAddr], addr: Addr) -> Option<Addr>
 fn local_address(file: &RouterText, own: &[OwnAddr], neighbor: &Neighbor) -> Option<Addr>
     ensures { result ≡ spec.local_address file.now.interfaces own.now neighbor.now }
 {
-    match neighbor.update_source {
+    match neighbor.settings.update_source {
         Some(name) => source_address(file, &name),
         None => facing(own, neighbor.address),
     }
 }
 
-/// A statement, where it isn't shut down, names an AS and has a local address.
+/// A statement, where it is active and not shut down, names an AS and has a local address.
 pub(crate) fn statement_of(
     file: &RouterText,
     own: &[OwnAddr],
@@ -64,10 +64,10 @@ pub(crate) fn statement_of(
 ) -> Option<Statement>
     ensures { result ≡ spec.statement_of file.now.interfaces own.now neighbor.now }
 {
-    if neighbor.is_shutdown {
+    if neighbor.settings.is_shutdown || !neighbor.is_active {
         return None;
     }
-    match neighbor.remote_as {
+    match neighbor.settings.remote_as {
         None => None,
         Some(remote_as) => {
             let local = local_address(file, own, neighbor);
@@ -77,7 +77,7 @@ pub(crate) fn statement_of(
                     local,
                     neighbor: neighbor.address,
                     remote_as,
-                    is_multihop: neighbor.is_multihop,
+                    is_multihop: neighbor.settings.is_multihop,
                 }),
             }
         }

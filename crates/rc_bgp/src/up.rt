@@ -4,9 +4,9 @@ ghost use Rattle.std.specs.List.{filter, flat_map};
 ghost use Rattle.rc_route.specs.Tables.{IsRouterState};
 ghost use Rattle.rc_bgp.specs.Sessions as spec;
 
-use crate::known::table_of;
 use crate::pairing::configured_sessions;
 use crate::reaching::reaches;
+use crate::router_state::table_of;
 use crate::{ConfiguredSessions, Session};
 use rc_base::{Items, RouterId};
 use rc_config::Network;

@@ -15,7 +15,7 @@ use Rattle.rc_route.specs.Ways.{Way}
 use Rattle.rc_route.specs.declared.route.Route.{Route}
 use Rattle.rc_external.specs.AsExternal.{AsExternal}
 use Rattle.rc_external.specs.Externals.{IsByPrefix, by_prefix, prefix_of, row_for, sent_for}
-use Rattle.rc_external.specs.Routes.{route_over, route_to, routes_over}
+use Rattle.rc_external.specs.Routes.{external_route_over, external_route_to, routes_over}
 use Rattle.rc_external.specs.Ways.{best_external_way}
 use Rattle.rc_external.specs.declared.as_external.ExternalRow.{ExternalRow}
 use Rattle.rc_external.specs.declared.cost.ExternalCost.{ExternalCost}
@@ -63,13 +63,13 @@ rows_in_order (Err x) sent e = e
 
 -- ---- routes
 
-route_prefix : (p : Cidr) (best : Option (Way ExternalCost)) (route : Route) → option_map (route_over p) best ≡ Some route → route.prefix ≡ p
+route_prefix : (p : Cidr) (best : Option (Way ExternalCost)) (route : Route) → option_map (external_route_over p) best ≡ Some route → route.prefix ≡ p
 route_prefix p None route e = absurd (none-some route e)
-route_prefix p (Some w) route e = ap (λ (r : Route). r.prefix) (sym (same_Some (route_over p w) route e))
+route_prefix p (Some w) route e = ap (λ (r : Route). r.prefix) (sym (same_Some (external_route_over p w) route e))
 
 routes_over-in_order : (paths : List BoundaryPath) (rows : List ExternalRow) → IsByPrefix rows → IsTable (routes_over paths rows)
 routes_over-in_order paths rows h =
-    in_order_of (λ (row : ExternalRow). row.prefix) (λ (r : Route). r.prefix) (route_to paths) (λ row. route_prefix row.prefix (best_external_way paths row.externals)) rows h
+    in_order_of (λ (row : ExternalRow). row.prefix) (λ (r : Route). r.prefix) (external_route_to paths) (λ row. route_prefix row.prefix (best_external_way paths row.externals)) rows h
 
 pub routes_in_order : (result : Result (List Route) AllocError) (paths : List BoundaryPath) (rows : List ExternalRow) → IsByPrefix rows
     → IfOk result (λ routes. routes ≡ routes_over paths rows) → IfOk result IsTable

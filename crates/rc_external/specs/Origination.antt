@@ -37,15 +37,15 @@ is_in_as file asn = option_map_or (λ (b : BgpProcess). b.asn == asn) file.bgp f
 
 -- A line of this source takes routes of that one. Of BGP it takes what came from another AS, where the number is that of the router's
 -- own AS.
-abbrev pub takes : RouterText → RedistributedSource → Source → Bool
-takes file line.Connected Connected = true
-takes file line.Static Static = true
-takes file (line.Bgp asn) Ebgp = is_in_as file asn
-takes file _ _ = false
+abbrev pub matches_source : RouterText → RedistributedSource → Source → Bool
+matches_source file line.Connected Connected = true
+matches_source file line.Static Static = true
+matches_source file (line.Bgp asn) Ebgp = is_in_as file asn
+matches_source file _ _ = false
 
 -- the line that takes routes of a source
 abbrev pub line_for : RouterText → OspfProcess → Source → Option Redistribution
-line_for file p source = find (λ (l : Redistribution). takes file l.source source) p.redistributions
+line_for file p source = find (λ (l : Redistribution). matches_source file l.source source) p.redistributions
 
 -- The default route never passes, and without `subnets` only prefixes of their class's length.
 abbrev pub passes : Redistribution → Cidr → Bool
@@ -63,10 +63,10 @@ metric_of l = unwrap_or l.metric (default_metric l.source)
 abbrev pub type_of : Redistribution → MetricType
 type_of l = unwrap_or l.metric_type Type2
 
--- the best path to the prefix of a route that it gave
-abbrev pub path_for : Source → Cidr → List Best → Option BgpPath
-path_for Ebgp p paths = best_path_for paths p
-path_for _ p paths = None
+-- the best path that a route came from, where another AS sent it
+abbrev pub ebgp_path_of : Source → Cidr → List Best → Option BgpPath
+ebgp_path_of Ebgp p paths = best_path_for paths p
+ebgp_path_of _ p paths = None
 
 -- What the route map of a line sees of a route: the metric and the type that it would be sent with, and the other attributes of its best
 -- path, or those of what begins here.
@@ -82,15 +82,15 @@ attrs_with l p path = record {
   communities = option_map_or (λ (b : BgpPath). b.communities) path [];
 }
 
-abbrev pub attrs_of : List Best → Redistribution → Route → Attrs
-attrs_of paths l x = attrs_with l x.prefix (path_for x.source x.prefix paths)
+abbrev pub attrs_of_route : List Best → Redistribution → Route → Attrs
+attrs_of_route paths l x = attrs_with l x.prefix (ebgp_path_of x.source x.prefix paths)
 
 -- what router r sends of a route with these attributes
 abbrev pub external_of : ℕ → Cidr → Attrs → AsExternal
 external_of r p a = record { boundary = r; prefix = p; metric = sent_metric a.metric; metric_type = a.metric_type }
 
 abbrev pub redistributed_by : ℕ → RouterText → List Best → Route → Redistribution → Option AsExternal
-redistributed_by r file paths x l = if passes l x.prefix then option_map (external_of r x.prefix) (mapped file l.route_map (attrs_of paths l x)) else None
+redistributed_by r file paths x l = if passes l x.prefix then option_map (external_of r x.prefix) (mapped file l.route_map (attrs_of_route paths l x)) else None
 
 -- what it sends of a route of its table, beside its best paths
 abbrev pub redistributed : ℕ → RouterText → OspfProcess → List Best → Route → Option AsExternal

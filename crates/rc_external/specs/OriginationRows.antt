@@ -1,5 +1,5 @@
 -- Worked cases of what AS boundary routers send, each by computation.
-use Rattle.std.specs.Prelude.{◌≡◌, ℕ, ◌+◌, ◌*◌, Bool, true, false, List, [], ◌∷◌, map, ◌++◌, Option, Some, None, codes, refl}
+use Rattle.std.specs.Prelude.{◌≡◌, ℕ, ◌+◌, ◌*◌, true, false, List, [], ◌∷◌, map, Some, None, codes, refl}
 use Rattle.std.specs.List.{fold}
 use Rattle.rc_base.specs.Prefix.{Cidr}
 use Rattle.rc_config.specs.Update.{after, empty}

@@ -22,15 +22,15 @@ abbrev pub source_by_type : MetricType → Source
 source_by_type Type1 = OspfE1
 source_by_type Type2 = OspfE2
 
-abbrev pub route_over : Cidr → Way ExternalCost → Route
-route_over p w = record { prefix = p; source = source_by_type w.cost.metric_type; distance = 110; metric = w.cost.metric; hops = in_order hop_cmp w.hops }
+abbrev pub external_route_over : Cidr → Way ExternalCost → Route
+external_route_over p w = record { prefix = p; source = source_by_type w.cost.metric_type; distance = 110; metric = w.cost.metric; hops = in_order hop_cmp w.hops }
 
-abbrev pub route_to : List BoundaryPath → ExternalRow → Option Route
-route_to paths row = option_map (route_over row.prefix) (best_external_way paths row.externals)
+abbrev pub external_route_to : List BoundaryPath → ExternalRow → Option Route
+external_route_to paths row = option_map (external_route_over row.prefix) (best_external_way paths row.externals)
 
 -- a route for each prefix of some rows to which a way leads
 abbrev pub routes_over : List BoundaryPath → List ExternalRow → List Route
-routes_over paths rows = filter_map (route_to paths) rows
+routes_over paths rows = filter_map (external_route_to paths) rows
 
 -- the external routes of a router: of what other routers send, its own prefixes and internal ones included
 abbrev pub external_routes : Internal → List ExternalRow → ℕ → List Route

@@ -51,8 +51,8 @@ fn is_in_as(file: &RouterText, asn: u32) -> bool
 }
 
 /// Whether a line of this source takes routes of that one.
-fn takes(file: &RouterText, line: RedistributedSource, source: Source) -> bool
-    ensures { result ≡ spec.takes file.now line source }
+fn matches_source(file: &RouterText, line: RedistributedSource, source: Source) -> bool
+    ensures { result ≡ spec.matches_source file.now line source }
 {
     match (line, source) {
         (RedistributedSource::Connected, Source::Connected) => true,
@@ -74,7 +74,7 @@ fn line_for<'a>(
         .redistributions
         .as_slice()
         .iter()
-        .find(|line| takes(file, line.source, source))
+        .find(|line| matches_source(file, line.source, source))
 }
 
 /// Whether a line lets a prefix pass: never the default route, and without `subnets` only one of its class's length.
@@ -103,10 +103,10 @@ fn type_of(line: &Redistribution) -> MetricType
     line.metric_type.unwrap_or(MetricType::Type2)
 }
 
-/// The best path to the prefix of a route that it gave.
-fn path_for<'a>(source: Source, prefix: &Prefix, paths: &'a [Best]) -> Option<&'a BgpPath>
+/// The best path that a route of this source came from, where another AS sent it.
+fn ebgp_path_of<'a>(source: Source, prefix: &Prefix, paths: &'a [Best]) -> Option<&'a BgpPath>
     requires { IsBestList paths.now }
-    ensures { option_copied result ≡ spec.path_for source prefix.now paths.now }
+    ensures { option_copied result ≡ spec.ebgp_path_of source prefix.now paths.now }
 {
     match source {
         Source::Ebgp => best_path_for(paths, prefix),
@@ -151,11 +151,11 @@ fn attrs_with(
 }
 
 /// What the route map of a line sees of a route.
-fn attrs_of(paths: &[Best], line: &Redistribution, route: &Route) -> Result<Attrs, AllocError>
+fn attrs_of_route(paths: &[Best], line: &Redistribution, route: &Route) -> Result<Attrs, AllocError>
     requires { IsBestList paths.now }
-    ensures { IfOk result (λ attrs. attrs ≡ spec.attrs_of paths.now line.now route.now) }
+    ensures { IfOk result (λ attrs. attrs ≡ spec.attrs_of_route paths.now line.now route.now) }
 {
-    let path = path_for(route.source, &route.prefix, paths);
+    let path = ebgp_path_of(route.source, &route.prefix, paths);
     attrs_with(line, route.prefix, path)
 }
 
@@ -216,7 +216,7 @@ fn redistributed_by(
     }
     match &line.route_map {
         Some(name) => {
-            let attrs = attrs_of(paths, line, route)?;
+            let attrs = attrs_of_route(paths, line, route)?;
             sent_through(alloc, router, file, route.prefix, name, attrs)
         }
         None => Ok(Some(External::new(

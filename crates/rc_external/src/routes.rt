@@ -24,8 +24,12 @@ fn source_by_type(metric_type: MetricType) -> Source
 }
 
 /// The route over a way.
-fn route_over(alloc: Global, prefix: Prefix, way: &ExternalWay) -> Result<Route, AllocError>
-    ensures { IfOk result (λ route. route ≡ spec.route_over prefix (as_way way.now)) }
+fn external_route_over(
+    alloc: Global,
+    prefix: Prefix,
+    way: &ExternalWay,
+) -> Result<Route, AllocError>
+    ensures { IfOk result (λ route. route ≡ spec.external_route_over prefix (as_way way.now)) }
 {
     let hops = hops_in_order(alloc, way.hops.as_slice())?;
     Ok(Route {
@@ -39,15 +43,15 @@ fn route_over(alloc: Global, prefix: Prefix, way: &ExternalWay) -> Result<Route,
 
 /// The route to the prefix of a row, where a way leads there.
 #[tactic(auto, using(crate::proofs::WayLaws::best_way_is))]
-fn route_to(
+fn external_route_to(
     alloc: Global,
     paths: &BoundaryIndex<'_>,
     row: &ExternalRow,
 ) -> Result<Option<Route>, AllocError>
-    ensures { IfOk result (λ route. route ≡ spec.route_to paths.now row.now) }
+    ensures { IfOk result (λ route. route ≡ spec.external_route_to paths.now row.now) }
 {
     match best_external_way(alloc, paths, row.externals.as_slice())? {
-        Some(way) => Ok(Some(route_over(alloc, row.prefix, &way)?)),
+        Some(way) => Ok(Some(external_route_over(alloc, row.prefix, &way)?)),
         None => Ok(None),
     }
 }
@@ -62,7 +66,7 @@ fn routes_over(
 {
     let mut routes = Items::new(alloc);
     for row in rows {
-        if let Some(route) = route_to(alloc, paths, row)? {
+        if let Some(route) = external_route_to(alloc, paths, row)? {
             routes.push(route)?;
         }
     }

@@ -14,7 +14,7 @@ use Rattle.rc_route.specs.Ways.{Way, lower, least_cost, hops_at, best_of}
 use Rattle.rc_route.specs.declared.route.Hop.{Hop}
 use Rattle.rc_route.proofs.WayLaws as way_laws
 use Rattle.rc_ospf.specs.BestOffers.{better_of, better, best_from, HasBest}
-use Rattle.rc_ospf.specs.ByPrefix.{path_for, way_for, ways_of, cost_to, hops_for}
+use Rattle.rc_ospf.specs.ByPrefix.{path_to_offer, way_to_offer, ways_of, cost_to, hops_for}
 use Rattle.rc_ospf.specs.Offered.{Offered}
 use Rattle.rc_ospf.specs.Walks.{LeastWalks, Reach}
 use Rattle.rc_ospf.specs.Ways.{way_over, cost_of}
@@ -71,7 +71,7 @@ Known reach others r all ws best = MatchOption best (ws ≡ []) (IsSoFar reach o
 
 module _ (reach : Reach) (others : Bool) (r : ℕ) (all : List Offered) where
   -- one more, to the offer at a place
-  module _ (ws : List (Way ℕ)) (o : Offered) (e : LeastWalks) (i : ℕ) (lt : i < length all) (here : (d : Offered) → get_or all i d ≡ o) (found : path_for reach others r o ≡ Some e) where
+  module _ (ws : List (Way ℕ)) (o : Offered) (e : LeastWalks) (i : ℕ) (lt : i < length all) (here : (d : Offered) → get_or all i d ≡ o) (found : path_to_offer reach others r o ≡ Some e) where
     hops_here : (k : ℕ) (d : Offered) → hops_for reach others r k (get_or all i d) ≡ cond (e.cost + o.cost == k) e.hops []
     hops_here k d = ap (hops_for reach others r k) (here d) ∙ ap (λ p. option_map_or (λ (x : LeastWalks). cond (x.cost + o.cost == k) x.hops []) p []) found
 
@@ -130,20 +130,20 @@ module _ (reach : Reach) (others : Bool) (r : ℕ) (all : List Offered) where
     way_taken None known = after_none known
     way_taken (Some b) known = after_some b known
 
-  ways_more : (front : List Offered) (o : Offered) → ways_of reach others r (front ++ o ∷ []) ≡ ways_of reach others r front ++ cons_option (way_for reach others r o) []
+  ways_more : (front : List Offered) (o : Offered) → ways_of reach others r (front ++ o ∷ []) ≡ ways_of reach others r front ++ cons_option (way_to_offer reach others r o) []
   ways_more [] o = refl
-  ways_more (x ∷ front) o = by (way_for reach others r x) (ways_more front o)
+  ways_more (x ∷ front) o = by (way_to_offer reach others r x) (ways_more front o)
     where
-      by : (w : Option (Way ℕ)) → ways_of reach others r (front ++ o ∷ []) ≡ ways_of reach others r front ++ cons_option (way_for reach others r o) []
-          → cons_option w (ways_of reach others r (front ++ o ∷ [])) ≡ cons_option w (ways_of reach others r front) ++ cons_option (way_for reach others r o) []
+      by : (w : Option (Way ℕ)) → ways_of reach others r (front ++ o ∷ []) ≡ ways_of reach others r front ++ cons_option (way_to_offer reach others r o) []
+          → cons_option w (ways_of reach others r (front ++ o ∷ [])) ≡ cons_option w (ways_of reach others r front) ++ cons_option (way_to_offer reach others r o) []
       by None rest = rest
       by (Some w) rest = ap (λ ws. w ∷ ws) rest
 
   offer_taken : (front : List Offered) (o : Offered) (best : Option Best) (i : ℕ) → i < length all → ((d : Offered) → get_or all i d ≡ o)
       → Known reach others r all (ways_of reach others r front) best → Known reach others r all (ways_of reach others r (front ++ o ∷ [])) (better (cost_to reach others r o) best i)
-  offer_taken front o best i lt here known = subst (λ ws. Known reach others r all ws (better (cost_to reach others r o) best i)) (sym (ways_more front o)) (by (path_for reach others r o) refl)
+  offer_taken front o best i lt here known = subst (λ ws. Known reach others r all ws (better (cost_to reach others r o) best i)) (sym (ways_more front o)) (by (path_to_offer reach others r o) refl)
     where
-      by : (p : Option LeastWalks) → path_for reach others r o ≡ p → Known reach others r all (ways_of reach others r front ++ cons_option (option_map (λ (e : LeastWalks). way_over (e.cost + o.cost) e) p) [])
+      by : (p : Option LeastWalks) → path_to_offer reach others r o ≡ p → Known reach others r all (ways_of reach others r front ++ cons_option (option_map (λ (e : LeastWalks). way_over (e.cost + o.cost) e) p) [])
           (better (option_map (λ (e : LeastWalks). e.cost + o.cost) p) best i)
       by None found = subst (λ ws. Known reach others r all ws best) (sym (append-nil (ways_of reach others r front))) known
       by (Some e) found = way_taken (ways_of reach others r front) o e i lt here found best known
@@ -179,7 +179,7 @@ module _ (reach : Reach) (others : Bool) (r : ℕ) (all : List Offered) where
       by (Some b) known = record { within = known.within; alone = known.alone }
 
 -- the hops of the way to an offer, which are in order
-pub way_hops : (reach : Reach) (others : Bool) (r cost : ℕ) (o : Offered) (e : LeastWalks) (hops : List Hop) → path_for reach others r o ≡ Some e → e.cost + o.cost ≡ cost
+pub way_hops : (reach : Reach) (others : Bool) (r cost : ℕ) (o : Offered) (e : LeastWalks) (hops : List Hop) → path_to_offer reach others r o ≡ Some e → e.cost + o.cost ≡ cost
     → hops ≡ e.hops → IsStrictlySortedBy hop_cmp hops → hops ≡ in_order hop_cmp (hops_for reach others r cost o)
 way_hops reach others r cost o e hops found costs are rise =
     let here : hops_for reach others r cost o ≡ e.hops = ap (λ p. option_map_or (λ (x : LeastWalks). cond (x.cost + o.cost == cost) x.hops []) p []) found

@@ -15,9 +15,9 @@ use Rattle.rc_route.specs.Tables.{IsTable}
 use Rattle.rc_route.specs.declared.route.Route.{Route}
 use Rattle.rc_route.specs.declared.route.Source.TheVariants.{Ospf, OspfIa}
 use Rattle.rc_route.specs.Ways.{Way}
-use Rattle.rc_ospf.specs.Areas.{OspfRouter, is_own, summaries_of, inter}
+use Rattle.rc_ospf.specs.Areas.{OspfRouter, is_offered_by, summaries_of, inter}
 use Rattle.rc_ospf.specs.Offered.{Offered}
-use Rattle.rc_ospf.specs.Routes.{advert_prefix, offers_at, offered_row, offered_rows, default_row, with_default, route_over, route_to, internal_route, internal_routes}
+use Rattle.rc_ospf.specs.Routes.{advert_prefix, offers_at, offered_row, offered_rows, default_row, with_default, internal_route_over, internal_route_to, internal_route, internal_routes}
 use Rattle.rc_ospf.specs.Ways.{best_way}
 use Rattle.rc_ospf.proofs.FitLaws.{all_of}
 use Rattle.rc_ospf.specs.declared.grouping.Row.{Row}
@@ -87,18 +87,18 @@ default_sorted (row ∷ rows) up = by (is_default row.prefix) refl
     by true is = up
     by false is = ((default_first row.prefix is, less is (map row_prefix rows) up.0), up)
 
-route_keeps : (m : OspfRouter) (p : Cidr) (inside : List Offered) (s : Summaries) (route : Route) → route_to m p inside s ≡ Some route → route.prefix ≡ p
-route_keeps m p inside s route is = by_own (list_any (is_own m.router) inside) is
+route_keeps : (m : OspfRouter) (p : Cidr) (inside : List Offered) (s : Summaries) (route : Route) → internal_route_to m p inside s ≡ Some route → route.prefix ≡ p
+route_keeps m p inside s route is = by_own (list_any (is_offered_by m.router) inside) is
   where
-    by_inter : (w : Option (Way ℕ)) → option_map (route_over OspfIa p) w ≡ Some route → route.prefix ≡ p
+    by_inter : (w : Option (Way ℕ)) → option_map (internal_route_over OspfIa p) w ≡ Some route → route.prefix ≡ p
     by_inter None is = absurd (cc)
-    by_inter (Some w) is = let same : route_over OspfIa p w ≡ route = cc in sym (ap route_prefix same)
+    by_inter (Some w) is = let same : internal_route_over OspfIa p w ≡ route = cc in sym (ap route_prefix same)
 
-    by_intra : (w : Option (Way ℕ)) → option_or (option_map (route_over Ospf p) w) (option_map (route_over OspfIa p) (inter m s)) ≡ Some route → route.prefix ≡ p
+    by_intra : (w : Option (Way ℕ)) → option_or (option_map (internal_route_over Ospf p) w) (option_map (internal_route_over OspfIa p) (inter m s)) ≡ Some route → route.prefix ≡ p
     by_intra None is = by_inter (inter m s) is
-    by_intra (Some w) is = let same : route_over Ospf p w ≡ route = cc in sym (ap route_prefix same)
+    by_intra (Some w) is = let same : internal_route_over Ospf p w ≡ route = cc in sym (ap route_prefix same)
 
-    by_own : (b : Bool) → cond b None (option_or (option_map (route_over Ospf p) (best_way m.reach inside)) (option_map (route_over OspfIa p) (inter m s))) ≡ Some route → route.prefix ≡ p
+    by_own : (b : Bool) → cond b None (option_or (option_map (internal_route_over Ospf p) (best_way m.reach inside)) (option_map (internal_route_over OspfIa p) (inter m s))) ≡ Some route → route.prefix ≡ p
     by_own true is = absurd (cc)
     by_own false is = by_intra (best_way m.reach inside) is
 

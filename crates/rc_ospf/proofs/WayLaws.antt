@@ -6,12 +6,12 @@ use Rattle.std.specs.Option.{option_map, option_map_or, option_or}
 use Rattle.std.specs.Ordering.{eq_by_cmp, nat_cmp}
 use Rattle.rc_route.specs.Ways.{Way, least_cost, hops_at, best_of}
 use Rattle.rc_route.proofs.WayLaws.{same_number}
-use Rattle.rc_ospf.specs.Areas.{OspfRouter, is_own, of_others, inter}
+use Rattle.rc_ospf.specs.Areas.{OspfRouter, is_offered_by, of_others, inter}
 use Rattle.rc_ospf.specs.Offered.{Offered}
 use Rattle.rc_ospf.specs.RouterAreas.{is_in}
 use Rattle.rc_ospf.specs.Walks.{LeastWalks, Reach}
 use Rattle.rc_ospf.specs.Ways.{way_over, way_to, best_way, cost_of}
-use Rattle.rc_ospf.specs.ByPrefix.{path_for, ways_of, hops_for, heard}
+use Rattle.rc_ospf.specs.ByPrefix.{path_to_offer, ways_of, hops_for, summary_offers}
 use Rattle.rc_ospf.specs.declared.summaries.Summaries.{Summaries}
 
 -- the best of some ways has their least cost, and the hops of all that cost as much
@@ -26,7 +26,7 @@ module _ (reach : Reach) (others : Bool) (r : ℕ) where
   -- the hops of all offers are those of all ways
   pub hops_are : (cost : ℕ) (offers : List Offered) → flat_map (hops_for reach others r cost) offers ≡ hops_at nat_cmp cost (ways_of reach others r offers)
   hops_are cost [] = refl
-  hops_are cost (o ∷ os) = by (path_for reach others r o) (hops_are cost os)
+  hops_are cost (o ∷ os) = by (path_to_offer reach others r o) (hops_are cost os)
     where
       at : (b : Bool) (e : LeastWalks) → flat_map (hops_for reach others r cost) os ≡ hops_at nat_cmp cost (ways_of reach others r os) →
           cond b e.hops [] ++ flat_map (hops_for reach others r cost) os
@@ -46,7 +46,7 @@ module _ (reach : Reach) (others : Bool) (r : ℕ) where
 -- where the offers of the router itself are left out the others are left
 pub ways_to_others : (reach : Reach) (r : ℕ) (offers : List Offered) → ways_of reach true r offers ≡ filter_map (way_to reach) (of_others r offers)
 ways_to_others reach r [] = refl
-ways_to_others reach r (o ∷ os) = by (is_own r o) (ways_to_others reach r os)
+ways_to_others reach r (o ∷ os) = by (is_offered_by r o) (ways_to_others reach r os)
   where
     by : (b : Bool) → ways_of reach true r os ≡ filter_map (way_to reach) (of_others r os) →
         cons_option (option_map (λ (e : LeastWalks). way_over (e.cost + o.cost) e) (cond b None (reach o.area o.router))) (ways_of reach true r os)
@@ -55,10 +55,10 @@ ways_to_others reach r (o ∷ os) = by (is_own r o) (ways_to_others reach r os)
     by false rest = ap (cons_option (way_to reach o)) rest
 
 -- the way between areas is the best to what is heard
-pub inter_is : (m : OspfRouter) (s : Summaries) → best_of nat_cmp (ways_of m.reach (is_in 0 m.areas) m.router (heard (is_in 0 m.areas) s)) ≡ inter m s
+pub inter_is : (m : OspfRouter) (s : Summaries) → best_of nat_cmp (ways_of m.reach (is_in 0 m.areas) m.router (summary_offers (is_in 0 m.areas) s)) ≡ inter m s
 inter_is m s = by (is_in 0 m.areas)
   where
-    by : (b : Bool) → best_of nat_cmp (ways_of m.reach b m.router (heard b s)) ≡ cond b (best_way m.reach (of_others m.router s.backbone)) (best_way m.reach s.outward)
+    by : (b : Bool) → best_of nat_cmp (ways_of m.reach b m.router (summary_offers b s)) ≡ cond b (best_way m.reach (of_others m.router s.backbone)) (best_way m.reach s.outward)
     by true = ap (best_of nat_cmp) (ways_to_others m.reach m.router s.backbone)
     by false = refl
 
@@ -66,6 +66,6 @@ pub over_either : {X Y : Type 0} (f : X → Y) (a b : Option X) → option_map f
 over_either f None b = refl
 over_either f (Some x) b = refl
 
-pub inter_by : (m : OspfRouter) (s : Summaries) (b : Bool) (offers : List Offered) → b ≡ is_in 0 m.areas → offers ≡ heard b s → best_of nat_cmp (ways_of m.reach b m.router offers) ≡ inter m s
+pub inter_by : (m : OspfRouter) (s : Summaries) (b : Bool) (offers : List Offered) → b ≡ is_in 0 m.areas → offers ≡ summary_offers b s → best_of nat_cmp (ways_of m.reach b m.router offers) ≡ inter m s
 inter_by m s b offers is are =
-    ap (λ os. best_of nat_cmp (ways_of m.reach b m.router os)) are ∙ ap (λ x. best_of nat_cmp (ways_of m.reach x m.router (heard x s))) is ∙ inter_is m s
+    ap (λ os. best_of nat_cmp (ways_of m.reach b m.router os)) are ∙ ap (λ x. best_of nat_cmp (ways_of m.reach x m.router (summary_offers x s))) is ∙ inter_is m s

@@ -38,8 +38,8 @@ without_stubs m = record { router = m.router; areas = open_areas m.areas; reach 
 abbrev pub offer : ℕ → ℕ → ℕ → Offered
 offer router area cost = record { router = router; area = area; cost = cost }
 
-abbrev pub is_own : ℕ → Offered → Bool
-is_own r o = o.router == r
+abbrev pub is_offered_by : ℕ → Offered → Bool
+is_offered_by r o = o.router == r
 
 -- ---- summaries
 
@@ -68,7 +68,7 @@ backbone_summaries routers inside = filter_map (backbone_offer inside) routers
 
 -- the way between areas of a router in the backbone: to another border router, and on at its summary
 abbrev pub of_others : ℕ → List Offered → List Offered
-of_others r offers = filter (λ o. not (is_own r o)) offers
+of_others r offers = filter (λ o. not (is_offered_by r o)) offers
 
 abbrev pub inter_in_backbone : OspfRouter → List Offered → Option (Way ℕ)
 inter_in_backbone m backbone = best_way m.reach (of_others m.router backbone)

@@ -44,13 +44,13 @@ abbrev pub path_over : ℕ → Way ℕ → BoundaryPath
 path_over s w = record { router = s; cost = w.cost; hops = in_order hop_cmp w.hops }
 
 -- the path of a router to another one: inside an area where there is one, and else between areas
-abbrev pub path_to : OspfRouter → ℕ → List Offered → Summaries → Option BoundaryPath
-path_to m s inside summaries = if m.router == s then None else option_map (path_over s) (option_or (best_way m.reach inside) (inter m summaries))
+abbrev pub boundary_path_by : OspfRouter → ℕ → List Offered → Summaries → Option BoundaryPath
+boundary_path_by m s inside summaries = if m.router == s then None else option_map (path_over s) (option_or (best_way m.reach inside) (inter m summaries))
 
 -- stub areas left out at each router
 abbrev pub boundary_path : Network → List OspfRouter → OspfRouter → ℕ → Option BoundaryPath
 boundary_path net routers m s =
-    path_to (without_stubs m) s (boundary_offers net s) (summaries_of (map without_stubs routers) false (boundary_offers net s))
+    boundary_path_by (without_stubs m) s (boundary_offers net s) (summaries_of (map without_stubs routers) false (boundary_offers net s))
 
 -- the paths of a router to the others that are AS boundary routers
 abbrev pub boundary_paths : Network → List OspfRouter → OspfRouter → List BoundaryPath

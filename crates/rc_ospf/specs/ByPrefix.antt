@@ -6,9 +6,9 @@ use Rattle.rc_base.specs.Prefix.{Cidr, is_default}
 use Rattle.rc_route.specs.declared.route.Hop.{Hop}
 use Rattle.rc_route.specs.declared.route.Route.{Route}
 use Rattle.rc_route.specs.Ways.{Way}
-use Rattle.rc_ospf.specs.Areas.{OspfRouter, is_own, summaries_of}
+use Rattle.rc_ospf.specs.Areas.{OspfRouter, is_offered_by, summaries_of}
 use Rattle.rc_ospf.specs.Offered.{Offered}
-use Rattle.rc_ospf.specs.Routes.{route_to}
+use Rattle.rc_ospf.specs.Routes.{internal_route_to}
 use Rattle.rc_ospf.specs.Walks.{LeastWalks, Reach}
 use Rattle.rc_ospf.specs.Ways.{way_over}
 use Rattle.rc_ospf.specs.declared.destination.Destination.{Destination}
@@ -24,31 +24,31 @@ abbrev pub row_of : Cidr × List Offered → Row
 row_of e = record { prefix = e.0; offers = e.1 }
 
 -- the least walks to the router of an offer; those of router r itself may be left out
-abbrev pub path_for : Reach → Bool → ℕ → Offered → Option LeastWalks
-path_for reach others r o = if others && is_own r o then None else reach o.area o.router
+abbrev pub path_to_offer : Reach → Bool → ℕ → Offered → Option LeastWalks
+path_to_offer reach others r o = if others && is_offered_by r o then None else reach o.area o.router
 
-abbrev pub way_for : Reach → Bool → ℕ → Offered → Option (Way ℕ)
-way_for reach others r o = option_map (λ (e : LeastWalks). way_over (e.cost + o.cost) e) (path_for reach others r o)
+abbrev pub way_to_offer : Reach → Bool → ℕ → Offered → Option (Way ℕ)
+way_to_offer reach others r o = option_map (λ (e : LeastWalks). way_over (e.cost + o.cost) e) (path_to_offer reach others r o)
 
 -- the ways to some offers
 abbrev pub ways_of : Reach → Bool → ℕ → List Offered → List (Way ℕ)
-ways_of reach others r offers = filter_map (way_for reach others r) offers
+ways_of reach others r offers = filter_map (way_to_offer reach others r) offers
 
 abbrev pub cost_to : Reach → Bool → ℕ → Offered → Option ℕ
-cost_to reach others r o = option_map (λ (e : LeastWalks). e.cost + o.cost) (path_for reach others r o)
+cost_to reach others r o = option_map (λ (e : LeastWalks). e.cost + o.cost) (path_to_offer reach others r o)
 
 -- the hops of the way to an offer, where it costs so much
 abbrev pub hops_for : Reach → Bool → ℕ → ℕ → Offered → List Hop
-hops_for reach others r cost o = option_map_or (λ (e : LeastWalks). if e.cost + o.cost == cost then e.hops else []) (path_for reach others r o) []
+hops_for reach others r cost o = option_map_or (λ (e : LeastWalks). if e.cost + o.cost == cost then e.hops else []) (path_to_offer reach others r o) []
 
--- what is heard of border routers: in the backbone that of its summaries, and outside of it that of the others
-abbrev pub heard : Bool → Summaries → List Offered
-heard true s = s.backbone
-heard false s = s.outward
+-- the offers that border routers summarise: for a router in the backbone those sent into it, for another one those sent out of it
+abbrev pub summary_offers : Bool → Summaries → List Offered
+summary_offers true s = s.backbone
+summary_offers false s = s.outward
 
 -- a prefix with its summaries
 abbrev pub destination_of : List OspfRouter → Row → Destination
 destination_of routers row = record { prefix = row.prefix; inside = row.offers; summaries = summaries_of routers (is_default row.prefix) row.offers }
 
 abbrev pub route_of : OspfRouter → Destination → Option Route
-route_of m d = route_to m d.prefix d.inside d.summaries
+route_of m d = internal_route_to m d.prefix d.inside d.summaries

@@ -56,6 +56,6 @@ boundaries_of i r = unwrap_or (slice_get i.boundaries r) []
 abbrev pub own_of : Internal → ℕ → List Cidr
 own_of i r = unwrap_or (slice_get i.own r) []
 
--- whether a prefix is one of those
+-- whether a router advertises a prefix itself, as one of its own interfaces has it
 abbrev pub advertises : Internal → ℕ → Cidr → Bool
 advertises i r p = list_any (same_prefix p) (own_of i r)

@@ -11,7 +11,7 @@ use Rattle.rc_route.specs.declared.route.Source.{Source}
 use Rattle.rc_route.specs.declared.route.Source.TheVariants.{Ospf, OspfIa}
 use Rattle.rc_route.specs.Ways.{Way}
 use Rattle.rc_ospf.specs.Adverts.{adverts_of}
-use Rattle.rc_ospf.specs.Areas.{OspfRouter, is_own, summaries_of, inter}
+use Rattle.rc_ospf.specs.Areas.{OspfRouter, is_offered_by, summaries_of, inter}
 use Rattle.rc_ospf_interfaces.specs.Interfaces.{interfaces_at}
 use Rattle.rc_ospf.specs.Offered.{Offered}
 use Rattle.rc_ospf.specs.Ways.{best_way}
@@ -45,21 +45,21 @@ starts_with_default (row ∷ rows) = is_default row.prefix
 abbrev pub with_default : List Row → List Row
 with_default rows = if starts_with_default rows then rows else default_row ∷ rows
 
-abbrev pub route_over : Source → Cidr → Way ℕ → Route
-route_over source p w = record { prefix = p; source = source; distance = 110; metric = w.cost; hops = in_order hop_cmp w.hops }
+abbrev pub internal_route_over : Source → Cidr → Way ℕ → Route
+internal_route_over source p w = record { prefix = p; source = source; distance = 110; metric = w.cost; hops = in_order hop_cmp w.hops }
 
 -- its metric, with one from outside of the AS added (below 2^24), stays below 2^32
 abbrev pub IsShortRoute : Route → Type 0
 IsShortRoute route = route.metric < 2 ^ 27
 
 -- inside areas before between areas, whatever they cost, and none to a prefix that the router advertises itself
-abbrev pub route_to : OspfRouter → Cidr → List Offered → Summaries → Option Route
-route_to m p inside summaries =
-    if list_any (is_own m.router) inside then None
-    else option_or (option_map (route_over Ospf p) (best_way m.reach inside)) (option_map (route_over OspfIa p) (inter m summaries))
+abbrev pub internal_route_to : OspfRouter → Cidr → List Offered → Summaries → Option Route
+internal_route_to m p inside summaries =
+    if list_any (is_offered_by m.router) inside then None
+    else option_or (option_map (internal_route_over Ospf p) (best_way m.reach inside)) (option_map (internal_route_over OspfIa p) (inter m summaries))
 
 abbrev pub internal_route : List OspfRouter → OspfRouter → Row → Option Route
-internal_route routers m row = route_to m row.prefix row.offers (summaries_of routers (is_default row.prefix) row.offers)
+internal_route routers m row = internal_route_to m row.prefix row.offers (summaries_of routers (is_default row.prefix) row.offers)
 
 -- the routes of a router inside and between areas, by address, then length
 unfoldable pub internal_routes : List OspfRouter → List Advert → OspfRouter → List Route

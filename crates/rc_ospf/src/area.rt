@@ -160,7 +160,7 @@ fn hops_to(alloc: Global, steps: &[Step], tree: &Tree, node: usize) -> Result<Ho
 }
 
 /// What is kept of the least walks to a node.
-fn path_to(
+fn path_to_node(
     alloc: Global,
     steps: &[Step],
     tree: &Tree,
@@ -191,7 +191,7 @@ fn paths_of(alloc: Global, steps: &[Step], tree: &Tree) -> Result<Items<Option<P
 {
     let mut paths = with_room(alloc, tree.costs.len())?;
     for node in 0..tree.costs.len() {
-        paths.push(path_to(alloc, steps, tree, node)?)?;
+        paths.push(path_to_node(alloc, steps, tree, node)?)?;
     }
     Ok(paths)
 }

@@ -13,7 +13,7 @@ ghost use Rattle.rc_route.specs.Ways.{best_of};
 
 use crate::Offer;
 use crate::member::Member;
-use crate::way::{cost_to, hops_at, path_for};
+use crate::way::{cost_to, hops_at, path_to_offer};
 use rc_route::Hops;
 use std::alloc::{AllocError, Global};
 
@@ -106,7 +106,7 @@ fn hops_to(
 ) -> Result<Hops, AllocError>
     ensures { IfOk result (λ hops. hops ≡ in_order hop_cmp (hops_for (reach_of member.now) others member.now.router cost offer.now)) }
 {
-    let path = path_for(member, others, offer);
+    let path = path_to_offer(member, others, offer);
     match path {
         Some(path) => {
             if path.cost() + offer.cost() != cost {

@@ -16,7 +16,7 @@ ghost use Rattle.rc_route.specs.Ways.{best_of};
 use crate::best::{best_hops, best_way};
 use crate::member::{Member, StubAreas};
 use crate::router_area::{is_in_backbone, router_areas};
-use crate::routes::heard;
+use crate::routes::summary_offers;
 use crate::shares::{Makes, made_by};
 use crate::summaries::{Summaries, summaries_of, to_be_asked};
 use crate::{Boundary, Offer, RouterArea};
@@ -221,13 +221,17 @@ fn inter_path(
     ensures near { IfOk result (λ path. IfSome path IsNear) }
 {
     let in_backbone = is_in_backbone(member.areas(StubAreas::LeftOut));
-    let offers = heard(in_backbone, &target.summaries);
+    let offers = summary_offers(in_backbone, &target.summaries);
     best_path(alloc, target.router, member, in_backbone, offers)
 }
 
 /// The path of a router to another one, where there is one: inside an area where there is one, and else between areas.
 #[tactic(auto, using(crate::proofs::WayLaws::over_either))]
-fn path_to(alloc: Global, member: &Member, target: &Target) -> Result<Option<Boundary>, AllocError>
+fn path_to_target(
+    alloc: Global,
+    member: &Member,
+    target: &Target,
+) -> Result<Option<Boundary>, AllocError>
     ensures value { IfOk result (λ path. path ≡ path_of_target (known LeftOut member.now) target.now) }
     ensures near { IfOk result (λ path. IfSome path IsNear) }
 {
@@ -252,7 +256,7 @@ pub(crate) fn paths_to(
 {
     let mut paths = Items::new(alloc);
     for target in targets {
-        if let Some(path) = path_to(alloc, member, target)? {
+        if let Some(path) = path_to_target(alloc, member, target)? {
             paths.push(path)?;
         }
     }

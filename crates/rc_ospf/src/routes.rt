@@ -3,10 +3,10 @@ ghost use Rattle.std.specs.Prelude.{◌≡◌, IfOk, IfSome, All};
 ghost use Rattle.std.specs.List.{filter_map, list_any};
 ghost use Rattle.std.specs.Option.{option_map};
 ghost use Rattle.std.specs.Ordering.{nat_cmp};
-ghost use Rattle.rc_ospf.specs.Areas.{is_own, inter};
-ghost use Rattle.rc_ospf.specs.ByPrefix.{heard, route_of, ways_of};
+ghost use Rattle.rc_ospf.specs.Areas.{is_offered_by, inter};
+ghost use Rattle.rc_ospf.specs.ByPrefix.{summary_offers, route_of, ways_of};
 ghost use Rattle.rc_ospf.specs.Members.{reach_of, known};
-ghost use Rattle.rc_ospf.specs.Routes.{route_over, IsShortRoute};
+ghost use Rattle.rc_ospf.specs.Routes.{internal_route_over, IsShortRoute};
 ghost use Rattle.rc_route.specs.declared.route.Source.TheVariants.{Ospf, OspfIa};
 ghost use Rattle.rc_ospf.specs.declared.member.StubAreas.TheVariants.{Kept};
 ghost use Rattle.rc_route.specs.Ways.{best_of};
@@ -22,9 +22,9 @@ use rc_base::{Prefix, RouterId};
 use rc_route::{Route, Source, Table};
 use std::alloc::{AllocError, Global};
 
-/// What a router hears of border routers. In the backbone only the summaries of others count.
-pub(crate) fn heard(in_backbone: bool, summaries: &Summaries) -> &[Offer]
-    ensures { result.now ≡ heard in_backbone summaries.now }
+/// The offers that border routers summarise for a router. In the backbone only those of others count.
+pub(crate) fn summary_offers(in_backbone: bool, summaries: &Summaries) -> &[Offer]
+    ensures { result.now ≡ summary_offers in_backbone summaries.now }
 {
     if in_backbone {
         summaries.backbone.as_slice()
@@ -35,7 +35,7 @@ pub(crate) fn heard(in_backbone: bool, summaries: &Summaries) -> &[Offer]
 
 /// Whether the router offers it itself.
 fn offers_itself(router: RouterId, offers: &[Offer]) -> bool
-    ensures { result ≡ list_any (is_own router) offers.now }
+    ensures { result ≡ list_any (is_offered_by router) offers.now }
 {
     for offer in offers {
         if offer.router() == router {
@@ -55,7 +55,7 @@ fn best_route(
     offers: &[Offer],
 ) -> Result<Option<Route>, AllocError>
     ensures short { IfOk result (λ route. IfSome route IsShortRoute) }
-    ensures value { IfOk result (λ route. route ≡ option_map (route_over source prefix) (best_of nat_cmp (ways_of (reach_of member.now) others member.now.router offers.now))) }
+    ensures value { IfOk result (λ route. route ≡ option_map (internal_route_over source prefix) (best_of nat_cmp (ways_of (reach_of member.now) others member.now.router offers.now))) }
 {
     let best = best_way(member, others, offers);
     match best {
@@ -80,10 +80,10 @@ fn inter_route(
     destination: &Destination,
 ) -> Result<Option<Route>, AllocError>
     ensures short { IfOk result (λ route. IfSome route IsShortRoute) }
-    ensures value { IfOk result (λ route. route ≡ option_map (route_over OspfIa destination.now.prefix) (inter (known Kept member.now) destination.now.summaries)) }
+    ensures value { IfOk result (λ route. route ≡ option_map (internal_route_over OspfIa destination.now.prefix) (inter (known Kept member.now) destination.now.summaries)) }
 {
     let in_backbone = is_in_backbone(member.areas(StubAreas::Kept));
-    let offers = heard(in_backbone, &destination.summaries);
+    let offers = summary_offers(in_backbone, &destination.summaries);
     best_route(
         alloc,
         Source::OspfIa,

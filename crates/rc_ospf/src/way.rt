@@ -3,7 +3,7 @@ ghost use Rattle.std.specs.Prelude.{◌≡◌, ◌++◌, ◌<◌, ◌^◌, IfOk,
 ghost use Rattle.std.specs.Option.{option_copied};
 ghost use Rattle.std.specs.Ordering.{nat_cmp};
 ghost use Rattle.rc_base.specs.Lists.{in_order};
-ghost use Rattle.rc_ospf.specs.ByPrefix.{path_for, cost_to, hops_for, ways_of};
+ghost use Rattle.rc_ospf.specs.ByPrefix.{path_to_offer, cost_to, hops_for, ways_of};
 ghost use Rattle.rc_ospf.specs.Members.{reach_of};
 ghost use Rattle.rc_route.specs.Hops.{hop_cmp};
 ghost use Rattle.rc_route.specs.Ways as spec;
@@ -16,8 +16,8 @@ use std::alloc::{AllocError, Global};
 
 /// The least walks to the router of an offer inside its area, where there are any. Where only offers of others count, there are
 /// none to one of the router itself.
-pub(crate) fn path_for<'a>(member: &'a Member, others: bool, offer: &Offer) -> Option<&'a Path>
-    ensures { option_copied result ≡ path_for (reach_of member.now) others member.now.router offer.now }
+pub(crate) fn path_to_offer<'a>(member: &'a Member, others: bool, offer: &Offer) -> Option<&'a Path>
+    ensures { option_copied result ≡ path_to_offer (reach_of member.now) others member.now.router offer.now }
 {
     if others && offer.router() == member.router {
         return None;
@@ -30,7 +30,7 @@ pub(crate) fn cost_to(member: &Member, others: bool, offer: &Offer) -> Option<u3
     ensures value { result ≡ cost_to (reach_of member.now) others member.now.router offer.now }
     ensures small { IfSome result (λ c. c < 2 ^ 27) }
 {
-    let path = path_for(member, others, offer);
+    let path = path_to_offer(member, others, offer);
     match path {
         Some(path) => Some(path.cost() + offer.cost()),
         None => None,
@@ -48,7 +48,7 @@ fn add_hops_for(
 ) -> Result<(), AllocError>
     ensures { OnOk result (hops.new ≡ hops.old ++ hops_for (reach_of member.now) others member.now.router cost offer.now) }
 {
-    let path = path_for(member, others, offer);
+    let path = path_to_offer(member, others, offer);
     match path {
         Some(path) => {
             if path.cost() + offer.cost() == cost {

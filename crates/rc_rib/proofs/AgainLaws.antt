@@ -9,8 +9,8 @@ use Rattle.rc_base.specs.Prefix.{Cidr}
 use Rattle.rc_bgp.specs.Candidates.{all_best, best_paths}
 use Rattle.rc_bgp.specs.Changes.{CoversChange}
 use Rattle.rc_bgp.specs.Maximum.{maximum_of}
-use Rattle.rc_bgp.specs.Known.{paths_of, table_of}
-use Rattle.rc_bgp.specs.Own.{own_paths, paths_of_process}
+use Rattle.rc_bgp.specs.RouterStates.{paths_of, table_of}
+use Rattle.rc_bgp.specs.AllOriginated.{own_paths, paths_of_process}
 use Rattle.rc_bgp.specs.Sessions.{configured_sessions, is_up, sessions_of}
 use Rattle.rc_bgp_session.specs.declared.session.Session.{Session}
 use Rattle.rc_config.specs.Members.{router_at, router_ids}
@@ -20,7 +20,7 @@ use Rattle.rc_config.specs.declared.static_route.StaticRoute.{StaticRoute}
 use Rattle.rc_external.specs.AsExternal.{AsExternal}
 use Rattle.rc_external.specs.Costs.{cost_cmp}
 use Rattle.rc_external.specs.Externals.{externals}
-use Rattle.rc_external.specs.Routes.{external_routes, route_over, route_to, routes_over}
+use Rattle.rc_external.specs.Routes.{external_routes, external_route_over, external_route_to, routes_over}
 use Rattle.rc_external.specs.Ways.{external_way_to}
 use Rattle.rc_external.specs.declared.as_external.ExternalRow.{ExternalRow}
 use Rattle.rc_fib.specs.Forwarding.{resolved}
@@ -47,8 +47,8 @@ no_ways : (sent : List AsExternal) → filter_map (external_way_to []) sent ≡ 
 no_ways [] = refl
 no_ways (e ∷ es) = no_ways es
 
-no_route : (row : ExternalRow) → route_to [] row ≡ None
-no_route row = ap (λ ways. option_map (route_over row.prefix) (best_of cost_cmp ways)) (no_ways row.externals)
+no_route : (row : ExternalRow) → external_route_to [] row ≡ None
+no_route row = ap (λ ways. option_map (external_route_over row.prefix) (best_of cost_cmp ways)) (no_ways row.externals)
 
 nothing_outside : (rows : List ExternalRow) → routes_over [] rows ≡ []
 nothing_outside [] = refl

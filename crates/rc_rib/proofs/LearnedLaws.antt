@@ -1,5 +1,5 @@
 -- A table is merged with routes that come one after another.
-use Rattle.std.proofs.Common.{refl, ◌≡◌, ap, sym, ◌∙◌, ℕ, suc, ◌+◌, ◌<◌, ◌==◌, true, List, [], ◌∷◌, ◌++◌, drop, drop-cons, add-one, length, get_or, arith, append_assoc, Some, None}
+use Rattle.std.proofs.Common.{refl, ◌≡◌, ap, sym, ◌∙◌, ℕ, suc, ◌+◌, ◌<◌, ◌==◌, true, List, [], ◌∷◌, ◌++◌, drop, drop-cons, add-one, length, get_or, arith, append_assoc, Option, Some, None}
 use Rattle.std.proofs.lemmas.Grind.{common_steps}
 use Rattle.std.proofs.lemmas.Bool.Decides.{nat_tests}
 use Rattle.std.specs.List.{cons_option}
@@ -8,7 +8,7 @@ use Rattle.rc_bgp.specs.Learning.{learned_route}
 use Rattle.rc_route.specs.declared.best.Best.{Best}
 use Rattle.rc_route.specs.declared.route.Route.{Route}
 use Rattle.rc_rib.specs.Best.{better}
-use Rattle.rc_rib.specs.Merging.{merged, which, front_prefix, HasMoved, IsPlaced, IsLearned}
+use Rattle.rc_rib.specs.Merging.{KeepsWhole, merged, which, front_prefix}
 use Rattle.rc_rib.specs.Next.{learned_routes}
 use Rattle.rc_rib.proofs.MergingLaws.{first_is_next, second_is_next, both_are_next, with_none}
 
@@ -22,16 +22,18 @@ greater_equal e = absurd (cc)
 one_before : (made more : List Route) (x : Route) (made-now : List Route) → made-now ≡ made ++ x ∷ [] → made ++ x ∷ more ≡ made-now ++ more
 one_before made more x made-now pushed = sym (append_assoc made (x ∷ []) more) ∙ ap (λ t. t ++ more) (sym pushed)
 
-pub moved : (left made left-now made-now : List Route) (r x : Route) → which (front_prefix left) (Some r.prefix) ≡ Less → left ≡ x ∷ left-now → made-now ≡ made ++ x ∷ [] → HasMoved left made r left-now made-now
+pub moved : (left made left-now made-now : List Route) (r x : Route) → which (front_prefix left) (Some r.prefix) ≡ Less → left ≡ x ∷ left-now → made-now ≡ made ++ x ∷ [] → KeepsWhole left made (r ∷ []) left-now made-now (r ∷ [])
 moved left made left-now made-now r x less is pushed = record {
   same = λ rest. ap (λ t. made ++ t) (first_is_next left (r ∷ rest) left-now (Some x) less is).0 ∙ one_before made (merged left-now (r ∷ rest)) x made-now pushed;
-  fewer = let one_more : length left ≡ suc (length left-now) = ap length is in omega (arith, one_more);
 }
+
+pub fewer_left : (left left-now : List Route) (x : Route) → left ≡ x ∷ left-now → length left-now < length left
+fewer_left left left-now x is = let one_more : length left ≡ suc (length left-now) = ap length is in omega (arith, one_more)
 
 pub none_moved : (left : List Route) (r : Route) → which (front_prefix left) (Some r.prefix) ≡ Less → left ≡ [] → ⊥
 none_moved left r less is = greater_less (sym (ap (λ t. which (front_prefix t) (Some r.prefix)) is) ∙ less)
 
-pub both_placed : (left made left-now made-now : List Route) (r x : Route) → which (front_prefix left) (Some r.prefix) ≡ Equal → left ≡ x ∷ left-now → made-now ≡ made ++ better x r ∷ [] → IsPlaced left made r left-now made-now
+pub both_placed : (left made left-now made-now : List Route) (r x : Route) → which (front_prefix left) (Some r.prefix) ≡ Equal → left ≡ x ∷ left-now → made-now ≡ made ++ better x r ∷ [] → KeepsWhole left made (r ∷ []) left-now made-now []
 both_placed left made left-now made-now r x equal is pushed = record {
   same = λ rest. ap (λ t. made ++ t) (both_are_next left (r ∷ rest) left-now rest (Some x) (Some r) equal is refl).0 ∙ one_before made (merged left-now rest) (better x r) made-now pushed;
 }
@@ -39,31 +41,37 @@ both_placed left made left-now made-now r x equal is pushed = record {
 pub none_placed : (left : List Route) (r : Route) → which (front_prefix left) (Some r.prefix) ≡ Equal → left ≡ [] → ⊥
 none_placed left r equal is = greater_equal (sym (ap (λ t. which (front_prefix t) (Some r.prefix)) is) ∙ equal)
 
-pub one_placed : (left made made-now : List Route) (r : Route) → which (front_prefix left) (Some r.prefix) ≡ Greater → made-now ≡ made ++ r ∷ [] → IsPlaced left made r left made-now
+pub one_placed : (left made made-now : List Route) (r : Route) → which (front_prefix left) (Some r.prefix) ≡ Greater → made-now ≡ made ++ r ∷ [] → KeepsWhole left made (r ∷ []) left made-now []
 one_placed left made made-now r greater pushed = record {
   same = λ rest. ap (λ t. made ++ t) (second_is_next left (r ∷ rest) rest (Some r) greater refl).0 ∙ one_before made (merged left rest) r made-now pushed;
 }
 
 -- what was moved before a route is placed
-pub placed_behind : (left made mid made-mid left-now made-now : List Route) (r : Route) → ((rest : List Route) → made ++ merged left (r ∷ rest) ≡ made-mid ++ merged mid (r ∷ rest)) → IsPlaced mid made-mid r left-now made-now → IsPlaced left made r left-now made-now
+pub placed_behind : (left made mid made-mid left-now made-now : List Route) (r : Route) → ((rest : List Route) → made ++ merged left (r ∷ rest) ≡ made-mid ++ merged mid (r ∷ rest)) → KeepsWhole mid made-mid (r ∷ []) left-now made-now [] → KeepsWhole left made (r ∷ []) left-now made-now []
 placed_behind left made mid made-mid left-now made-now r before placed = record { same = λ rest. before rest ∙ placed.same rest }
 
-pub none_learned : (left made : List Route) (path : Best) → learned_route path ≡ None → IsLearned left made path left made
-none_learned left made path none = record { same = λ rest. ap (λ o. made ++ merged left (cons_option o (learned_routes rest))) none }
+-- a route that may be there, and others behind it
+one_ahead : (o : Option Route) (rest : List Route) → cons_option o [] ++ rest ≡ cons_option o rest
+one_ahead None rest = refl
+one_ahead (Some r) rest = refl
 
-pub one_learned : (left made left-now made-now : List Route) (path : Best) (r : Route) → learned_route path ≡ Some r → IsPlaced left made r left-now made-now → IsLearned left made path left-now made-now
-one_learned left made left-now made-now path r is placed = record { same = λ rest. ap (λ o. made ++ merged left (cons_option o (learned_routes rest))) is ∙ placed.same (learned_routes rest) }
+pub none_learned : (left made : List Route) (path : Best) → learned_route path ≡ None → KeepsWhole left made (learned_routes (path ∷ [])) left made []
+none_learned left made path none = record { same = λ rest. ap (λ o. made ++ merged left (cons_option o [] ++ rest)) none }
+
+pub one_learned : (left made left-now made-now : List Route) (path : Best) (r : Route) → learned_route path ≡ Some r → KeepsWhole left made (r ∷ []) left-now made-now [] → KeepsWhole left made (learned_routes (path ∷ [])) left-now made-now []
+one_learned left made left-now made-now path r is placed = record { same = λ rest. ap (λ o. made ++ merged left (cons_option o [] ++ rest)) is ∙ placed.same rest }
 
 pub no_path : (paths : List Best) → (length paths == 0) ≡ true → paths ≡ []
 no_path [] none = refl
 no_path (path ∷ paths) none = absurd (grind (arith, common_steps, nat_tests))
 
 -- one path more
-pub next_learned : (paths : List Best) (i : ℕ) (path : Best) (left made left-now made-now all : List Route) → i < length paths → path ≡ get_or paths i path → IsLearned left made path left-now made-now
+pub next_learned : (paths : List Best) (i : ℕ) (path : Best) (left made left-now made-now all : List Route) → i < length paths → path ≡ get_or paths i path → KeepsWhole left made (learned_routes (path ∷ [])) left-now made-now []
     → made ++ merged left (learned_routes (drop i paths)) ≡ all → made-now ++ merged left-now (learned_routes (drop (i + 1) paths)) ≡ all
 next_learned paths i path left made left-now made-now all less is learned kept =
     let first : drop i paths ≡ path ∷ drop (i + 1) paths = drop-cons paths i path less ∙ ap (λ y. y ∷ drop (suc i) paths) (sym is) ∙ ap (λ k. path ∷ drop k paths) (sym (add-one i)) in
-    sym (learned.same (drop (i + 1) paths)) ∙ ap (λ ps. made ++ merged left (learned_routes ps)) (sym first) ∙ kept
+    let ahead = learned_routes (drop (i + 1) paths) in
+    sym (learned.same ahead) ∙ ap (λ rs. made ++ merged left rs) (one_ahead (learned_route path) ahead) ∙ ap (λ ps. made ++ merged left (learned_routes ps)) (sym first) ∙ kept
 
 -- none is left
 pub all_learned : (left made rest made-now all : List Route) → rest ≡ [] → made ++ merged left rest ≡ all → made-now ≡ made ++ left → made-now ≡ all

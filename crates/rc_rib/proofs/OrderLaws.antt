@@ -9,10 +9,10 @@ use Rattle.rc_base.specs.Lists.{in_order}
 use Rattle.rc_base.specs.Prefix.{Cidr, prefix_cmp}
 use Rattle.rc_base.proofs.OrderedLaws.{in_order-sorted, prefix_cmp_total}
 use Rattle.rc_bgp.proofs.PrefixLaws.{made_in_order}
-use Rattle.rc_bgp.specs.Known.{table_of}
+use Rattle.rc_bgp.specs.RouterStates.{table_of}
 use Rattle.rc_bgp.specs.Learning.{learned_by, learned_route}
 use Rattle.rc_external.specs.Externals.{IsByPrefix}
-use Rattle.rc_external.specs.Routes.{external_routes, route_over, route_to}
+use Rattle.rc_external.specs.Routes.{external_routes, external_route_over, external_route_to}
 use Rattle.rc_external.specs.Ways.{best_external_way}
 use Rattle.rc_external.specs.declared.as_external.ExternalRow.{ExternalRow}
 use Rattle.rc_external.specs.declared.cost.ExternalCost.{ExternalCost}
@@ -133,21 +133,21 @@ no_table state r is = ap (λ (o : Option RouterState). option_map_or (λ (s : Ro
 pub others_in_order : (internal : InternalRoutes) (r : ℕ) (routes others : List Route) → others ≡ to_others internal r routes → IsTable routes → IsTable others
 others_in_order internal r routes others is up = subst IsTable (sym is) (left_in_order (λ (x : Route). not (advertises internal r x.prefix)) routes up)
 
-external_prefix : (paths : List BoundaryPath) (row : ExternalRow) (y : Route) → route_to paths row ≡ Some y → y.prefix ≡ row.prefix
+external_prefix : (paths : List BoundaryPath) (row : ExternalRow) (y : Route) → external_route_to paths row ≡ Some y → y.prefix ≡ row.prefix
 external_prefix paths row y e = by (best_external_way paths row.externals) e
   where
     prefix_in : Option Route → Cidr
     prefix_in None = row.prefix
     prefix_in (Some y) = y.prefix
 
-    by : (w : Option (Way ExternalCost)) → option_map (route_over row.prefix) w ≡ Some y → y.prefix ≡ row.prefix
+    by : (w : Option (Way ExternalCost)) → option_map (external_route_over row.prefix) w ≡ Some y → y.prefix ≡ row.prefix
     by None e = absurd (none-some y e)
     by (Some w) e = sym (ap prefix_in e)
 
 pub outside_in_order : (internal : InternalRoutes) (rows : List ExternalRow) (r : ℕ) → IsByPrefix rows → IsTable (to_others internal r (external_routes internal rows r))
 outside_in_order internal rows r up =
     left_in_order (λ (x : Route). not (advertises internal r x.prefix)) (external_routes internal rows r)
-    (kept_in_order (λ (row : ExternalRow). row.prefix) prefix_of (route_to (boundaries_of internal r)) (external_prefix (boundaries_of internal r)) rows up)
+    (kept_in_order (λ (row : ExternalRow). row.prefix) prefix_of (external_route_to (boundaries_of internal r)) (external_prefix (boundaries_of internal r)) rows up)
 
 -- ---- all merged, one after another
 

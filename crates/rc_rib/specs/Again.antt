@@ -1,6 +1,6 @@
 -- A router that knows the same again.
 use Rattle.std.specs.Prelude.{◌≡◌, ◌⊎◌, ℕ, ◌<◌, List, [], Some, None, IfSome, length, slice_get}
-use Rattle.rc_bgp.specs.Known.{table_of}
+use Rattle.rc_bgp.specs.RouterStates.{table_of}
 use Rattle.rc_bgp.specs.Sessions.{sessions_of}
 use Rattle.rc_bgp_session.specs.declared.session.Session.{Session}
 use Rattle.rc_config.specs.Members.{router_at}

@@ -23,12 +23,12 @@ abbrev pub out_of : ℕ → ℕ → Hop
 out_of r index = Dev (record { router = r; index = index })
 
 -- the connected route of a prefix over the interfaces at these indexes
-abbrev pub route_over : ℕ → Cidr → List ℕ → Route
-route_over r p interfaces = record { prefix = p; source = Connected; distance = 0; metric = 0; hops = map (out_of r) interfaces }
+abbrev pub connected_route_over : ℕ → Cidr → List ℕ → Route
+connected_route_over r p interfaces = record { prefix = p; source = Connected; distance = 0; metric = 0; hops = map (out_of r) interfaces }
 
 -- the route of a prefix: over all the interfaces that have it
 abbrev pub route_of : ℕ → Entries → Cidr → Route
-route_of r entries p = route_over r p (filter (λ index. list_any (same_prefix p) (prefixes_at entries index)) (indexes entries))
+route_of r entries p = connected_route_over r p (filter (λ index. list_any (same_prefix p) (prefixes_at entries index)) (indexes entries))
 
 -- a route for each prefix of an interface that is up, by address, then length
 unfoldable pub connected : ℕ → Entries → List Route

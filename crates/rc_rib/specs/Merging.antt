@@ -5,10 +5,8 @@ use Rattle.std.specs.Ordering.{match_ordering}
 use Rattle.std.specs.declared.cmp.Ordering.{Ordering}
 use Rattle.std.specs.declared.cmp.Ordering.TheVariants.{Less, Greater}
 use Rattle.rc_base.specs.Prefix.{Cidr, prefix_cmp}
-use Rattle.rc_route.specs.declared.best.Best.{Best}
 use Rattle.rc_route.specs.declared.route.Route.{Route}
 use Rattle.rc_rib.specs.Best.{better}
-use Rattle.rc_rib.specs.Next.{learned_routes}
 use Rattle.rc_rib.specs.Offers.{prefix_of}
 
 -- a route, and what comes behind it, beside other routes
@@ -44,17 +42,9 @@ IsFront routes front left = MatchOption front ((routes ≡ []) × (left ≡ []))
 abbrev pub IsNext : List Route → List Route → Option Route → List Route → List Route → Type 0
 IsNext xs ys next xs-left ys-left = MatchOption next (merged xs ys ≡ []) (λ x. (merged xs ys ≡ x ∷ merged xs-left ys-left) × (length xs-left + length ys-left < length xs + length ys))
 
--- ---- a table is merged with routes that come one after another: what is made of both so far, and what is left of the table
+-- ---- a table is merged with routes that come one after another: what is made of both so far stands in front, and what is left of the table is
+-- still to be merged with the routes ahead
 
--- the first of what is left moved: with this route and any behind it all is as before, and less is left
-pub record HasMoved (left made : List Route) (r : Route) (left-now made-now : List Route) : Type 0 where
-  pub same : (rest : List Route) → made ++ merged left (r ∷ rest) ≡ made-now ++ merged left-now (r ∷ rest)
-  pub fewer : length left-now < length left
-
--- a route is placed: what comes behind it is merged with what is left then
-pub record IsPlaced (left made : List Route) (r : Route) (left-now made-now : List Route) : Type 0 where
-  pub same : (rest : List Route) → made ++ merged left (r ∷ rest) ≡ made-now ++ merged left-now rest
-
--- what a best path gives is placed
-pub record IsLearned (left made : List Route) (best : Best) (left-now made-now : List Route) : Type 0 where
-  pub same : (rest : List Best) → made ++ merged left (learned_routes (best ∷ rest)) ≡ made-now ++ merged left-now (learned_routes rest)
+-- a step keeps the whole: with any routes behind those ahead, before it and after it, the same table comes of it
+pub record KeepsWhole (left made ahead left-now made-now ahead-now : List Route) : Type 0 where
+  pub same : (behind : List Route) → made ++ merged left (ahead ++ behind) ≡ made-now ++ merged left-now (ahead-now ++ behind)

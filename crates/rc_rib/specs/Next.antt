@@ -3,7 +3,7 @@ use Rattle.std.specs.Prelude.{ℕ, not, List, [], ◌++◌, filter, map}
 use Rattle.std.specs.List.{filter_map}
 use Rattle.std.specs.Option.{option_map_or}
 use Rattle.rc_bgp.specs.Candidates.{best_paths}
-use Rattle.rc_bgp.specs.Known.{table_of}
+use Rattle.rc_bgp.specs.RouterStates.{table_of}
 use Rattle.rc_bgp.specs.Learning.{learned_route}
 use Rattle.rc_bgp.specs.Sessions.{configured_sessions}
 use Rattle.rc_config.specs.declared.network.Network.{Network}

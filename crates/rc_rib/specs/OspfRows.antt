@@ -9,7 +9,7 @@ use Rattle.rc_config.specs.declared.static_route.Target.TheVariants as target
 use Rattle.rc_fib.specs.Forwarding.{hops_within}
 use Rattle.rc_rib.specs.Best.{best_routes}
 use Rattle.rc_ospf.specs.Internal.{routes_of}
-use Rattle.rc_rib.specs.Connected.{connected, route_over}
+use Rattle.rc_rib.specs.Connected.{connected, connected_route_over}
 use Rattle.rc_rib.specs.Next.{learned_routes, table_after, to_others}
 use Rattle.rc_rib.specs.Static.{static_routes}
 use Rattle.rc_route.specs.declared.route.Hop.{Hop}
@@ -49,7 +49,7 @@ abbrev static : Cidr → ℕ → Hop → Route
 static p d hop = record { prefix = p; source = Static; distance = d; metric = 0; hops = hop ∷ [] }
 
 abbrev own : Route
-own = route_over 7 (subnet 1) (0 ∷ [])
+own = connected_route_over 7 (subnet 1) (0 ∷ [])
 
 -- an OSPF route stands in its place, by address, then length
 pub by_prefix : table_after 7 (file []) [] (ospf (subnet 0) ∷ ospf (subnet 9) ∷ []) [] ≡ ospf (subnet 0) ∷ own ∷ ospf (subnet 9) ∷ []

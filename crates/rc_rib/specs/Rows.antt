@@ -4,7 +4,7 @@ use Rattle.rc_base.specs.Prefix.{prefix_at}
 use Rattle.rc_config.specs.declared.interface.Interface.{Interface}
 use Rattle.rc_config.specs.Interface.{fresh}
 use Rattle.rc_config.specs.MaskedAddr.{MaskedAddr}
-use Rattle.rc_rib.specs.Connected.{connected, route_over}
+use Rattle.rc_rib.specs.Connected.{connected, connected_route_over}
 use Rattle.rc_route.specs.declared.route.Route.{Route}
 
 -- 10.0.m.n
@@ -22,7 +22,7 @@ shut_with addresses = record fresh { secondary = addresses; shutdown = true }
 
 -- a route of router 7
 abbrev route : MaskedAddr → List ℕ → Route
-route a interfaces = route_over 7 (prefix_at a.addr a.len) interfaces
+route a interfaces = connected_route_over 7 (prefix_at a.addr a.len) interfaces
 
 abbrev first : List ℕ
 first = codes "Gi0/0"

@@ -11,7 +11,7 @@ use Rattle.rc_config.specs.declared.static_route.Target.{Target}
 use Rattle.rc_config.specs.declared.static_route.Target.TheVariants as target
 use Rattle.rc_fib.specs.Forwarding.{hops_within}
 use Rattle.rc_rib.specs.Best.{best_routes}
-use Rattle.rc_rib.specs.Connected.{connected, route_over}
+use Rattle.rc_rib.specs.Connected.{connected, connected_route_over}
 use Rattle.rc_rib.specs.Next.{table_after}
 use Rattle.rc_rib.specs.Static.{static_routes}
 use Rattle.rc_route.specs.declared.route.Hop.{Hop}
@@ -51,11 +51,11 @@ interface n = record { router = 7; index = n }
 
 -- the connected routes, which the previous table has
 abbrev before : List Route
-before = route_over 7 (subnet 1) (0 ∷ []) ∷ route_over 7 (subnet 2) (1 ∷ []) ∷ []
+before = connected_route_over 7 (subnet 1) (0 ∷ []) ∷ connected_route_over 7 (subnet 2) (1 ∷ []) ∷ []
 
 -- the next table, with a route for 10.0.9.0/24 behind the connected ones
 abbrev Gives : List StaticRoute → List Route → Type 0
-Gives lines routes = table_after 7 (file lines) [] [] before ≡ route_over 7 (subnet 1) (0 ∷ []) ∷ route_over 7 (subnet 2) (1 ∷ []) ∷ routes
+Gives lines routes = table_after 7 (file lines) [] [] before ≡ connected_route_over 7 (subnet 1) (0 ∷ []) ∷ connected_route_over 7 (subnet 2) (1 ∷ []) ∷ routes
 
 pub no_lines : Gives [] []
 unfolding connected static_routes best_routes

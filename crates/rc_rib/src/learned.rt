@@ -1,7 +1,7 @@
 //! A table with the routes that best paths give, made in one pass over both.
-ghost use Rattle.std.specs.Prelude.{◌≡◌, ◌++◌, IfOk, OnOk, Some};
+ghost use Rattle.std.specs.Prelude.{◌≡◌, ◌<◌, [], ◌∷◌, ◌++◌, IfOk, OnOk, Some, length};
 ghost use Rattle.std.specs.declared.cmp.Ordering.TheVariants.{Equal, Less};
-ghost use Rattle.rc_rib.specs.Merging.{HasMoved, IsLearned, IsPlaced, front_prefix, merged, which};
+ghost use Rattle.rc_rib.specs.Merging.{KeepsWhole, front_prefix, merged, which};
 ghost use Rattle.rc_rib.specs.Next as spec;
 
 use crate::merging::{better, front_prefix, take_front, which};
@@ -22,7 +22,8 @@ fn which_is_first(left: &VecDeque<Route>, route: &Route) -> Ordering
 /// Moves the first of what is left, which stands before a route, to the end of what is made.
 fn move_front(left: &mut VecDeque<Route>, made: &mut Table, route: &Route) -> Result<(), AllocError>
     requires { which (front_prefix left.old.items) (Some route.now.prefix) ≡ Less }
-    ensures { OnOk result (HasMoved left.old.items made.old route.now left.new.items made.new) }
+    ensures whole { OnOk result (KeepsWhole left.old.items made.old (route.now ∷ []) left.new.items made.new (route.now ∷ [])) }
+    ensures fewer { OnOk result (length left.new.items < length left.old.items) }
 {
     let front = take_front(left);
     match front {
@@ -34,7 +35,7 @@ fn move_front(left: &mut VecDeque<Route>, made: &mut Table, route: &Route) -> Re
 /// Puts a route, or the first of what is left, which is of its prefix, at the end of what is made: the preferred one.
 fn push_better(left: &mut VecDeque<Route>, made: &mut Table, route: Route) -> Result<(), AllocError>
     requires { which (front_prefix left.old.items) (Some route.prefix) ≡ Equal }
-    ensures { OnOk result (IsPlaced left.old.items made.old route left.new.items made.new) }
+    ensures { OnOk result (KeepsWhole left.old.items made.old (route ∷ []) left.new.items made.new []) }
 {
     let front = take_front(left);
     match front {
@@ -45,7 +46,7 @@ fn push_better(left: &mut VecDeque<Route>, made: &mut Table, route: Route) -> Re
 
 /// Puts a route at the end of what is made, behind all that stands before it in what is left.
 fn place(left: &mut VecDeque<Route>, made: &mut Table, route: Route) -> Result<(), AllocError>
-    ensures { OnOk result (IsPlaced left.old.items made.old route left.new.items made.new) }
+    ensures { OnOk result (KeepsWhole left.old.items made.old (route ∷ []) left.new.items made.new []) }
 {
     loop {
         match which_is_first(left, &route) {
@@ -63,7 +64,7 @@ fn place_learned(
     made: &mut Table,
     best: &Best,
 ) -> Result<(), AllocError>
-    ensures { OnOk result (IsLearned left.old.items made.old best.now left.new.items made.new) }
+    ensures { OnOk result (KeepsWhole left.old.items made.old (spec.learned_routes (best.now ∷ [])) left.new.items made.new []) }
 {
     let learned = learned_route(alloc, best)?;
     match learned {

@@ -4,7 +4,7 @@ ghost use Rattle.std.specs.List.{list_any};
 ghost use Rattle.std.specs.Option.{option_map_or};
 ghost use Rattle.rc_bgp.specs.Candidates as bgp_spec;
 ghost use Rattle.rc_bgp.specs.Changes.{CoversChange};
-ghost use Rattle.rc_bgp.specs.Known.{paths_of, table_of};
+ghost use Rattle.rc_bgp.specs.RouterStates.{paths_of, table_of};
 ghost use Rattle.rc_bgp.specs.Sessions.{sessions_of};
 ghost use Rattle.rc_config.specs.Lawful.{IsRouter};
 ghost use Rattle.rc_config.specs.Members.{router_at};

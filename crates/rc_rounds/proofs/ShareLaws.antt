@@ -8,7 +8,7 @@ use Rattle.std.proofs.lemmas.List.FromFn.{map-range_with_len_more, length-map-ra
 use Rattle.std.proofs.lemmas.Option.{slice_get_past}
 use Rattle.rc_base.specs.Prefix.{Cidr}
 use Rattle.rc_bgp.specs.Changes.{AreChanges, CoversChange, changes_of}
-use Rattle.rc_bgp.specs.Known.{paths_of}
+use Rattle.rc_bgp.specs.RouterStates.{paths_of}
 use Rattle.rc_config.specs.declared.network.Network.{Network}
 use Rattle.rc_ospf.specs.declared.model.Internal.{Internal}
 use Rattle.rc_route.specs.declared.state.RouterState.{RouterState}

@@ -3,7 +3,7 @@ use Rattle.std.proofs.Common.{refl, ◌≡◌, inl, inr, ap, sym, ◌∙◌, sub
 use Rattle.std.specs.List.{flat_map}
 use Rattle.std.specs.Option.{option_map_or}
 use Rattle.rc_bgp.specs.Candidates.{best_paths}
-use Rattle.rc_bgp.specs.Known.{table_of}
+use Rattle.rc_bgp.specs.RouterStates.{table_of}
 use Rattle.rc_bgp.specs.Sessions.{configured_sessions, sessions_from}
 use Rattle.rc_bgp.specs.Speakers.{silent, speaker_at, speaker_of, speakers}
 use Rattle.rc_bgp_session.specs.declared.session.Session.{Session}

@@ -1,7 +1,7 @@
 -- What the workers of a round make.
 use Rattle.std.specs.Prelude.{◌≡◌, ℕ, List}
 use Rattle.rc_bgp.specs.Changes.{CoversChange}
-use Rattle.rc_bgp.specs.Known.{paths_of}
+use Rattle.rc_bgp.specs.RouterStates.{paths_of}
 use Rattle.rc_config.specs.declared.network.Network.{Network}
 use Rattle.rc_ospf.specs.declared.model.Internal.{Internal}
 use Rattle.rc_route.specs.Tables.{IsRouterState}

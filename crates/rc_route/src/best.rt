@@ -38,8 +38,27 @@ impl Best {
     pub fn copy(&self) -> Result<Best, AllocError>
         ensures { IfOk result (λ copied. copied ≡ self.now) }
     {
-        let path = self.path.copy()?;
+        // In one piece: a path of its own would be moved in, and a chain of ASes copies these most.
         let also = self.also.share()?;
-        Ok(Best { path, also })
+        let communities = self.path.communities.share()?;
+        let as_path = self.path.as_path.share()?;
+        Ok(Best {
+            path: BgpPath {
+                prefix: self.path.prefix,
+                next_hop: self.path.next_hop,
+                med: self.path.med,
+                local_preference: self.path.local_preference,
+                weight: self.path.weight,
+                sender_id: self.path.sender_id,
+                neighbor: self.path.neighbor,
+                igp_metric: self.path.igp_metric,
+                origin: self.path.origin,
+                source: self.path.source,
+                sender: self.path.sender,
+                communities,
+                as_path,
+            },
+            also,
+        })
     }
 }

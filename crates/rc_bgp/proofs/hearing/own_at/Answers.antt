@@ -1,6 +1,6 @@
 use Rattle.std.proofs.Common.{◌∙◌, ap, sym, subst}
 use Rattle.rc_route.specs.Tables.{IsPathList}
-use Rattle.rc_bgp.specs.Known.{path_at}
+use Rattle.rc_bgp.specs.RouterStates.{path_at}
 use Rattle.rc_bgp.proofs.ListLaws.{one_made}
 use Rattle.rc_bgp.proofs.hearing.own_at.Goals as goal
 

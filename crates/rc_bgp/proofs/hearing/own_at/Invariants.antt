@@ -1,7 +1,7 @@
 use Rattle.std.proofs.Common.{◌≡◌, ◌++◌, drop}
 use Rattle.std.specs.List.{filter_map}
 use Rattle.rc_bgp.specs.Candidates.{own_at}
-use Rattle.rc_bgp.specs.Known.{path_at}
+use Rattle.rc_bgp.specs.RouterStates.{path_at}
 use Rattle.rc_bgp.proofs.hearing.own_at.Given as goal
 
 abbrev pub invariant-loop-paths : goal.invariant-loop-paths

@@ -14,4 +14,4 @@ returns-clause-value c =
     let m = c.args.member.now in
     let t = c.args.target.now in
     IfOk-weaker c.best_path.result _ (λ path. path ≡ option_map (path_over t.router) (inter (known LeftOut m) t.summaries))
-    (λ path made. made ∙ ap (option_map (path_over t.router)) (inter_by (known LeftOut m) t.summaries _ _ (c.is_in_backbone-in_backbone.ensures ∙ ap (is_in 0) c.areas.ensures) c.heard-offers.ensures)) c.best_path.ensures.value
+    (λ path made. made ∙ ap (option_map (path_over t.router)) (inter_by (known LeftOut m) t.summaries _ _ (c.is_in_backbone-in_backbone.ensures ∙ ap (is_in 0) c.areas.ensures) c.summary_offers-offers.ensures)) c.best_path.ensures.value

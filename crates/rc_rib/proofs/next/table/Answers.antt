@@ -1,7 +1,7 @@
 use Rattle.std.proofs.Common.{◌≡◌, ◌∙◌, ap, sym, subst, IfSome}
 use Rattle.std.proofs.lemmas.Result.{IfOk-weaker}
 use Rattle.rc_bgp.specs.Changes.{CoversChange}
-use Rattle.rc_bgp.specs.Known.{paths_of}
+use Rattle.rc_bgp.specs.RouterStates.{paths_of}
 use Rattle.rc_route.specs.Tables.{IsRouterState}
 use Rattle.rc_route.specs.declared.state.RouterState.{RouterState}
 use Rattle.rc_rib.specs.Inputs.{IsEarlier}

@@ -1,6 +1,6 @@
 use Rattle.std.proofs.Common.{◌≡◌, ◌∙◌, ap, List, sym, subst}
 use Rattle.std.proofs.lemmas.Result.{IfOk-weaker}
-use Rattle.rc_bgp.specs.Known.{table_of}
+use Rattle.rc_bgp.specs.RouterStates.{table_of}
 use Rattle.rc_external.specs.Routes.{external_routes}
 use Rattle.rc_fib.specs.Forwarding.{resolved}
 use Rattle.rc_ospf.specs.Internal.{routes_of}
