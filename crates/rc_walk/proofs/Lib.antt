@@ -7,4 +7,11 @@ pub mod NetworkLaws
 pub mod SearchLaws
 pub mod ChoiceLaws
 pub mod SearchState
+pub mod FewestLaws
 pub mod ShortestLaws
+pub mod ChainLaws
+pub mod OrderLaws
+pub mod LassoLaws
+pub mod RoundLaws
+pub mod AllLaws
+pub mod FoundLaws

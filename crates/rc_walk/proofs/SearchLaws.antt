@@ -2,36 +2,10 @@
 use Rattle.std.proofs.Common.{refl, ◌≡◌, ap, sym, ◌∙◌, subst, ℕ, zero, suc, ◌≤◌, ◌<◌, ◌⊎◌, inl, inr, ⊎_elim, Bool, true, false, List, [], ◌∷◌, ◌++◌, length, Option, Some, None, Contains, append_assoc, arith}
 use Rattle.std.proofs.lemmas.List.Elements.{Contains-append_left, Contains-append_right, Contains-append_cases, Contains-push, Contains-push_cases}
 use Rattle.std.proofs.lemmas.Bool.{cases_lt}
+use Rattle.rc_walk.proofs.OrderLaws.{at_most_before, at_most_trans, before_trans, one_more}
 use Rattle.rc_walk.specs.Search.{PrecedeBack, AreAtMost, Lead, IsEnd, IsFirstEnd, IsFound, all_found, IsInOrder, IsSearch}
 
 -- ---- the order of choices
-
-one_more : (cs : List ℕ) (d : ℕ) → PrecedeBack cs (d ∷ cs)
-one_more [] d = tt
-one_more (c ∷ cs) d = inl (one_more cs c)
-
-before_trans : (xs ys zs : List ℕ) → PrecedeBack xs ys → PrecedeBack ys zs → PrecedeBack xs zs
-before_trans [] [] zs h k = absurd h
-before_trans [] (b ∷ ys) [] h k = absurd k
-before_trans [] (b ∷ ys) (c ∷ zs) h k = tt
-before_trans (a ∷ xs) [] zs h k = absurd h
-before_trans (a ∷ xs) (b ∷ ys) [] h k = absurd k
-before_trans (a ∷ xs) (b ∷ ys) (c ∷ zs) (inl h) (inl k) = inl (before_trans xs ys zs h k)
-before_trans (a ∷ xs) (b ∷ ys) (c ∷ zs) (inl h) (inr k) = inl (subst (PrecedeBack xs) k.0 h)
-before_trans (a ∷ xs) (b ∷ ys) (c ∷ zs) (inr h) (inl k) = inl (subst (λ x. PrecedeBack x zs) (sym h.0) k)
-before_trans (a ∷ xs) (b ∷ ys) (c ∷ zs) (inr h) (inr k) = inr (h.0 ∙ k.0, (let x = h.1 in let y = k.1 in omega arith))
-
-at_most_before : (xs ys zs : List ℕ) → AreAtMost xs ys → PrecedeBack ys zs → PrecedeBack xs zs
-at_most_before xs ys zs (inl h) k = before_trans xs ys zs h k
-at_most_before xs ys zs (inr e) k = subst (λ x. PrecedeBack x zs) (sym e) k
-
-before_at_most : (xs ys zs : List ℕ) → PrecedeBack xs ys → AreAtMost ys zs → PrecedeBack xs zs
-before_at_most xs ys zs h (inl k) = before_trans xs ys zs h k
-before_at_most xs ys zs h (inr e) = subst (PrecedeBack xs) e h
-
-at_most_trans : (xs ys zs : List ℕ) → AreAtMost xs ys → AreAtMost ys zs → AreAtMost xs zs
-at_most_trans xs ys zs (inl h) k = inl (before_at_most xs ys zs h k)
-at_most_trans xs ys zs (inr e) k = subst (λ x. AreAtMost x zs) (sym e) k
 
 at_most_more : (xs ys : List ℕ) (c : ℕ) → AreAtMost xs ys → AreAtMost (c ∷ xs) (c ∷ ys)
 at_most_more xs ys c (inl h) = inl (inl h)
@@ -58,7 +32,7 @@ module _ {P : Type 0} (next : P → ℕ → Option P) (ends : P → ℕ → Bool
   Entry = P × List ℕ
 
   -- the same choices lead to the same position
-  one_place : (cs : List ℕ) (p q : P) → Lead next ends start cs p → Lead next ends start cs q → p ≡ q
+  one_place : (cs : List ℕ) (p q : P) → Lead next start cs p → Lead next start cs q → p ≡ q
   one_place [] p q h k = sym h ∙ k
   one_place (c ∷ cs) p q (u, hu, hp) (v, kv, kq) =
       let same : u ≡ v = one_place cs u v hu kv in cc
@@ -71,7 +45,7 @@ module _ {P : Type 0} (next : P → ℕ → Option P) (ends : P → ℕ → Bool
     here_among e same = subst Found same (Contains-append_right done (here ∷ rest) here (as_first here rest))
 
     -- whatever choices lead to a position, it is done and was found by no later ones, or something no later still waits
-    frontier : (ds : List ℕ) (p : P) → Lead next ends start ds p → ((e : Entry) × Contains done e × (e.0 ≡ p) × AreAtMost e.1 ds) ⊎ ((e : Entry) × Contains (here ∷ rest) e × AreAtMost e.1 ds)
+    frontier : (ds : List ℕ) (p : P) → Lead next start ds p → ((e : Entry) × Contains done e × (e.0 ≡ p) × AreAtMost e.1 ds) ⊎ ((e : Entry) × Contains (here ∷ rest) e × AreAtMost e.1 ds)
     frontier [] p at = ⊎_elim (λ l. inl ((start, []), l, at, inr refl)) (λ r. inr ((start, []), r, inr refl)) (Contains-append_cases done (here ∷ rest) (start, []) s.begun)
     frontier (d ∷ ds) p (q, lead, on) = ⊎_elim
         (λ h. let (e, is, at, low) = h in
@@ -84,7 +58,7 @@ module _ {P : Type 0} (next : P → ℕ → Option P) (ends : P → ℕ → Bool
     at_hand e is = ⊎_elim (λ same. inr (ap (λ (x : Entry). x.1) same)) (λ later. inl (s.in_order.0 e later)) (first_or_later here rest e is)
 
     -- the position at hand and those that are done were found by the first choices that lead there
-    pub first_there : (e : Entry) → Contains done e ⊎ (here ≡ e) → (ds : List ℕ) → Lead next ends start ds e.0 → AreAtMost e.1 ds
+    pub first_there : (e : Entry) → Contains done e ⊎ (here ≡ e) → (ds : List ℕ) → Lead next start ds e.0 → AreAtMost e.1 ds
     first_there e is ds lead =
         let found : Found e = ⊎_elim (λ l. Contains-append_left done (here ∷ rest) e l) (λ same. here_among e same) is in
         let low : AreAtMost e.1 here.1 = ⊎_elim (λ l. inl (s.earlier e l)) (λ same. inr (ap (λ (x : Entry). x.1) (sym same))) is in
@@ -108,7 +82,7 @@ module _ {P : Type 0} (next : P → ℕ → Option P) (ends : P → ℕ → Bool
         compare : (others : List ℕ) (p : P) (other : ℕ) → IsEnd next ends start others p other → AreAtMost here.1 others → AreAtMost (c ∷ here.1) (other ∷ others)
         compare others p other end (inl before) = inl (inl before)
         compare others p other end (inr same) =
-            let at : p ≡ here.0 = one_place others p here.0 end.lead (subst (λ cs. Lead next ends start cs here.0) same (s.lead here (here_among here refl))) in
+            let at : p ≡ here.0 = one_place others p here.0 end.lead (subst (λ cs. Lead next start cs here.0) same (s.lead here (here_among here refl))) in
             ⊎_elim (λ less. inl (inr (same, less))) (λ e. inr (λ i. e i ∷ same i)) (no_later other (ap (λ x. ends x other) (sym at) ∙ end.ends_there))
 
     -- ---- one choice more is looked at
@@ -159,7 +133,7 @@ module _ {P : Type 0} (next : P → ℕ → Option P) (ends : P → ℕ → Bool
 
       pub waits : IsSearch next ends start done here (rest ++ new ∷ []) (suc c)
       waits = record {
-        lead = λ e is. ⊎_elim (λ old. s.lead e old) (λ same. subst (λ (x : Entry). Lead next ends start x.1 x.0) same (here.0, s.lead here (here_among done here rest c s here refl), on)) (old_or_new e is);
+        lead = λ e is. ⊎_elim (λ old. s.lead e old) (λ same. subst (λ (x : Entry). Lead next start x.1 x.0) same (here.0, s.lead here (here_among done here rest c s here refl), on)) (old_or_new e is);
         begun = wider (start, []) s.begun;
         no_end = s.no_end;
         closed = λ e is d q to. widen (d ∷ e.1) q (s.closed e is d q to);
@@ -222,34 +196,40 @@ module _ {P : Type 0} (next : P → ℕ → Option P) (ends : P → ℕ → Bool
 
   -- ---- nothing waits
 
-  all_places : (found : List Entry) → Contains found (start, []) → ((e : Entry) → Contains found e → (d : ℕ) (t : P) → next e.0 d ≡ Some t → IsFound next ends start found (d ∷ e.1) t) → (ds : List ℕ) (p : P) → Lead next ends start ds p → (e : Entry) × Contains found e × (e.0 ≡ p)
-  all_places found begun closed [] p at = ((start, []), begun, at)
-  all_places found begun closed (d ∷ ds) p (q, lead, on) =
-      let (e, is, at) = all_places found begun closed ds q lead in
-      let (f, there, to, low) = closed e is d p (ap (λ x. next x d) at ∙ on) in
-      (f, there, to)
+  -- all choices of the last position were looked at
+  module _ (done : List Entry) (here : Entry) (c : ℕ) (s : IsSearch next ends start done here [] c) (no_more : (d : ℕ) → c ≤ d → (ends here.0 d ≡ false) × (next here.0 d ≡ None)) where
+    abbrev all : List Entry
+    all = done ++ here ∷ []
 
-  -- all choices of the last position were looked at: no walk ends as asked
-  pub nothing_ends : (done : List Entry) (here : Entry) (c : ℕ) → IsSearch next ends start done here [] c → ((d : ℕ) → c ≤ d → (ends here.0 d ≡ false) × (next here.0 d ≡ None)) → (others : List ℕ) (p : P) (other : ℕ) → ¬ (IsEnd next ends start others p other)
-  nothing_ends done here c s no_more others p other end =
-      let (e, is, at) = all_places (done ++ here ∷ []) s.begun closed others p end.lead in
-      let wrong : ends e.0 other ≡ false = none e is other in
-      let also : ends e.0 other ≡ true = ap (λ x. ends x other) at ∙ end.ends_there in
-      cc (wrong, also)
-    where
-      was : (e : Entry) → Contains (done ++ here ∷ []) e → Contains done e ⊎ (here ≡ e)
-      was e is = Contains-push_cases done here e is
+    was_found : (e : Entry) → Contains all e → Contains done e ⊎ (here ≡ e)
+    was_found e is = Contains-push_cases done here e is
 
-      closed : (e : Entry) → Contains (done ++ here ∷ []) e → (d : ℕ) (t : P) → next e.0 d ≡ Some t → IsFound next ends start (done ++ here ∷ []) (d ∷ e.1) t
-      closed e is d t on = ⊎_elim (λ l. s.closed e l d t on) (λ same. subst (λ (x : Entry). IsFound next ends start (done ++ here ∷ []) (d ∷ x.1) t) same (⊎_elim (λ low. s.closed_here d t low (ap (λ (x : Entry). next x.0 d) same ∙ on)) (λ ge. absurd (let none = (no_more d ge).1 in let to : next here.0 d ≡ Some t = ap (λ (x : Entry). next x.0 d) same ∙ on in let wrong : ⊥ = cc (none, to) in wrong)) (cases_lt d c))) (was e is)
+    closed : (e : Entry) → Contains all e → (d : ℕ) (t : P) → next e.0 d ≡ Some t → IsFound next ends start all (d ∷ e.1) t
+    closed e is d t on = ⊎_elim (λ l. s.closed e l d t on) (λ same. subst (λ (x : Entry). IsFound next ends start all (d ∷ x.1) t) same (⊎_elim (λ low. s.closed_here d t low (ap (λ (x : Entry). next x.0 d) same ∙ on)) (λ ge. absurd (let none = (no_more d ge).1 in let to : next here.0 d ≡ Some t = ap (λ (x : Entry). next x.0 d) same ∙ on in let wrong : ⊥ = cc (none, to) in wrong)) (cases_lt d c))) (was_found e is)
 
-      none : (e : Entry) → Contains (done ++ here ∷ []) e → (d : ℕ) → ends e.0 d ≡ false
-      none e is d = ⊎_elim (λ l. s.no_end e l d) (λ same. subst (λ (x : Entry). ends x.0 d ≡ false) same (⊎_elim (λ low. s.no_end_here d low) (λ ge. (no_more d ge).0) (cases_lt d c))) (was e is)
+    none : (e : Entry) → Contains all e → (d : ℕ) → ends e.0 d ≡ false
+    none e is d = ⊎_elim (λ l. s.no_end e l d) (λ same. subst (λ (x : Entry). ends x.0 d ≡ false) same (⊎_elim (λ low. s.no_end_here d low) (λ ge. (no_more d ge).0) (cases_lt d c))) (was_found e is)
+
+    -- each position to which choices lead was found
+    pub all_places : (ds : List ℕ) (p : P) → Lead next start ds p → (e : Entry) × Contains all e × (e.0 ≡ p)
+    all_places [] p at = ((start, []), s.begun, at)
+    all_places (d ∷ ds) p (q, lead, on) =
+        let (e, is, at) = all_places ds q lead in
+        let (f, there, to, low) = closed e is d p (ap (λ x. next x d) at ∙ on) in
+        (f, there, to)
+
+    -- no walk ends as asked
+    pub nothing_ends : (others : List ℕ) (p : P) (other : ℕ) → ¬ (IsEnd next ends start others p other)
+    nothing_ends others p other end =
+        let (e, is, at) = all_places others p end.lead in
+        let wrong : ends e.0 other ≡ false = none e is other in
+        let also : ends e.0 other ≡ true = ap (λ x. ends x other) at ∙ end.ends_there in
+        cc (wrong, also)
 
   -- the start alone is at hand
   pub sets_out : IsSearch next ends start [] (start, []) [] 0
   sets_out = record {
-    lead = λ e is. subst (λ (x : Entry). Lead next ends start x.1 x.0) (alone e is) refl;
+    lead = λ e is. subst (λ (x : Entry). Lead next start x.1 x.0) (alone e is) refl;
     begun = as_first (start, []) [];
     no_end = λ e is. absurd (none_of_none e is);
     closed = λ e is. absurd (none_of_none e is);

@@ -1,5 +1,5 @@
 -- The steps of a search, as the program takes them.
-use Rattle.std.proofs.Common.{refl, ◌≡◌, ap, sym, ◌∙◌, subst, ℕ, zero, suc, ◌+◌, ◌≤◌, ◌<◌, inl, inr, ⊎_elim, Bool, true, false, ◌||◌, List, [], ◌∷◌, ◌++◌, map, length, reverse, slice_index, slice_index_or, Some, None, Contains, append_assoc, arith}
+use Rattle.std.proofs.Common.{refl, ◌≡◌, ap, sym, ◌∙◌, subst, ℕ, zero, suc, ◌+◌, ◌≤◌, ◌<◌, ⊎_elim, Bool, true, false, ◌||◌, List, [], ◌∷◌, ◌++◌, map, length, reverse, slice_index, slice_index_or, Some, None, Contains, append_assoc, arith}
 use Rattle.std.specs.List.{IsDistinct, list_any, slice_get}
 use Rattle.std.specs.Prelude.{if◌then◌else◌}
 use Rattle.std.proofs.lemmas.Bool.{cases_lt}
@@ -295,7 +295,7 @@ module _ {plane : DataPlane} {h : Header} {goal : Goal} {start : Pos} where
 
     -- ---- the positions found are no more than the network's
 
-    enters : (e : Entry) → Lead (leads_to plane h) (meets_by plane h goal) start e.1 e.0 → list_any (same_position e.0) (start ∷ entries plane.links) ≡ true
+    enters : (e : Entry) → Lead (leads_to plane h) start e.1 e.0 → list_any (same_position e.0) (start ∷ entries plane.links) ≡ true
     enters (p, []) lead = first_true (same_position p start) (list_any (same_position p) (entries plane.links)) ((same_position-Decides p start).1 (sym lead))
       where
         first_true : (a b : Bool) → a ≡ true → (a || b) ≡ true

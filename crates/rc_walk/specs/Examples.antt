@@ -1,8 +1,9 @@
 -- Small networks and their tables, written by hand.
-use Rattle.std.specs.Prelude.{ℕ, ◌+◌, ◌*◌, true, List, [], ◌∷◌, map, Some, None, codes}
-use Rattle.std.specs.List.{enumerate_from}
+use Rattle.std.specs.Prelude.{ℕ, ◌+◌, ◌-◌, ◌*◌, ◌%◌, true, false, List, [], ◌∷◌, map, Some, None, codes}
+use Rattle.std.specs.List.{enumerate_from, range_with_len}
 use Rattle.rc_base.specs.Fields.{zeros}
 use Rattle.rc_base.specs.Prefix.{prefix_at}
+use Rattle.rc_base.specs.declared.ending.Ends.{Ends}
 use Rattle.rc_base.specs.declared.header.Header.{Header}
 use Rattle.rc_base.specs.declared.position.IfId.{IfId}
 use Rattle.rc_config.specs.AccessList.{any_address, host_address, no_lines, standard_line, with_line}
@@ -44,6 +45,9 @@ gi0 = codes "GigabitEthernet0/0"
 
 abbrev pub gi1 : List ℕ
 gi1 = codes "GigabitEthernet0/1"
+
+abbrev pub gi2 : List ℕ
+gi2 = codes "GigabitEthernet0/2"
 
 abbrev pub se0 : List ℕ
 se0 = codes "Serial0/0"
@@ -89,3 +93,25 @@ via a = Via a None
 -- a network with a table for each router
 abbrev pub plane : Network → List (List Route) → DataPlane
 plane net tables = plane_of net (map (λ table. record { table = table; paths = [] }) tables)
+
+-- ---- endings
+
+abbrev pub none : Ends
+none = record { denied_in = false; accepted = false; no_route = false; null_routed = false; denied_out = false; unreachable = false; exits = false; delivered = false }
+
+abbrev pub taken : Ends
+taken = record none { accepted = true; delivered = true }
+
+-- ---- networks that several files ask
+
+-- two routers, each with a default route to the other
+abbrev pub pair : DataPlane
+pair =
+    plane (network (((gi0, with_address (ip 10 0 0 1) 24) ∷ []) ∷ ((gi0, with_address (ip 10 0 0 2) 24) ∷ (gi1, with_address (ip 10 0 1 2) 24) ∷ []) ∷ []))
+    ((static 0 0 (via (ip 10 0 0 2) ∷ []) ∷ connected 0 (ip 10 0 0 0) 24 0 ∷ []) ∷ (static 0 0 (via (ip 10 0 0 1) ∷ []) ∷ connected 1 (ip 10 0 0 0) 24 0 ∷ connected 1 (ip 10 0 1 0) 24 1 ∷ []) ∷ [])
+
+-- a ring of routers, each with a default route to the next
+abbrev pub ring : ℕ → DataPlane
+ring n =
+    plane (network (map (λ k. (gi0, with_address (ip 10 0 k 1) 24) ∷ (gi1, with_address (ip 10 0 ((k + n - 1) % n) 2) 24) ∷ []) (range_with_len 0 n)))
+    (map (λ k. static 0 0 (via (ip 10 0 k 2) ∷ []) ∷ connected k (ip 10 0 k 0) 24 0 ∷ []) (range_with_len 0 n))

@@ -1,14 +1,14 @@
 -- What a search looks for among the moves.
 use Rattle.std.specs.Prelude.{Bool, false, Option, Some, None}
-use Rattle.rc_base.specs.Positions.{is_among, same_position}
+use Rattle.rc_base.specs.Positions.{same_position}
 use Rattle.rc_walk.specs.declared.walk.Move.{Move}
 use Rattle.rc_walk.specs.declared.walk.Move.TheVariants.{Next, End}
+use Rattle.rc_walk.specs.ShortestWalks.{is_asked_end}
 use Rattle.rc_walk.specs.declared.goal.Goal.{Goal}
 use Rattle.rc_walk.specs.declared.goal.Goal.TheVariants.{Ending, Onto, Nothing}
 
 abbrev pub is_met : Goal → Move → Bool
-is_met (Ending ends) (Next t) = false
-is_met (Ending ends) (End kind) = is_among ends kind
+is_met (Ending ends) m = is_asked_end ends m
 is_met (Onto p) (Next t) = same_position p t
 is_met (Onto p) (End kind) = false
 is_met Nothing m = false

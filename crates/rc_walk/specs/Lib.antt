@@ -11,3 +11,6 @@ pub mod Goals
 pub mod Searching
 pub mod ShortestRows
 pub mod PairRows
+pub mod Loops
+pub mod Ways
+pub mod LoopRows

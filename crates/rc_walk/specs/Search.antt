@@ -11,16 +11,17 @@ PrecedeBack (c ∷ cs) (d ∷ ds) = PrecedeBack cs ds ⊎ ((cs ≡ ds) × (c < d
 abbrev pub AreAtMost : List ℕ → List ℕ → Type 0
 AreAtMost cs ds = PrecedeBack cs ds ⊎ (cs ≡ ds)
 
--- a graph by choices: where each leads on, and which ends as asked
-module _ {P : Type 0} (next : P → ℕ → Option P) (ends : P → ℕ → Bool) (start : P) where
-  -- the choices lead from the start to a position
+-- in a graph by choices, where each leads on, choices lead from a start to a position
+module _ {P : Type 0} (next : P → ℕ → Option P) (start : P) where
   abbrev pub Lead : List ℕ → P → Type 0
   Lead [] p = start ≡ p
   Lead (c ∷ cs) p = (q : P) × Lead cs q × (next q c ≡ Some p)
 
+-- and some choices end as asked
+module _ {P : Type 0} (next : P → ℕ → Option P) (ends : P → ℕ → Bool) (start : P) where
   -- they lead there, and one choice more ends as asked
   pub record IsEnd (choices : List ℕ) (at : P) (last : ℕ) : Type 0 where
-    pub lead : Lead choices at
+    pub lead : Lead next start choices at
     pub ends_there : ends at last ≡ true
 
   -- none that ends as asked is shorter or has its choices before these
@@ -48,7 +49,7 @@ module _ {P : Type 0} (next : P → ℕ → Option P) (ends : P → ℕ → Bool
   -- Some positions are done, one is at hand, of whose choices c were looked at, and the rest waits in order. With each position
   -- stand the choices that led to it.
   pub record IsSearch (done : List (P × List ℕ)) (here : P × List ℕ) (rest : List (P × List ℕ)) (c : ℕ) : Type 0 where
-    pub lead : (e : P × List ℕ) → Contains (all_found done here rest) e → Lead e.1 e.0
+    pub lead : (e : P × List ℕ) → Contains (all_found done here rest) e → Lead next start e.1 e.0
     pub begun : Contains (all_found done here rest) (start, [])
     pub no_end : (e : P × List ℕ) → Contains done e → (d : ℕ) → ends e.0 d ≡ false
     pub closed : (e : P × List ℕ) → Contains done e → (d : ℕ) (t : P) → next e.0 d ≡ Some t → IsFound (all_found done here rest) (d ∷ e.1) t

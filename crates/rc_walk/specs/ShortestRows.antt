@@ -1,7 +1,6 @@
 -- Worked cases of shortest walks, each by computation. That the walk that is computed is the shortest is a law (`there_is_a_shortest_walk`).
-use Rattle.std.specs.Prelude.{◌≡◌, true, false, [], ◌∷◌, Some, None, refl}
+use Rattle.std.specs.Prelude.{◌≡◌, true, [], ◌∷◌, Some, None, refl}
 use Rattle.std.proofs.Common.{inl, inr, lit<}
-use Rattle.rc_base.specs.declared.ending.Ends.{Ends}
 use Rattle.rc_base.specs.declared.ending.Kind.TheVariants.{Accepted, NullRouted, Exits, Delivered}
 use Rattle.rc_base.specs.declared.position.Pos.TheVariants.{Own, Entering}
 use Rattle.rc_config.specs.IfType.{type_of}
@@ -9,21 +8,9 @@ use Rattle.rc_fib.specs.Forwarding.{hops_within}
 use Rattle.rc_route.specs.declared.route.Hop.TheVariants.{Null}
 use Rattle.rc_topology.specs.Ports.{links_of}
 use Rattle.rc_walk.specs.declared.walk.Stop.TheVariants.{At}
-use Rattle.rc_walk.specs.Examples.{ip, to, port, with_address, gi0, gi1, network, connected, static, via, plane}
+use Rattle.rc_walk.specs.Examples.{ip, to, port, with_address, gi0, gi1, network, connected, static, via, plane, none, taken, pair}
 use Rattle.rc_walk.specs.Moves.{DataPlane}
 use Rattle.rc_walk.specs.ShortestWalks.{ComeBefore, shortest_walk}
-
-abbrev none : Ends
-none = record { denied_in = false; accepted = false; no_route = false; null_routed = false; denied_out = false; unreachable = false; exits = false; delivered = false }
-
-abbrev taken : Ends
-taken = record none { accepted = true; delivered = true }
-
--- two routers, each with a default route to the other
-abbrev pair : DataPlane
-pair =
-    plane (network (((gi0, with_address (ip 10 0 0 1) 24) ∷ []) ∷ ((gi0, with_address (ip 10 0 0 2) 24) ∷ (gi1, with_address (ip 10 0 1 2) 24) ∷ []) ∷ []))
-    ((static 0 0 (via (ip 10 0 0 2) ∷ []) ∷ connected 0 (ip 10 0 0 0) 24 0 ∷ []) ∷ (static 0 0 (via (ip 10 0 0 1) ∷ []) ∷ connected 1 (ip 10 0 0 0) 24 0 ∷ connected 1 (ip 10 0 1 0) 24 1 ∷ []) ∷ [])
 
 -- an ending at the place itself
 pub at_the_place : shortest_walk pair (to (ip 10 0 0 9)) taken (Own 0) ≡ Some (record { positions = Own 0 ∷ []; stop = At Delivered })

@@ -1,5 +1,5 @@
 -- Worked cases of first walks, each by computation. That the walk that is computed is the first walk is a law (`first_walk_is`).
-use Rattle.std.specs.Prelude.{◌≡◌, ℕ, ◌+◌, ◌-◌, ◌%◌, [], ◌∷◌, map, refl}
+use Rattle.std.specs.Prelude.{◌≡◌, ◌+◌, ◌%◌, [], ◌∷◌, map, refl}
 use Rattle.std.specs.List.{range_with_len}
 use Rattle.rc_base.specs.declared.ending.Kind.TheVariants.{Accepted, NoRoute, Delivered}
 use Rattle.rc_base.specs.declared.position.Pos.TheVariants.{Own, Entering}
@@ -7,15 +7,9 @@ use Rattle.rc_config.specs.IfType.{type_of}
 use Rattle.rc_fib.specs.Forwarding.{hops_within}
 use Rattle.rc_topology.specs.Ports.{links_of}
 use Rattle.rc_walk.specs.declared.walk.Stop.TheVariants.{At, Loop}
-use Rattle.rc_walk.specs.Examples.{ip, to, port, with_address, gi0, gi1, network, connected, static, via, plane}
+use Rattle.rc_walk.specs.Examples.{ip, to, port, with_address, gi0, gi1, network, connected, static, via, plane, pair, ring}
 use Rattle.rc_walk.specs.Moves.{DataPlane}
 use Rattle.rc_walk.specs.Walks.{first_walk}
-
--- two routers, each with a default route to the other
-abbrev pair : DataPlane
-pair =
-    plane (network (((gi0, with_address (ip 10 0 0 1) 24) ∷ []) ∷ ((gi0, with_address (ip 10 0 0 2) 24) ∷ (gi1, with_address (ip 10 0 1 2) 24) ∷ []) ∷ []))
-    ((static 0 0 (via (ip 10 0 0 2) ∷ []) ∷ connected 0 (ip 10 0 0 0) 24 0 ∷ []) ∷ (static 0 0 (via (ip 10 0 0 1) ∷ []) ∷ connected 1 (ip 10 0 0 0) 24 0 ∷ connected 1 (ip 10 0 1 0) 24 1 ∷ []) ∷ [])
 
 -- to a host behind the other router
 pub delivered_behind : first_walk pair (to (ip 10 0 1 9)) (Own 0) ≡ record { positions = Own 0 ∷ Entering (port 1 0) ∷ []; stop = At Delivered }
@@ -45,12 +39,6 @@ fork =
 pub first_of_two_ways : first_walk fork (to (ip 10 0 3 9)) (Own 0) ≡ record { positions = Own 0 ∷ Entering (port 1 0) ∷ []; stop = At NoRoute }
 unfolding hops_within links_of type_of
 first_of_two_ways = refl
-
--- a ring of routers, each with a default route to the next
-abbrev ring : ℕ → DataPlane
-ring n =
-    plane (network (map (λ k. (gi0, with_address (ip 10 0 k 1) 24) ∷ (gi1, with_address (ip 10 0 ((k + n - 1) % n) 2) 24) ∷ []) (range_with_len 0 n)))
-    (map (λ k. static 0 0 (via (ip 10 0 k 2) ∷ []) ∷ connected k (ip 10 0 k 0) 24 0 ∷ []) (range_with_len 0 n))
 
 pub round_the_ring : first_walk (ring 16) (to (ip 8 8 8 8)) (Own 0) ≡ record { positions = Own 0 ∷ map (λ k. Entering (port ((k + 1) % 16) 1)) (range_with_len 0 16); stop = Loop }
 unfolding hops_within links_of type_of

@@ -41,6 +41,26 @@ module _ (plane : DataPlane) (h : Header) where
     pub once : IsDistinct same_position (q ∷ steps)
     pub stops : MayStopAt w.positions (last_position q steps) w.stop
 
+  -- ---- moves without end
+
+  -- from a position some walk has one of its own positions among the moves of its last one
+  pub record IsLooping (q : Pos) : Type 0 where
+    pub walk : Walk
+    pub is_walk : IsWalk q walk
+    pub back : walk.stop ≡ Loop
+
+  -- so many moves one after another from a position, with or without repeats
+  pub record HasChain (q : Pos) (many : ℕ) : Type 0 where
+    pub steps : List Pos
+    pub as_many : length steps ≡ many
+    pub each : AreMoves q steps
+
+  -- moves one after another from a position without end
+  pub record GoesOnForEver (q : Pos) : Type 0 where
+    pub path : ℕ → Pos
+    pub from : path 0 ≡ q
+    pub each : (k : ℕ) → Contains (moves plane h (path k)) (Next (path (suc k)))
+
   -- ---- the first walk
 
   -- the first move at a position

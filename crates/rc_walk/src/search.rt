@@ -31,11 +31,21 @@ pub(crate) struct Met {
 
 /// The positions that were found, each once, in the order in which they were; for each the place among them of the one from which a move
 /// leads there, and the place of that move among its moves.
-#[derive(Drop)]
 pub(crate) struct Search {
     pub found: Walked,
     pub from: Vec<usize>,
     pub by: Vec<usize>,
+}
+
+/// By a function of its own, so that what holds a search drops it by one call.
+impl Drop for Search {
+    fn drop(self) {
+        let Search {
+            found: _,
+            from: _,
+            by: _,
+        } = self;
+    }
 }
 
 /// The moves at a position, in order.
