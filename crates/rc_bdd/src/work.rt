@@ -1,15 +1,15 @@
 //! A seat with a memo, and the operations on sets.
-ghost use Rattle.std.specs.Prelude.{◌≡◌, ℕ, ◌≤◌, IfOk, IfErr, MatchOption};
+ghost use Rattle.std.specs.Prelude.{◌≡◌, ℕ, ◌≤◌, ◌&&◌, not, IfOk, IfErr, MatchOption};
 ghost use Rattle.rc_bdd.specs.Work.{AreSides, IsCause, IsFrom, IsRight, IsWantOfRoom, MayBranch, MayCombine, truth};
 ghost use Rattle.rc_nodes.specs.Seats.{IsFull, IsKnown, IsSeatOf, Keeps, SeatKnows, SeatView};
 ghost use Rattle.rc_nodes.specs.Views.{Sound};
 ghost use Rattle.rc_trees.specs.Combine.{joined, combined, and, or, minus};
-ghost use Rattle.rc_trees.specs.Trees.{Tree, top, high_side, low_side};
+ghost use Rattle.rc_trees.specs.Trees.{Tree, never, top, high_side, low_side, same_tree};
 
 use crate::memo::{Noted, PLACES, memo_of, place_of, result_of};
 use crate::operation::Operation;
 use rc_base::HEADER_BITS;
-use rc_nodes::{Full, May, Node, Nodes, Ref, Seat};
+use rc_nodes::{Full, May, NEVER, Node, Nodes, Ref, Seat};
 use std::alloc::{AllocError, Global};
 use std::marker::Model;
 
@@ -132,6 +132,55 @@ impl<M: May> Work<M> {
             return Ok(low);
         }
         nodes.make(&mut self.seat, var, low, high)
+    }
+
+    /// Whether some header is in both sets. It makes no node.
+    #[tactic(auto, unfolding(rc_trees::specs::Combine::and))]
+    pub fn meets(&mut self, nodes: &Nodes<M>, left: Ref, right: Ref) -> bool
+        requires seat { IsSeatOf nodes.now self.old }
+        requires known { IsKnown self.old left.index × IsKnown self.old right.index }
+        ensures seat { IsSeatOf nodes.now self.new }
+        ensures keeps { Keeps self.old self.new }
+        ensures meets { (s t : Tree) → SeatKnows self.old left.index s → SeatKnows self.old right.index t → result ≡ not (same_tree (and s t) never) }
+    {
+        self.meet(nodes, 0, left, right)
+    }
+
+    /// Whether two sets, which test no bit below `from`, have a header in common: they do where their sides at one bit do. The memo knows
+    /// it of two that were combined, and is told of two that have none.
+    fn meet(&mut self, nodes: &Nodes<M>, from: u8, left: Ref, right: Ref) -> bool
+        requires seat { IsSeatOf nodes.now self.old }
+        requires known { IsKnown self.old left.index × IsKnown self.old right.index }
+        requires from { IsFrom self.old from left.index × IsFrom self.old from right.index }
+        ensures seat { IsSeatOf nodes.now self.new }
+        ensures keeps { Keeps self.old self.new }
+        ensures meets { (s t : Tree) → SeatKnows self.old left.index s → SeatKnows self.old right.index t → result ≡ not (same_tree (combined ◌&&◌ s t) never) }
+    {
+        if let Some(known) = Operation::And.at_once(left, right) {
+            return known.index != 0;
+        }
+        let place = place_of(Operation::And, left, right);
+        if let Some(known) = self.recall(place, Operation::And, left, right) {
+            return known.index != 0;
+        }
+        let sides = self.sides(nodes, left, right);
+        let next = sides.var + 1;
+        if self.meet(nodes, next, sides.left_low, sides.right_low) {
+            return true;
+        }
+        if self.meet(nodes, next, sides.left_high, sides.right_high) {
+            return true;
+        }
+        self.note(
+            place,
+            Noted {
+                operation: Operation::And,
+                left,
+                right,
+                result: NEVER,
+            },
+        );
+        false
     }
 
     fn operate(

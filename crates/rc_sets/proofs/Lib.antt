@@ -1,8 +1,12 @@
 pub mod AccessListLaws
 pub mod AccessListsReduced
+pub mod IdleLaws
 pub mod RegionLaws
 pub mod RegionsReduced
+mod AskedLaws
 mod BuildLaws
+mod DecidingLaws
+mod FullLaws
 mod GivenLaws
 mod IntervalLaws
 mod LeadLaws

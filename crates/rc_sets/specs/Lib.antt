@@ -1,4 +1,9 @@
+pub mod AskedLists
 pub mod Builds
+pub mod Deciding
+pub mod IdleLines
+pub mod IdleRows
+pub mod LinesQuery
 pub mod AccessLists
 pub mod Intervals
 pub mod Marks

@@ -88,7 +88,7 @@ fn way_set<M: May>(
 }
 
 /// The headers that a line matches.
-fn line_set<M: May>(
+pub(crate) fn line_set<M: May>(
     work: &mut Work<M>,
     nodes: &Nodes<M>,
     line: &AccessListLine,

@@ -12,6 +12,7 @@ ghost use Rattle.rc_filter.specs.Verdict.{first_action, matches, passes};
 ghost use Rattle.rc_route.specs.Hops.{same_hop};
 ghost use Rattle.rc_route.specs.declared.route.Hop.{Hop};
 ghost use Rattle.rc_sets.specs.AccessLists.{line_set, lines_set, passing_set};
+ghost use Rattle.rc_sets.specs.IdleLines.{AreTold};
 ghost use Rattle.rc_sets.specs.Regions.{hop_set};
 ghost use Rattle.rc_trees.specs.Recipes.{has, tree};
 ghost use Rattle.rc_trees.specs.Trees.{IsReduced};
@@ -37,4 +38,10 @@ pub fn an_access_group_is_its_set()
 pub fn a_hop_is_its_set()
     ensures hops { (table : List Entry) (hop : Hop) (h : Header) → IsInOrder table → IsHeader h → has (hop_set table hop) h ≡ list_any (same_hop hop) (resolved_hops table h.dst) }
     ensures reduced { (table : List Entry) (hop : Hop) → IsInOrder table → IsReduced (tree (hop_set table hop)) }
+{}
+
+/// The idle lines of an access list that sets tell are those that the headers tell which lines match, each with the lines that decide
+/// something of it; and no other list is.
+pub fn idle_lines_are_told_by_headers()
+    ensures { AreTold }
 {}

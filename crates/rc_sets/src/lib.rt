@@ -6,20 +6,30 @@
 #![tactic(auto)]
 
 mod access_list;
+mod asked_lists;
 mod build;
+mod deciding;
 mod further;
 mod hops;
+mod idle_line;
+mod idle_lines;
 mod interval;
 mod laws;
+mod lines_query;
 mod number;
 mod ports;
 mod prefix;
 mod stretches;
 
 pub use access_list::filter_set;
+pub use asked_lists::idle_of_lists;
 pub use hops::{hop_set, hop_set_by};
+pub use idle_line::{Idle, IdleLine};
+pub use idle_lines::idle;
 pub use laws::{
     a_hop_is_its_set, a_line_is_its_set, an_access_group_is_its_set, an_access_list_is_its_set,
+    idle_lines_are_told_by_headers,
 };
+pub use lines_query::LinesQuery;
 pub use prefix::prefix_set;
 pub use stretches::TableHops;

@@ -1,0 +1,11 @@
+use Rattle.std.proofs.Common.{ap, ◌++◌}
+use Rattle.rc_sets.proofs.DecidingLaws.{idle_pushed, own_empty, own_some, used_step}
+use Rattle.rc_sets.proofs.StretchLaws.{on_done}
+use Rattle.rc_sets.proofs.idle_lines.push_idle.Goals as goal
+
+pub returns-then-line-ne0-clause-pushed : goal.returns-then-line-ne0-clause-pushed
+returns-then-line-ne0-clause-pushed g c = λ lines rest l all is. ap (λ xs. c.args.idle.now ++ xs) (used_step lines l rest (own_some c.requires.seat.sound is c.if-line-ne0.true))
+
+pub returns-clause-pushed : goal.returns-clause-pushed
+returns-clause-pushed g c = on_done c.push.result _ _
+    (λ pushed lines rest l all is. idle_pushed c.args.idle.now c.push.new.self lines l rest c.args.line.now.sequence c.in_ok-by.by pushed is.sequence (c.in_ok-by.ensures.deciders lines l all is) (own_empty is c.if-line-ne0.false)) c.push.ensures.ok
