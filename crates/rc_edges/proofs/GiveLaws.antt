@@ -1,6 +1,6 @@
 -- What a hop gives towards one interface, step by step.
-use Rattle.std.proofs.Common.{refl, ◌≡◌, ap, sym, ◌∙◌, subst, ℕ, ◌<◌, ◌==◌, Bool, true, false, not, ◌&&◌, cond, List, [], ◌∷◌, ◌++◌, append_assoc, length, Some, None, inl, inr, ◌⊎◌, Result, Ok, Err, IfOk}
-use Rattle.std.proofs.lemmas.Bool.{cases_eq, eq-eqb, ne_eqb}
+use Rattle.std.proofs.Common.{refl, ◌≡◌, ap, sym, ◌∙◌, subst, ℕ, ◌==◌, Bool, true, false, not, ◌&&◌, cond, List, [], ◌∷◌, ◌++◌, append_assoc, length, Some, inr, Result, Ok, Err, IfOk}
+use Rattle.std.proofs.lemmas.Bool.{eq-eqb}
 use Rattle.rc_base.proofs.KeepLaws.{In}
 use Rattle.rc_base.specs.declared.addr.Addr.{Addr}
 use Rattle.rc_base.specs.declared.position.IfId.{IfId}
@@ -10,16 +10,16 @@ use Rattle.rc_edges.proofs.JoinLaws.{front, piece}
 use Rattle.rc_edges.proofs.RowLaws.{row_kept}
 use Rattle.rc_edges.specs.Edges.{onto_link, takes, towards, union}
 use Rattle.rc_edges.specs.Given.{Gives, IsRow, MayGet, MayGive, joined, leads_onto, with_sets}
-use Rattle.rc_edges.specs.Sent.{leaving, to_interface, to_subnets, untaken}
+use Rattle.rc_edges.specs.Sent.{leaving}
 use Rattle.rc_edges.specs.Steps.{device}
 use Rattle.rc_edges.specs.declared.outgoing.Row.{Row}
 use Rattle.rc_nodes.specs.Seats.{TableView, SeatView, Keeps, SeatKnows}
 use Rattle.rc_route.specs.declared.route.Hop.{Hop}
-use Rattle.rc_route.specs.declared.route.Hop.TheVariants.{Null, Dev, Via}
+use Rattle.rc_route.specs.declared.route.Hop.TheVariants.{Dev, Via}
 use Rattle.rc_topology.specs.Links.{are_linked, port_is}
-use Rattle.rc_topology.specs.Ports.{is_loopback, is_serial}
+use Rattle.rc_topology.specs.Ports.{is_loopback}
 use Rattle.rc_trees.proofs.PartLaws.{fold-each}
-use Rattle.rc_trees.specs.Recipes.{Recipe, given, and, minus, parts, tree}
+use Rattle.rc_trees.specs.Recipes.{Recipe, given, parts, tree}
 use Rattle.rc_trees.specs.Trees.{never, HasNodes}
 use Rattle.rc_walk.specs.Moves.{DataPlane}
 

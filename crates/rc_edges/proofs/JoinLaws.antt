@@ -1,7 +1,6 @@
 -- Sets that are joined one after another: what each step may make, and what it makes.
-use Rattle.std.proofs.Common.{refl, ◌≡◌, ap, sym, ◌∙◌, subst, ℕ, zero, suc, ◌+◌, ◌<◌, ◌≤◌, List, [], ◌∷◌, ◌++◌, length, map, take, drop, get_or, inl, inr, Result, Ok, Err, IfOk, arith}
-use Rattle.std.specs.List.{flat_map, fold}
-use Rattle.rc_base.proofs.KeepLaws.{In}
+use Rattle.std.proofs.Common.{refl, ◌≡◌, ap, sym, ◌∙◌, subst, ℕ, zero, suc, ◌+◌, ◌<◌, ◌≤◌, List, [], ◌∷◌, ◌++◌, length, map, take, drop, get_or, Result, Ok, Err, IfOk, arith}
+use Rattle.std.specs.List.{fold}
 use Rattle.rc_bdd.specs.Work.{MayCombine}
 use Rattle.rc_bdd.specs.declared.work.SetError.{SetError}
 use Rattle.rc_nodes.specs.Seats.{TableView, SeatView, SeatKnows}
@@ -9,7 +8,7 @@ use Rattle.rc_nodes.specs.declared.words.Ref.{Ref}
 use Rattle.rc_trees.proofs.NodeLaws.{has_recipe}
 use Rattle.rc_trees.proofs.PartLaws.{fold-first, fold-step, or-second}
 use Rattle.rc_trees.specs.Combine as trees
-use Rattle.rc_trees.specs.Recipes.{Recipe, given, and, or, minus, parts, tree, union_of, without, Uses}
+use Rattle.rc_trees.specs.Recipes.{Recipe, given, and, or, minus, parts, tree, union_of, Uses}
 use Rattle.rc_trees.specs.Trees.{Tree, never, HasNodes}
 
 -- what a piece makes may be made where the whole may

@@ -1,5 +1,5 @@
 -- What goes on from a position goes on from one that is like it.
-use Rattle.std.proofs.Common.{refl, ◌≡◌, ◌≢◌, ap, sym, ◌∙◌, ℕ, ◌==◌, Bool, true, false, not, ◌&&◌, cond, List, [], ◌∷◌, Option, Some, None, inl, inr, ◌⊎◌}
+use Rattle.std.proofs.Common.{refl, ◌≡◌, ◌≢◌, ap, sym, ◌∙◌, ℕ, ◌==◌, true, false, not, ◌&&◌, cond, List, [], ◌∷◌, Option, Some, None, inl, inr, ◌⊎◌}
 use Rattle.std.specs.List.{flat_map}
 use Rattle.std.specs.Option.{option_map_or}
 use Rattle.std.specs.Str.{bytes_eq}
@@ -16,7 +16,7 @@ use Rattle.rc_config.specs.declared.interface.Direction.TheVariants.{In}
 use Rattle.rc_config.specs.declared.interface.Interface.{Interface}
 use Rattle.rc_config.specs.declared.network.Network.{Network}
 use Rattle.rc_edges.specs.Edges.{edge, onto_link, takes, towards, union}
-use Rattle.rc_edges.specs.Endings.{delivered, denied_out, end, exits, is_none, stopped_over, unreachable, unreachable_over}
+use Rattle.rc_edges.specs.Endings.{delivered, denied_out, end, exits, is_none, unreachable}
 use Rattle.rc_edges.specs.Likes.{IsLike, group_in, is_like, same_group}
 use Rattle.rc_edges.specs.Sent.{forwarded, hops_at, leaving, let_in, let_out, passing_at, sent, taken, to_interface, to_router, to_subnets, untaken}
 use Rattle.rc_filter.specs.Groups.{access_lists_of}
@@ -26,9 +26,9 @@ use Rattle.rc_sets.specs.AccessLists.{passing_set}
 use Rattle.rc_sets.specs.Regions.{hop_set, hops_in}
 use Rattle.rc_topology.specs.Links.{are_linked, linked, port_is, takers}
 use Rattle.rc_topology.specs.Ports.{is_loopback, is_serial}
-use Rattle.rc_trees.specs.Recipes.{Recipe, given, and, minus, without}
+use Rattle.rc_trees.specs.Recipes.{given, and, minus, without}
 use Rattle.rc_trees.specs.Trees.{always}
-use Rattle.rc_walk.specs.Moves.{DataPlane, fib_of, router_of}
+use Rattle.rc_walk.specs.Moves.{DataPlane, fib_of}
 
 module _ (plane : DataPlane) (q t : Pos) (like : IsLike plane.network q t) where
   pub forwarded_like : forwarded plane q ≡ forwarded plane t

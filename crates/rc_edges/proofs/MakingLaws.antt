@@ -1,9 +1,8 @@
 -- What goes on from positions, one position after another.
-use Rattle.std.proofs.Common.{refl, ◌≡◌, ap, sym, ◌∙◌, subst, ℕ, zero, suc, ◌+◌, ◌-◌, ◌<◌, ◌≤◌, List, [], ◌∷◌, ◌++◌, length, cond, map, All, Option, Some, None, Result, Ok, Err, IfOk, OnOk, replicate, arith}
-use Rattle.std.specs.Prelude.{slice_get, slice_index_or, unwrap_or, flat_map}
+use Rattle.std.proofs.Common.{refl, ◌≡◌, ap, sym, ◌∙◌, subst, ℕ, zero, suc, ◌+◌, ◌-◌, ◌<◌, ◌≤◌, Bool, List, [], ◌∷◌, ◌++◌, filter, length, map, All, None, Result, Ok, Err, IfOk, OnOk, replicate, arith}
+use Rattle.std.specs.Prelude.{slice_get, slice_index_or, unwrap_or}
 use Rattle.std.specs.List.{fold, range_with_len}
 use Rattle.std.proofs.lemmas.List.{get_or-replicate, length-replicate}
-use Rattle.rc_base.specs.Positions.{is_among}
 use Rattle.rc_base.specs.declared.ending.Ends.{Ends}
 use Rattle.rc_base.specs.declared.ending.Kind.{Kind}
 use Rattle.rc_base.specs.declared.position.Pos.{Pos}
@@ -20,34 +19,30 @@ use Rattle.rc_edges.specs.Given.{AreFlushed, IsRow}
 use Rattle.rc_edges.specs.HopParts.{no_parts, part_in, parts_of}
 use Rattle.rc_edges.specs.Likes.{IsLike}
 use Rattle.rc_edges.specs.Made.{IsKnownIfMade, IsMade}
-use Rattle.rc_edges.specs.Prepare.{edge_at, end_trees, ends_at}
+use Rattle.rc_edges.specs.Prepare.{edge_at, end_trees, stops_at}
 use Rattle.rc_edges.specs.Query.{kinds_of}
 use Rattle.rc_edges.specs.Sendings.{IsSending}
 use Rattle.rc_edges.specs.Sent.{forwarded, hops_at, to_router}
 use Rattle.rc_edges.specs.Shares.{IsShare}
 use Rattle.rc_edges.specs.Steps.{fixed}
-use Rattle.rc_edges.specs.Stops.{AreKnown}
+use Rattle.rc_edges.specs.Stops.{AreKnown, sets_of}
+use Rattle.rc_edges.specs.declared.asked_endings.Stop.{Stop}
 use Rattle.rc_edges.specs.declared.hop_steps.Part.{Part}
 use Rattle.rc_edges.specs.declared.hop_steps.Part.TheVariants.{Over, LetOut, Taken, Subnets}
-use Rattle.rc_edges.specs.declared.router_sets.HopParts.{HopParts}
 use Rattle.rc_edges.specs.declared.router_sets.RouterSets.{RouterSets}
-use Rattle.rc_edges.specs.declared.outgoing.Row.{Row}
 use Rattle.rc_edges.specs.declared.position_sets.Sending.{Sending}
 use Rattle.rc_jobs.specs.declared.collected.Collected.{Collected}
 use Rattle.rc_bdd.specs.declared.work.SetError.{SetError}
 use Rattle.rc_fib.specs.declared.entry.Entry.{Entry}
-use Rattle.rc_jobs.specs.Flows.{KnowsFlows, edges_to, endings_of, real}
-use Rattle.rc_jobs.specs.declared.flow.Flow.{Flow}
-use Rattle.rc_nodes.specs.Seats.{TableView, SeatView, IsSeatOf, Keeps, SeatKnows}
-use Rattle.rc_nodes.specs.declared.words.Ref.{Ref}
+use Rattle.rc_jobs.specs.Flows.{KnowsFlows, edges_to, endings_of, flows_of, real}
+use Rattle.rc_nodes.specs.Seats.{TableView, SeatView, IsSeatOf, Keeps}
 use Rattle.rc_places.specs.Places.{position_at}
-use Rattle.rc_route.specs.declared.route.Hop.{Hop}
 use Rattle.rc_sets.specs.Regions.{hops_in}
 use Rattle.rc_sets.specs.Stretches.{AreStretches}
 use Rattle.rc_trees.specs.Recipes.{tree}
 use Rattle.rc_trees.specs.Trees.{Tree}
 use Rattle.rc_walk.specs.Moves.{DataPlane, fib_of, router_of}
-use Rattle.rc_jobs.specs.Collecting.{AreRows, numbers, with_flow}
+use Rattle.rc_jobs.specs.Collecting.{numbers, with_ending}
 
 -- whatever follows where a step is done
 pub on_ok : {A E : Type 0} (result : Result A E) (P Q : Type 0) → (P → Q) → OnOk result P → IfOk result (λ _. Q)
@@ -105,7 +100,7 @@ nothing_shared seat plane ends a share into last = record {
   order = omega arith;
   as_many = ap length into ∙ length-replicate (length (positions plane.network)) [];
   rows = record { each = λ t d less. subst (λ fs. KnowsFlows seat fs (real (edges_to (edge_at plane) (numbers a a) t))) (sym (ap (λ xs. slice_index_or xs t d) into ∙ get_or-replicate (length (positions plane.network)) t [] d (let e = ap length into ∙ length-replicate (length (positions plane.network)) [] in omega arith))) (none t) };
-  endings = subst (λ fs. KnowsFlows seat fs (real (endings_of (ends_at plane ends) (numbers a a)))) (sym last) no_ends;
+  endings = λ these. subst (λ es. KnowsFlows seat (flows_of these es) (real (endings_of (stops_at plane ends these) (numbers a a)))) (sym last) (no_ends these);
 }
   where
     empty : numbers a a ≡ []
@@ -114,8 +109,8 @@ nothing_shared seat plane ends a share into last = record {
     none : (t : ℕ) → KnowsFlows seat [] (real (edges_to (edge_at plane) (numbers a a) t))
     none t = subst (λ ns. KnowsFlows seat [] (real (edges_to (edge_at plane) ns t))) (sym empty) tt
 
-    no_ends : KnowsFlows seat [] (real (endings_of (ends_at plane ends) (numbers a a)))
-    no_ends = subst (λ ns. KnowsFlows seat [] (real (endings_of (ends_at plane ends) ns))) (sym empty) tt
+    no_ends : (these : Kind → Bool) → KnowsFlows seat [] (real (endings_of (stops_at plane ends these) (numbers a a)))
+    no_ends these = subst (λ ns. KnowsFlows seat [] (real (endings_of (stops_at plane ends these) ns))) (sym empty) tt
 
 -- ---- what goes on from positions that are like each other
 
@@ -134,42 +129,44 @@ module _ (nodes : TableView) (seat : SeatView) (plane : DataPlane) (ends : Ends)
       forwarded = subst (IsKnownIfMade seat s.made.forwarded) (forwarded_like plane q t like) is.made.forwarded;
     };
     row = row_like seat s.row (length (positions plane.network)) (λ n. tree (edge plane q (position_at plane.network n))) (λ n. tree (edge plane t (position_at plane.network n))) (λ n less. ap tree (edge_like plane q t like (position_at plane.network n))) is.row;
-    stops = subst (AreKnown seat s.stops.items) (asked_like (kinds_of ends)) is.stops;
+    stops = λ these. subst (AreKnown seat (sets_of these s.stops.items)) (asked_like (filter these (kinds_of ends))) (is.stops these);
   }
 
 -- what a position sends and the endings at it, made one after the other
-module _ (nodes : TableView) (v w : SeatView) (plane : DataPlane) (ends : Ends) (q : Pos) (places : Network) (same : places ≡ plane.network) (old : List Ref) (none : old ≡ []) where
+module _ (nodes : TableView) (v w : SeatView) (plane : DataPlane) (ends : Ends) (q : Pos) (places : Network) (same : places ≡ plane.network) (old : List Stop) (none : old ≡ []) where
   pub filled : (s : Sending) (result : Result (Unit {0}) SetError) → IsRow v s.row (length (positions places)) (λ t. tree (edge plane q (position_at places t))) → Keeps v w → IfOk result (λ _. IsMade nodes w plane q s.made)
-      → OnOk result ((done : List Tree) → AreKnown v old done → AreKnown w s.stops.items (done ++ end_trees plane q (kinds_of ends))) → IfOk result (λ _. IsSending nodes w plane ends q s)
+      → OnOk result ((these : Kind → Bool) (done : List Tree) → AreKnown v (sets_of these old) done → AreKnown w (sets_of these s.stops.items) (done ++ end_trees plane q (filter these (kinds_of ends)))) → IfOk result (λ _. IsSending nodes w plane ends q s)
   filled s (Err e) row keeps made stops = tt
   filled s (Ok x) row keeps made stops = record {
     made = made;
     row = row_kept v w keeps s.row (length (positions plane.network)) (λ t. tree (edge plane q (position_at plane.network t))) (subst (λ net. IsRow v s.row (length (positions net)) (λ t. tree (edge plane q (position_at net t)))) same row);
-    stops = stops [] (subst (λ rs. AreKnown v rs []) (sym none) tt);
+    stops = λ these. stops these [] (subst (λ ss. AreKnown v (sets_of these ss) []) (sym none) tt);
   }
 
 pub sending_kept : (nodes : TableView) (v w : SeatView) (plane : DataPlane) (ends : Ends) (q : Pos) (s : Sending) → IsSending nodes v plane ends q s → IsSeatOf nodes w → Keeps v w → IsSending nodes w plane ends q s
 sending_kept nodes v w plane ends q s is table keeps = record {
   made = made_kept nodes plane q s.made v w is.made table keeps;
   row = row_kept v w keeps s.row (length (positions plane.network)) (λ t. tree (edge plane q (position_at plane.network t))) is.row;
-  stops = known-kept v w keeps s.stops.items (end_trees plane q (kinds_of ends)) is.stops;
+  stops = λ these. known-kept v w keeps (sets_of these s.stops.items) (end_trees plane q (filter these (kinds_of ends))) (is.stops these);
 }
 
 -- ---- one position more
 
-pub endings-more : (plane : DataPlane) (ends : Ends) (a n : ℕ) → a ≤ n → endings_of (ends_at plane ends) (numbers a (n + 1)) ≡ endings_of (ends_at plane ends) (numbers a n) ++ endings_of (ends_at plane ends) (n ∷ [])
-endings-more plane ends a n le = ap (endings_of (ends_at plane ends)) (numbers-more a n le) ∙ flat-append (λ q. map (λ e. (q, e)) (ends_at plane ends q)) (numbers a n) (n ∷ [])
+pub endings-more : (ends : ℕ → List Tree) (a n : ℕ) → a ≤ n → endings_of ends (numbers a (n + 1)) ≡ endings_of ends (numbers a n) ++ endings_of ends (n ∷ [])
+endings-more ends a n le = ap (endings_of ends) (numbers-more a n le) ∙ flat-append (λ q. map (λ e. (q, e)) (ends q)) (numbers a n) (n ∷ [])
 
 module _ (nodes : TableView) (seat : SeatView) (plane : DataPlane) (ends : Ends) (from n : ℕ) (before after : Collected) (s : Sending) (share : IsShare seat plane ends from n before) (is : IsSending nodes seat plane ends (position_at plane.network n) s) where
-  pub share_more : AreFlushed before.into.items s.row n after.into.items → after.ends ≡ fold (λ fs r. with_flow fs n r) before.ends s.stops.items → IsShare seat plane ends from (n + 1) after
+  pub share_more : AreFlushed before.into.items s.row n after.into.items → after.ends ≡ fold (λ es s. with_ending es n s.kind s.set) before.ends s.stops.items → IsShare seat plane ends from (n + 1) after
   share_more flushed put = record {
     order = let le = share.order in omega arith;
     as_many = flushed.as_many ∙ share.as_many;
     rows = flushed_rows seat (edge_at plane) from n share.order before.into.items after.into.items s.row flushed share.rows (subst (λ k. IsRow seat s.row k (edge_at plane n)) (sym share.as_many) is.row);
-    endings = subst (λ fs. KnowsFlows seat fs (real (endings_of (ends_at plane ends) (numbers from (n + 1))))) (sym put)
-        (subst (λ ps. KnowsFlows seat (fold (λ fs r. with_flow fs n r) before.ends s.stops.items) (real ps))
-        (ap (λ ps. endings_of (ends_at plane ends) (numbers from n) ++ ps) (asked_there plane ends n) ∙ sym (endings-more plane ends from n share.order))
-        (stops_put seat n s.stops.items (ends_at plane ends n) is.stops before.ends (endings_of (ends_at plane ends) (numbers from n)) share.endings));
+    endings = λ these.
+        let asked : ℕ → List Tree = stops_at plane ends these in
+        subst (λ es. KnowsFlows seat (flows_of these es) (real (endings_of asked (numbers from (n + 1))))) (sym put)
+        (subst (λ ps. KnowsFlows seat (flows_of these (fold (λ es s. with_ending es n s.kind s.set) before.ends s.stops.items)) (real ps))
+        (ap (λ ps. endings_of asked (numbers from n) ++ ps) (asked_there plane ends these n) ∙ sym (endings-more asked from n share.order))
+        (stops_put seat these n s.stops.items (asked n) (is.stops these) before.ends (endings_of asked (numbers from n)) (share.endings these)));
   }
 
   -- each number that a flow is put to has its list

@@ -3,15 +3,15 @@ use Rattle.std.proofs.Common.{refl, ◌≡◌, ap, sym, ◌∙◌, ℕ, ◌+◌,
 use Rattle.std.proofs.lemmas.List.{map_more}
 use Rattle.std.specs.List.{flat_map}
 use Rattle.std.specs.Option.{option_map_or}
-use Rattle.rc_base.specs.Prefix.{Cidr, prefix_at}
+use Rattle.rc_base.specs.Prefix.{prefix_at}
 use Rattle.rc_base.specs.declared.position.IfId.{IfId}
 use Rattle.rc_edges.proofs.JoinLaws.{taken_here, union-map}
 use Rattle.rc_edges.specs.Made.{hosts_by_port, owned_at}
-use Rattle.rc_edges.specs.Sent.{addresses_at, addresses_of, prefixes_at, prefixes_by_address, taken, to_interface, to_router, to_subnets}
+use Rattle.rc_edges.specs.Sent.{addresses_at, addresses_of, prefixes_by_address, taken, to_interface, to_router, to_subnets}
 use Rattle.rc_topology.specs.Links.{linked, port_at, ports_at}
 use Rattle.rc_topology.specs.declared.port.Port.{Port}
 use Rattle.rc_topology.specs.declared.port.PortAddr.{PortAddr}
-use Rattle.rc_trees.specs.Fields.{chain, host}
+use Rattle.rc_trees.specs.Fields.{chain}
 use Rattle.rc_trees.specs.Recipes.{given, union_of}
 use Rattle.rc_trees.specs.Trees.{never}
 use Rattle.rc_walk.specs.Moves.{DataPlane}

@@ -11,12 +11,11 @@ use Rattle.rc_edges.specs.Edges.{edge}
 use Rattle.rc_edges.specs.Endings.{end}
 use Rattle.rc_edges.specs.Prepare.{MayPrepare}
 use Rattle.rc_base.specs.Endings.{all_kinds}
-use Rattle.rc_edges.specs.Query.{kinds_of, query_nodes, reaching}
+use Rattle.rc_edges.specs.Query.{kinds_of, query_nodes}
 use Rattle.rc_edges.proofs.QueryLaws.{may_be_made, result-edge, result-end}
 use Rattle.rc_edges.proofs.ResultLaws.{every_kind}
 use Rattle.rc_places.specs.Places.{position_at}
 use Rattle.rc_sets.proofs.LongestLaws.{filter-in}
-use Rattle.rc_trees.specs.Recipes.{Uses, parts}
 use Rattle.rc_trees.specs.Trees.{Tree, HasNodes}
 use Rattle.rc_walk.specs.Moves.{DataPlane}
 

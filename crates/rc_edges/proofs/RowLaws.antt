@@ -1,5 +1,5 @@
 -- What one position sends to the others, set by set, and how it comes among the flows.
-use Rattle.std.proofs.Common.{refl, ◌≡◌, ◌≢◌, ap, sym, ◌∙◌, subst, ℕ, zero, suc, ◌+◌, ◌<◌, ◌≤◌, ◌==◌, Bool, true, false, cond, ◌||◌, List, [], ◌∷◌, ◌++◌, append-nil, length, take, filter, get_or, set, get_or-set_same, get_or-set_other, length-set, Option, Some, None, inl, inr, ◌⊎◌, All, replicate, arith}
+use Rattle.std.proofs.Common.{refl, ◌≡◌, ◌≢◌, ap, sym, ◌∙◌, subst, ℕ, zero, suc, ◌+◌, ◌<◌, ◌≤◌, ◌==◌, Bool, true, false, cond, ◌||◌, List, [], ◌∷◌, ◌++◌, append-nil, length, take, get_or, set, get_or-set_same, get_or-set_other, length-set, Option, Some, None, inl, inr, ◌⊎◌, All, replicate, arith}
 use Rattle.std.specs.Prelude.{slice_get, slice_index_or, slice_set, unwrap_or}
 use Rattle.std.specs.List.{fold, list_any}
 use Rattle.std.proofs.lemmas.Bool.{cases_eq, eq-eqb, ne_eqb}
@@ -9,16 +9,16 @@ use Rattle.rc_jobs.proofs.FlowLaws.{edges-more, flow-more}
 use Rattle.rc_edges.proofs.JoinLaws.{may_like, may_or, one_more, take-whole, taken_at}
 use Rattle.rc_edges.proofs.MadeLaws.{get-set}
 use Rattle.rc_edges.specs.Edges.{union}
-use Rattle.rc_edges.specs.Given.{AreFlushed, Gives, IsRow, MayGet, MayGive, flows_with, joined, nothing, or_none, set_at, those, touch_of, touched_with, with_sets}
+use Rattle.rc_edges.specs.Given.{AreFlushed, Gives, IsRow, MayGive, flows_with, joined, nothing, or_none, set_at, those, touch_of, touched_with, with_sets}
 use Rattle.rc_edges.specs.declared.outgoing.Row.{Row}
-use Rattle.rc_jobs.specs.Flows.{KnowsFlows, edges_to, no_header, real}
+use Rattle.rc_jobs.specs.Flows.{KnowsFlows, edges_to, real}
 use Rattle.rc_jobs.specs.declared.flow.Flow.{Flow}
 use Rattle.rc_bdd.specs.Work.{MayCombine}
 use Rattle.rc_nodes.proofs.KnownLaws.{knows_never}
 use Rattle.rc_nodes.specs.Seats.{TableView, SeatView, Keeps, SeatKnows}
 use Rattle.rc_nodes.specs.declared.words.Ref.{Ref}
 use Rattle.rc_trees.specs.Combine as trees
-use Rattle.rc_trees.specs.Recipes.{Recipe, given, or, parts, tree}
+use Rattle.rc_trees.specs.Recipes.{Recipe, given, or, tree}
 use Rattle.rc_trees.specs.Trees.{Tree, never}
 use Rattle.rc_jobs.specs.Collecting.{AreRows, numbers, with_flow}
 

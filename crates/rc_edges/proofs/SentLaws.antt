@@ -1,5 +1,5 @@
 -- What a router takes in, keeps and sends, by its sets and by the moves.
-use Rattle.std.proofs.Common.{refl, ◌≡◌, ap, sym, ◌∙◌, ℕ, ◌*◌, ◌/◌, ◌≤◌, Bool, true, false, not, ◌&&◌, ◌||◌, ◌==◌, List, [], ◌∷◌, map, Option, Some, None, arith}
+use Rattle.std.proofs.Common.{refl, ◌≡◌, ap, sym, ◌∙◌, ℕ, ◌*◌, ◌/◌, ◌≤◌, Bool, true, false, not, ◌&&◌, ◌||◌, ◌==◌, List, [], ◌∷◌, Option, Some, None, arith}
 use Rattle.std.specs.List.{list_any, flat_map, AllByRecursion}
 use Rattle.std.specs.Option.{option_map, option_map_or}
 use Rattle.std.proofs.lemmas.List.Folds.{list_any-append}
@@ -16,7 +16,6 @@ use Rattle.rc_config.specs.Members.{interface_at, interfaces_of}
 use Rattle.rc_config.specs.declared.interface.Direction.{Direction}
 use Rattle.rc_config.specs.declared.interface.Direction.TheVariants.{In, Out}
 use Rattle.rc_config.specs.declared.interface.Interface.{Interface}
-use Rattle.rc_config.specs.declared.network.Network.{Network}
 use Rattle.rc_filter.specs.Groups.{access_lists_of, passes_at}
 use Rattle.rc_filter.specs.Verdict.{passes}
 use Rattle.rc_fib.specs.Forwarding.{resolved_hops}

@@ -1,6 +1,5 @@
 -- The sets of one hop: what each is made of, and which of them edges and endings are.
 use Rattle.std.proofs.Common.{refl, ◌≡◌, ap, sym, ◌∙◌, subst, ℕ, ◌<◌, Bool, true, false, not, ◌&&◌, cond, List, [], ◌∷◌, Option, Some, None, Result, IfOk, arith}
-use Rattle.std.specs.Prelude.{slice_get, unwrap_or}
 use Rattle.rc_base.specs.declared.ending.Kind.{Kind}
 use Rattle.rc_base.specs.declared.ending.Kind.TheVariants.{DeniedIn, Accepted, NoRoute, NullRouted, DeniedOut, Unreachable, Exits, Delivered}
 use Rattle.rc_base.specs.declared.position.IfId.{IfId}
@@ -12,8 +11,8 @@ use Rattle.rc_edges.proofs.JoinLaws.{may_and, may_like, may_minus, operated, pie
 use Rattle.rc_edges.specs.Edges.{onto_link}
 use Rattle.rc_edges.specs.Endings.{is_none}
 use Rattle.rc_edges.specs.Ends.{ends_over}
-use Rattle.rc_edges.specs.Sent.{forwarded, leaving, let_out, sent, taken, to_interface, to_subnets, untaken}
-use Rattle.rc_edges.specs.Steps.{device, earlier, fixed, if_so, is_everything, is_first, operation, part_at, parted, second, step_at, step_sets, stop_step, takes_away}
+use Rattle.rc_edges.specs.Sent.{forwarded, leaving, let_out, sent, to_interface, untaken}
+use Rattle.rc_edges.specs.Steps.{earlier, fixed, if_so, is_everything, is_first, operation, part_at, parted, second, step_at, step_sets, stop_step, takes_away}
 use Rattle.rc_edges.specs.declared.hop_steps.Part.{Part}
 use Rattle.rc_edges.specs.declared.hop_steps.Part.TheVariants.{Over, LetOut, Taken, Subnets}
 use Rattle.rc_edges.specs.declared.hop_steps.Step.{Step}
@@ -25,7 +24,7 @@ use Rattle.rc_route.specs.declared.route.Hop.TheVariants.{Null, Dev, Via}
 use Rattle.rc_topology.specs.Links.{linked, port_is, takers}
 use Rattle.rc_topology.specs.Ports.{is_loopback, is_serial}
 use Rattle.rc_trees.proofs.PartLaws.{and-first, and-second, minus-first, minus-second}
-use Rattle.rc_trees.specs.Recipes.{Recipe, given, and, minus, parts, tree, Uses}
+use Rattle.rc_trees.specs.Recipes.{Recipe, given, and, parts, tree, Uses}
 use Rattle.rc_trees.specs.Trees.{Tree, always, HasNodes}
 use Rattle.rc_walk.specs.Moves.{DataPlane, router_of}
 

@@ -6,7 +6,7 @@ use Rattle.rc_edges.specs.Endings.{end}
 use Rattle.rc_edges.specs.Sent.{forwarded, let_in, sent, to_router}
 use Rattle.rc_route.specs.declared.route.Hop.{Hop}
 use Rattle.rc_sets.specs.Regions.{hop_set}
-use Rattle.rc_trees.specs.Recipes.{Recipe, given, and, minus}
+use Rattle.rc_trees.specs.Recipes.{given, and, minus}
 use Rattle.rc_trees.specs.Trees.{always}
 use Rattle.rc_walk.specs.Moves.{DataPlane, fib_of, router_of}
 

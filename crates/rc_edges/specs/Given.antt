@@ -1,6 +1,6 @@
 -- What a position sends to others so far, and the flows of the positions before it.
-use Rattle.std.specs.Prelude.{◌≡◌, ℕ, ◌-◌, ◌<◌, ◌==◌, All, Bool, true, false, not, ◌&&◌, Option, Some, None, List, [], ◌∷◌, ◌++◌, length, filter, flat_map, slice_get, slice_index_or, unwrap_or, if◌then◌else◌}
-use Rattle.std.specs.List.{fold, list_any, range_with_len}
+use Rattle.std.specs.Prelude.{◌≡◌, ℕ, ◌<◌, ◌==◌, All, Bool, false, not, ◌&&◌, Option, Some, None, List, [], ◌∷◌, ◌++◌, length, filter, flat_map, slice_get, slice_index_or, unwrap_or, if◌then◌else◌}
+use Rattle.std.specs.List.{fold, list_any}
 use Rattle.rc_base.specs.Positions.{same_interface}
 use Rattle.rc_base.specs.declared.position.IfId.{IfId}
 use Rattle.rc_base.specs.declared.position.Pos.{Pos}

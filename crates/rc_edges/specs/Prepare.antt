@@ -1,5 +1,5 @@
 -- The edges and endings of a plane by places, and what a table has to allow for them.
-use Rattle.std.specs.Prelude.{◌≡◌, ℕ, ◌<◌, true, List, length, map}
+use Rattle.std.specs.Prelude.{◌≡◌, ℕ, ◌<◌, Bool, true, List, filter, length, map}
 use Rattle.rc_base.specs.Positions.{is_among}
 use Rattle.rc_base.specs.declared.ending.Ends.{Ends}
 use Rattle.rc_base.specs.declared.ending.Kind.{Kind}
@@ -24,6 +24,10 @@ end_trees plane q ks = map (λ k. tree (end plane q k)) ks
 -- the trees of the endings asked for at a place
 abbrev pub ends_at : DataPlane → Ends → ℕ → List Tree
 ends_at plane ends p = end_trees plane (position_at plane.network p) (kinds_of ends)
+
+-- and of these those of some kinds alone
+abbrev pub stops_at : DataPlane → Ends → (Kind → Bool) → ℕ → List Tree
+stops_at plane ends these p = end_trees plane (position_at plane.network p) (filter these (kinds_of ends))
 
 -- the parts of each edge from a position may be made
 pub record MaySend (may : List Tree) (plane : DataPlane) (q : Pos) : Type 0 where

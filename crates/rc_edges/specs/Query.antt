@@ -1,5 +1,5 @@
 -- What a query makes: the headers that reach each position step by step, and of these the ones that may end as asked.
-use Rattle.std.specs.Prelude.{◌≡◌, ◌≤◌, true, ℕ, zero, suc, List, [], ◌∷◌, map, filter, flat_map, length, if◌then◌else◌}
+use Rattle.std.specs.Prelude.{◌≡◌, ◌≤◌, true, ℕ, zero, suc, List, map, filter, flat_map, length, if◌then◌else◌}
 use Rattle.std.specs.List.{fold}
 use Rattle.rc_base.specs.Endings.{all_kinds}
 use Rattle.rc_base.specs.Positions.{is_among, same_position}

@@ -4,7 +4,7 @@ use Rattle.rc_base.specs.declared.ending.Ends.{Ends}
 use Rattle.rc_config.specs.Lawful.{IsLawful}
 use Rattle.rc_config.specs.Members.{positions}
 use Rattle.rc_config.specs.declared.network.Network.{Network}
-use Rattle.rc_edges.specs.Prepare.{MayPrepare, edge_at, ends_at}
+use Rattle.rc_edges.specs.Prepare.{MayPrepare, edge_at, stops_at}
 use Rattle.rc_nodes.specs.Seats.{TableView, SeatView}
 use Rattle.rc_jobs.specs.declared.collected.Collected.{Collected}
 use Rattle.rc_topology.specs.Ports.{links_of}
@@ -20,4 +20,4 @@ pub record IsReady (nodes : TableView) (plane : DataPlane) (places : Network) (e
 
 -- the seat knows what the positions of some numbers send to each position, and which endings asked for some header may have there
 abbrev pub IsShare : SeatView → DataPlane → Ends → ℕ → ℕ → Collected → Type 0
-IsShare seat plane ends a b share = IsCollected seat (edge_at plane) (ends_at plane ends) (length (positions plane.network)) a b share
+IsShare seat plane ends a b share = IsCollected seat (edge_at plane) (stops_at plane ends) (length (positions plane.network)) a b share

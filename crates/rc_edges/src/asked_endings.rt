@@ -1,31 +1,39 @@
 //! The endings asked for at a position.
-ghost use Rattle.std.specs.Prelude.{◌≡◌, ◌<◌, ◌++◌, ◌∷◌, [], List, IfOk, IfErr, OnOk, Some, filter, slice_get};
+ghost use Rattle.std.specs.Prelude.{◌≡◌, ◌<◌, ◌++◌, ◌∷◌, [], Bool, List, IfOk, IfErr, OnOk, Some, filter, slice_get};
 ghost use Rattle.std.specs.List.{fold};
 ghost use Rattle.rc_bdd.specs.Work.{IsCause};
 ghost use Rattle.rc_edges.specs.Made.{IsMade};
 ghost use Rattle.rc_base.specs.Positions.{is_among};
+ghost use Rattle.rc_base.specs.declared.ending.Kind.{Kind as KindOf};
 ghost use Rattle.rc_edges.specs.Prepare.{MayEnd, end_trees};
 ghost use Rattle.rc_edges.specs.Query.{kinds_of};
-ghost use Rattle.rc_edges.specs.Stops.{AreKnown};
+ghost use Rattle.rc_edges.specs.Stops.{AreKnown, sets_of};
 ghost use Rattle.rc_nodes.specs.Seats.{IsSeatOf, Keeps};
 ghost use Rattle.rc_trees.specs.Trees.{Tree};
-ghost use Rattle.rc_jobs.specs.Collecting.{with_flow};
+ghost use Rattle.rc_jobs.specs.Collecting.{with_ending};
 
 use crate::endings::end_set;
 use crate::hop_sets::Site;
 use crate::router_sets::RouterSets;
 use rc_base::{Ends, Items, Kind};
 use rc_bdd::{SetError, Work};
-use rc_jobs::{Flow, push_flow};
+use rc_jobs::{Ending, push_ending};
 use rc_nodes::{May, Nodes, Ref};
 use std::alloc::{AllocError, Global};
 
-/// Puts a set behind the others.
-fn put_stop(stops: &mut Vec<Ref>, set: Ref) -> Result<(), SetError>
-    ensures put { OnOk result (stops.new.items ≡ stops.old.items ++ set ∷ []) }
+/// What may end at a position, and how.
+#[derive(Clone, Copy)]
+pub(crate) struct Stop {
+    pub kind: Kind,
+    pub set: Ref,
+}
+
+/// Puts an ending behind the others.
+fn put_stop(stops: &mut Vec<Stop>, kind: Kind, set: Ref) -> Result<(), SetError>
+    ensures put { OnOk result (stops.new.items ≡ stops.old.items ++ record { kind = kind; set = set } ∷ []) }
     ensures memory { IfErr result (λ e. e ≡ SetError.Memory) }
 {
-    match stops.push(set) {
+    match stops.push(Stop { kind, set }) {
         Ok(_) => Ok(()),
         Err(_) => Err(SetError::Memory),
     }
@@ -40,21 +48,21 @@ fn add_ending<M: May>(
     made: &mut RouterSets,
     ends: Ends,
     kind: Kind,
-    stops: &mut Vec<Ref>,
+    stops: &mut Vec<Stop>,
 ) -> Result<(), SetError>
     requires made { IsMade nodes.now work.old site.now.plane.now site.now.position made.old }
     requires may { MayEnd nodes.now.may site.now.plane.now ends site.now.position }
     ensures seat { IsSeatOf nodes.now work.new }
     ensures made { IfOk result (λ _. IsMade nodes.now work.new site.now.plane.now site.now.position made.new) }
     ensures keeps { Keeps work.old work.new }
-    ensures stops { OnOk result ((done : List Tree) → AreKnown work.old stops.old.items done → AreKnown work.new stops.new.items (done ++ end_trees site.now.plane.now site.now.position (filter (is_among ends) (kind ∷ [])))) }
+    ensures stops { OnOk result ((these : KindOf → Bool) (done : List Tree) → AreKnown work.old (sets_of these stops.old.items) done → AreKnown work.new (sets_of these stops.new.items) (done ++ end_trees site.now.plane.now site.now.position (filter these (filter (is_among ends) (kind ∷ []))))) }
     ensures cause { IfErr result (IsCause nodes.now work.new) }
 {
     if !ends.has(kind) {
         return Ok(());
     }
     let set = end_set(alloc, work, nodes, site, made, kind)?;
-    put_stop(stops, set)
+    put_stop(stops, kind, set)
 }
 
 /// Puts what may end at the position, ending by ending of those asked for, behind the others.
@@ -65,14 +73,14 @@ pub(crate) fn add_endings<M: May>(
     site: &Site<'_>,
     made: &mut RouterSets,
     ends: Ends,
-    stops: &mut Vec<Ref>,
+    stops: &mut Vec<Stop>,
 ) -> Result<(), SetError>
     requires made { IsMade nodes.now work.old site.now.plane.now site.now.position made.old }
     requires may { MayEnd nodes.now.may site.now.plane.now ends site.now.position }
     ensures seat { IsSeatOf nodes.now work.new }
     ensures made { IfOk result (λ _. IsMade nodes.now work.new site.now.plane.now site.now.position made.new) }
     ensures keeps { Keeps work.old work.new }
-    ensures stops { OnOk result ((done : List Tree) → AreKnown work.old stops.old.items done → AreKnown work.new stops.new.items (done ++ end_trees site.now.plane.now site.now.position (kinds_of ends))) }
+    ensures stops { OnOk result ((these : KindOf → Bool) (done : List Tree) → AreKnown work.old (sets_of these stops.old.items) done → AreKnown work.new (sets_of these stops.new.items) (done ++ end_trees site.now.plane.now site.now.position (filter these (kinds_of ends)))) }
     ensures cause { IfErr result (IsCause nodes.now work.new) }
 {
     for index in 0..8 {
@@ -82,16 +90,16 @@ pub(crate) fn add_endings<M: May>(
     Ok(())
 }
 
-/// Puts sets behind the flows, each as a flow from one position, where it holds some header.
+/// Puts what may end at one position behind the endings, where its set holds some header.
 pub(crate) fn put_stops(
-    flows: &mut Items<Flow>,
-    stops: &[Ref],
+    endings: &mut Items<Ending>,
+    stops: &[Stop],
     from: usize,
 ) -> Result<(), AllocError>
-    ensures { OnOk result (flows.new ≡ fold (λ fs s. with_flow fs from s) flows.old stops.now) }
+    ensures { OnOk result (endings.new ≡ fold (λ es s. with_ending es from s.kind s.set) endings.old stops.now) }
 {
-    for set in stops {
-        push_flow(flows, from, *set)?;
+    for stop in stops {
+        push_ending(endings, stop.kind, from, stop.set)?;
     }
     Ok(())
 }

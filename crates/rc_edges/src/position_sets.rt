@@ -14,7 +14,7 @@ ghost use Rattle.rc_places.specs.Places.{position_at};
 ghost use Rattle.rc_topology.specs.Ports.{links_of};
 ghost use Rattle.rc_walk.specs.Moves.{DataPlane, fib_of, router_of};
 
-use crate::asked_endings::{add_endings, put_stops};
+use crate::asked_endings::{Stop, add_endings, put_stops};
 use crate::edges::add_edges;
 use crate::hop_sets::{Site, router_at};
 use crate::outgoing::{Row, flush};
@@ -24,7 +24,7 @@ use rc_base::{Ends, Pos, RouterId};
 use rc_bdd::{SetError, Work};
 use rc_fib::Entry;
 use rc_jobs::Collected;
-use rc_nodes::{May, Nodes, Ref};
+use rc_nodes::{May, Nodes};
 use rc_places::Places;
 use rc_walk::Plane;
 use std::alloc::Global;
@@ -34,7 +34,7 @@ use std::alloc::Global;
 pub(crate) struct Sending {
     pub made: RouterSets,
     pub row: Row,
-    pub stops: Vec<Ref>,
+    pub stops: Vec<Stop>,
 }
 
 /// By a function of its own, so that what holds it drops it by one call.

@@ -4,7 +4,7 @@ ghost use Rattle.rc_base.specs.declared.ending.Ends.{Ends as Asked};
 ghost use Rattle.rc_bdd.specs.Work.{IsCause};
 ghost use Rattle.rc_config.specs.Lawful.{IsLawful};
 ghost use Rattle.rc_config.specs.Members.{positions};
-ghost use Rattle.rc_edges.specs.Prepare.{MayPrepare, edge_at, ends_at};
+ghost use Rattle.rc_edges.specs.Prepare.{MayPrepare, edge_at, stops_at};
 ghost use Rattle.rc_edges.specs.Shares.{IsShare};
 ghost use Rattle.rc_jobs.specs.Flows.{IsPrepared};
 ghost use Rattle.rc_nodes.specs.Seats.{IsSeatOf, Keeps, SeatView};
@@ -40,7 +40,7 @@ fn workers_for(workers: u32, positions: usize) -> u32
 
 /// The sets of a query, of the share of all positions, if it was made.
 fn prepared_of(share: Result<Collected, SetError>) -> Result<Prepared, SetError>
-    ensures prepared { (seat : SeatView) (plane : DataPlane) (ends : Asked) → IfOk share (IsShare seat plane ends 0 (length (positions plane.network))) → IfOk result (IsPrepared seat (edge_at plane) (ends_at plane ends) (length (positions plane.network))) }
+    ensures prepared { (seat : SeatView) (plane : DataPlane) (ends : Asked) → IfOk share (IsShare seat plane ends 0 (length (positions plane.network))) → IfOk result (IsPrepared seat (edge_at plane) (stops_at plane ends) (length (positions plane.network))) }
     ensures error { IfErr result (λ e. share ≡ Err e) }
 {
     match share {
@@ -70,7 +70,7 @@ pub fn prepare<R: Threads + Sync, M: May + Send + Sync>(
     requires most { workers ≤ 64 }
     ensures seat { IsSeatOf nodes.now result.0 }
     ensures keeps { Keeps seat result.0 }
-    ensures prepared { IfOk result.1 (IsPrepared result.0 (edge_at plane.now) (ends_at plane.now ends) (length (positions plane.now.network))) }
+    ensures prepared { IfOk result.1 (IsPrepared result.0 (edge_at plane.now) (stops_at plane.now ends) (length (positions plane.now.network))) }
     ensures cause { IfErr result.1 (IsCause nodes.now result.0) }
 {
     let workers = workers_for(workers, places.len());

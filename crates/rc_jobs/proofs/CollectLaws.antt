@@ -1,12 +1,13 @@
 -- What was collected joined, and what was collected from all positions.
-use Rattle.std.proofs.Common.{refl, ◌≡◌, ◌≢◌, ap, sym, ◌∙◌, subst, ℕ, zero, suc, ◌+◌, ◌-◌, ◌<◌, ◌≤◌, List, [], ◌∷◌, ◌++◌, append_assoc, length, map, get_or-set_same, get_or-set_other, length-set, inl, inr, ◌⊎◌, arith}
+use Rattle.std.proofs.Common.{refl, ◌≡◌, ◌≢◌, ap, sym, ◌∙◌, subst, ℕ, zero, suc, ◌+◌, ◌-◌, ◌<◌, ◌≤◌, Bool, List, [], ◌∷◌, ◌++◌, append_assoc, length, map, get_or-set_same, get_or-set_other, length-set, inl, inr, ◌⊎◌, arith}
 use Rattle.std.specs.Prelude.{slice_index_or, slice_set, flat_map}
 use Rattle.std.specs.List.{range_with_len}
 use Rattle.std.proofs.lemmas.Bool.{cases_eq}
 use Rattle.std.proofs.lemmas.List.{map-append}
-use Rattle.rc_jobs.proofs.FlowLaws.{flows-append, real-append}
+use Rattle.rc_base.specs.declared.ending.Kind.{Kind}
+use Rattle.rc_jobs.proofs.FlowLaws.{flows-append, flows_of-append, real-append}
 use Rattle.rc_jobs.specs.Collecting.{AreAppended, IsCollected, numbers}
-use Rattle.rc_jobs.specs.Flows.{IsPrepared, KnowsFlows, edges_to, endings_of, real, real_edges_to, real_endings}
+use Rattle.rc_jobs.specs.Flows.{IsPrepared, KnowsFlows, edges_to, endings_of, flows_of, real, real_edges_to, real_endings}
 use Rattle.rc_jobs.specs.declared.collected.Collected.{Collected}
 use Rattle.rc_jobs.specs.declared.flow.Flow.{Flow}
 use Rattle.rc_jobs.specs.declared.flow.Prepared.{Prepared}
@@ -61,7 +62,7 @@ all_appended into more now at end a = record { as_many = a.as_many; each = λ t 
 
 -- ---- what was collected joined
 
-module _ (seat : SeatView) (edge : ℕ → ℕ → Tree) (ends : ℕ → List Tree) (count a b c : ℕ) (left right whole : Collected) where
+module _ (seat : SeatView) (edge : ℕ → ℕ → Tree) (ends : (Kind → Bool) → ℕ → List Tree) (count a b c : ℕ) (left right whole : Collected) where
   pub collected_joined : AreAppended left.into.items right.into.items whole.into.items → whole.ends ≡ left.ends ++ right.ends → IsCollected seat edge ends count a b left → IsCollected seat edge ends count b c right → IsCollected seat edge ends count a c whole
   collected_joined rows more l r =
       let low = l.order in let high = r.order in
@@ -80,17 +81,19 @@ module _ (seat : SeatView) (edge : ℕ → ℕ → Tree) (ends : ℕ → List Tr
               (subst (KnowsFlows seat (slice_index_or left.into.items t [] ++ slice_index_or right.into.items t [])) (sym real_sent)
               (flows-append seat (slice_index_or left.into.items t []) (slice_index_or right.into.items t []) (real (edges_to edge (numbers a b) t)) (real (edges_to edge (numbers b c) t)) (l.rows.each t [] in_left) (r.rows.each t [] in_right)));
         };
-        endings =
-            let sent : endings_of ends (numbers a c) ≡ endings_of ends (numbers a b) ++ endings_of ends (numbers b c) = ap (endings_of ends) split ∙ flat-append (λ q. map (λ e. (q, e)) (ends q)) (numbers a b) (numbers b c) in
-            let real_sent = ap real sent ∙ real-append (endings_of ends (numbers a b)) (endings_of ends (numbers b c)) in
-            subst (λ fs. KnowsFlows seat fs (real (endings_of ends (numbers a c)))) (sym more)
-            (subst (KnowsFlows seat (left.ends ++ right.ends)) (sym real_sent)
-            (flows-append seat left.ends right.ends (real (endings_of ends (numbers a b))) (real (endings_of ends (numbers b c))) l.endings r.endings));
+        endings = λ these.
+            let asked : ℕ → List Tree = ends these in
+            let sent : endings_of asked (numbers a c) ≡ endings_of asked (numbers a b) ++ endings_of asked (numbers b c) = ap (endings_of asked) split ∙ flat-append (λ q. map (λ e. (q, e)) (asked q)) (numbers a b) (numbers b c) in
+            let real_sent = ap real sent ∙ real-append (endings_of asked (numbers a b)) (endings_of asked (numbers b c)) in
+            let flows : flows_of these whole.ends ≡ flows_of these left.ends ++ flows_of these right.ends = ap (flows_of these) more ∙ flows_of-append these left.ends right.ends in
+            subst (λ fs. KnowsFlows seat fs (real (endings_of asked (numbers a c)))) (sym flows)
+            (subst (KnowsFlows seat (flows_of these left.ends ++ flows_of these right.ends)) (sym real_sent)
+            (flows-append seat (flows_of these left.ends) (flows_of these right.ends) (real (endings_of asked (numbers a b))) (real (endings_of asked (numbers b c))) (l.endings these) (r.endings these)));
       }
 
 -- ---- from all positions
 
-module _ (seat : SeatView) (edge : ℕ → ℕ → Tree) (ends : ℕ → List Tree) (count : ℕ) (flows : Collected) (prepared : Prepared) (into : prepared.into ≡ flows.into.items) (last : prepared.ends ≡ flows.ends) where
+module _ (seat : SeatView) (edge : ℕ → ℕ → Tree) (ends : (Kind → Bool) → ℕ → List Tree) (count : ℕ) (flows : Collected) (prepared : Prepared) (into : prepared.into ≡ flows.into.items) (last : prepared.ends ≡ flows.ends) where
   pub all_prepared : IsCollected seat edge ends count 0 count flows → IsPrepared seat edge ends count prepared
   all_prepared s =
       let whole : count - 0 ≡ count = omega arith in
@@ -104,7 +107,7 @@ module _ (seat : SeatView) (edge : ℕ → ℕ → Tree) (ends : ℕ → List Tr
               subst (λ xs. KnowsFlows seat (slice_index_or xs q d) (real_edges_to edge (length prepared.into) q)) (sym into)
               (subst (λ k. KnowsFlows seat (slice_index_or flows.into.items q d) (real (edges_to edge (range_with_len 0 k) q))) n (s.rows.each q d fits));
         };
-        endings =
-            subst (λ fs. KnowsFlows seat fs (real_endings ends count)) (sym last)
-            (subst (λ k. KnowsFlows seat flows.ends (real (endings_of ends (range_with_len 0 k)))) whole s.endings);
+        endings = λ these.
+            subst (λ es. KnowsFlows seat (flows_of these es) (real_endings (ends these) count)) (sym last)
+            (subst (λ k. KnowsFlows seat (flows_of these flows.ends) (real (endings_of (ends these) (range_with_len 0 k)))) whole (s.endings these));
       }

@@ -1,10 +1,13 @@
 -- Flows that a seat knows, by their places, and one after another.
-use Rattle.std.proofs.Common.{refl, ◌≡◌, ◌≢◌, ap, sym, ◌∙◌, subst, ℕ, zero, suc, ◌+◌, ◌-◌, ◌<◌, ◌≤◌, ◌==◌, Bool, true, false, cond, List, [], ◌∷◌, ◌++◌, append-nil, length, slice_index_or, inl, inr, ◌⊎◌, arith}
+use Rattle.std.proofs.Common.{refl, ◌≡◌, ◌≢◌, ap, sym, ◌∙◌, subst, ℕ, zero, suc, ◌+◌, ◌-◌, ◌<◌, ◌≤◌, ◌==◌, Bool, true, false, cond, List, [], ◌∷◌, ◌++◌, append-nil, length, map, filter, slice_index_or, inl, inr, ◌⊎◌, arith}
 use Rattle.std.specs.List.{range_with_len}
 use Rattle.std.proofs.lemmas.Bool.{cases_eq, ne_eqb}
 use Rattle.std.proofs.lemmas.List.{map-append}
-use Rattle.rc_jobs.specs.Collecting.{numbers, with_flow}
-use Rattle.rc_jobs.specs.Flows.{KnowsFlows, edges_to, is_something, real}
+use Rattle.std.proofs.lemmas.List.Elements.{filter-append}
+use Rattle.rc_base.specs.declared.ending.Kind.{Kind}
+use Rattle.rc_jobs.specs.Collecting.{numbers, with_ending, with_flow}
+use Rattle.rc_jobs.specs.Flows.{KnowsFlows, edges_to, flows_of, is_something, real}
+use Rattle.rc_jobs.specs.declared.flow.Ending.{Ending}
 use Rattle.rc_jobs.specs.declared.flow.Flow.{Flow}
 use Rattle.rc_nodes.proofs.KnownLaws.{known_never}
 use Rattle.rc_nodes.specs.Seats.{SeatView, SeatKnows}
@@ -79,6 +82,36 @@ module _ (seat : SeatView) where
 
     pub flow-more : (t : Tree) → SeatKnows seat set.index t → KnowsFlows seat (with_flow fs from set) (real (ps ++ (from, t) ∷ []))
     flow-more t known = subst (KnowsFlows seat (with_flow fs from set)) (sym (real-append ps ((from, t) ∷ []))) (by (set.index == 0) refl t known)
+
+-- ---- the flows of endings of some kinds
+
+pub flows_of-append : (these : Kind → Bool) (es fs : List Ending) → flows_of these (es ++ fs) ≡ flows_of these es ++ flows_of these fs
+flows_of-append these es fs =
+    ap (map (λ (e : Ending). e.flow)) (filter-append (λ (e : Ending). these e.kind) es fs)
+    ∙ map-append (λ (e : Ending). e.flow) (filter (λ (e : Ending). these e.kind) es) (filter (λ (e : Ending). these e.kind) fs)
+
+-- one ending more, of a kind that is among these or not
+module _ (these : Kind → Bool) (es : List Ending) (from : ℕ) (kind : Kind) (set : Ref) where
+  put : (b : Bool) → these kind ≡ b → flows_of these (es ++ record { kind = kind; flow = record { from = from; set = set } } ∷ []) ≡ cond b (flows_of these es ++ record { from = from; set = set } ∷ []) (flows_of these es)
+  put b is = flows_of-append these es (record { kind = kind; flow = record { from = from; set = set } } ∷ []) ∙ ap (λ fs. flows_of these es ++ fs) (ap (λ c. map (λ (e : Ending). e.flow) (cond c (record { kind = kind; flow = record { from = from; set = set } } ∷ []) [])) is) ∙ at b
+    where
+      at : (c : Bool) → flows_of these es ++ map (λ (e : Ending). e.flow) (cond c (record { kind = kind; flow = record { from = from; set = set } } ∷ []) []) ≡ cond c (flows_of these es ++ record { from = from; set = set } ∷ []) (flows_of these es)
+      at true = refl
+      at false = append-nil (flows_of these es)
+
+  pub ending_among : these kind ≡ true → flows_of these (with_ending es from kind set) ≡ with_flow (flows_of these es) from set
+  ending_among is = by (set.index == 0)
+    where
+      by : (none : Bool) → flows_of these (cond none es (es ++ record { kind = kind; flow = record { from = from; set = set } } ∷ [])) ≡ cond none (flows_of these es) (flows_of these es ++ record { from = from; set = set } ∷ [])
+      by true = refl
+      by false = put true is
+
+  pub ending_apart : these kind ≡ false → flows_of these (with_ending es from kind set) ≡ flows_of these es
+  ending_apart is = by (set.index == 0)
+    where
+      by : (none : Bool) → flows_of these (cond none es (es ++ record { kind = kind; flow = record { from = from; set = set } } ∷ [])) ≡ flows_of these es
+      by true = refl
+      by false = put false is
 
 -- ---- numbers
 

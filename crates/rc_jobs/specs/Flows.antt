@@ -1,9 +1,11 @@
 -- What positions send to one another and what may end at them, as trees, and what a seat knows of it. Positions are numbers from 0 on.
 use Rattle.std.specs.Prelude.{◌≡◌, ℕ, ◌<◌, Bool, true, false, List, [], ◌∷◌, length, map, filter, flat_map, slice_index_or}
 use Rattle.std.specs.List.{range_with_len}
+use Rattle.rc_base.specs.declared.ending.Kind.{Kind}
 use Rattle.rc_nodes.specs.Seats.{SeatView, SeatKnows}
 use Rattle.rc_nodes.specs.declared.words.Ref.{Ref}
 use Rattle.rc_trees.specs.Trees.{Tree, never, always, node}
+use Rattle.rc_jobs.specs.declared.flow.Ending.{Ending}
 use Rattle.rc_jobs.specs.declared.flow.Flow.{Flow}
 use Rattle.rc_jobs.specs.declared.flow.Prepared.{Prepared}
 
@@ -37,6 +39,10 @@ real_edges_to edge count q = real (edges_to edge (positions count) q)
 abbrev pub real_endings : (ℕ → List Tree) → ℕ → List (ℕ × Tree)
 real_endings ends count = real (endings_of ends (positions count))
 
+-- of some endings the flows of those of some kinds
+abbrev pub flows_of : (Kind → Bool) → List Ending → List Flow
+flows_of these endings = map (λ (e : Ending). e.flow) (filter (λ (e : Ending). these e.kind) endings)
+
 -- ---- what a seat knows
 
 -- the references of no header and of every header
@@ -57,8 +63,8 @@ KnowsFlows seat (f ∷ fs) (p ∷ ps) = (f.from ≡ p.0) × SeatKnows seat f.set
 pub record KnowsEdges (seat : SeatView) (into : List (List Flow)) (edge : ℕ → ℕ → Tree) : Type 0 where
   pub each : (q : ℕ) (d : List Flow) → q < length into → KnowsFlows seat (slice_index_or into q d) (real_edges_to edge (length into) q)
 
--- a seat knows the sets of a query: the edges, and the endings that some header may have
-pub record IsPrepared (seat : SeatView) (edge : ℕ → ℕ → Tree) (ends : ℕ → List Tree) (count : ℕ) (prepared : Prepared) : Type 0 where
+-- a seat knows the sets of a query: the edges, and of each choice of kinds the endings that some header may have
+pub record IsPrepared (seat : SeatView) (edge : ℕ → ℕ → Tree) (ends : (Kind → Bool) → ℕ → List Tree) (count : ℕ) (prepared : Prepared) : Type 0 where
   pub as_many : length prepared.into ≡ count
   pub edges : KnowsEdges seat prepared.into edge
-  pub endings : KnowsFlows seat prepared.ends (real_endings ends count)
+  pub endings : (these : Kind → Bool) → KnowsFlows seat (flows_of these prepared.ends) (real_endings (ends these) count)

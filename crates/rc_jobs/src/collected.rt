@@ -1,18 +1,19 @@
 //! What positions in a row send to each position, and what may end at them.
-ghost use Rattle.std.specs.Prelude.{◌≡◌, ℕ, ◌++◌, ◌<◌, ◌≤◌, List, [], IfOk, OnOk, length, slice_index_or, slice_set};
+ghost use Rattle.std.specs.Prelude.{◌≡◌, ℕ, ◌++◌, ◌<◌, ◌≤◌, Bool, List, [], IfOk, OnOk, length, slice_index_or, slice_set};
+ghost use Rattle.rc_base.specs.declared.ending.Kind.{Kind as KindOf};
 ghost use Rattle.rc_nodes.specs.Seats.{SeatView};
-ghost use Rattle.rc_jobs.specs.Collecting.{AreAppended, with_flow};
+ghost use Rattle.rc_jobs.specs.Collecting.{AreAppended, with_ending, with_flow};
 ghost use Rattle.rc_trees.specs.Trees.{Tree};
 
-use crate::flow::{Flow, Prepared};
-use rc_base::Items;
+use crate::flow::{Ending, Flow, Prepared};
+use rc_base::{Items, Kind};
 use rc_nodes::{NEVER, Ref};
 use std::alloc::AllocError;
 
 /// The flows into each position, and the endings, from positions in a row.
 pub struct Collected {
     pub into: Vec<Items<Flow>>,
-    pub ends: Items<Flow>,
+    pub ends: Items<Ending>,
 }
 
 /// By a function of its own, so that what holds them drops them by one call.
@@ -32,12 +33,30 @@ pub fn push_flow(flows: &mut Items<Flow>, from: usize, set: Ref) -> Result<(), A
     flows.push(Flow { from, set })
 }
 
-/// Puts flows behind others.
-fn append(flows: &mut Items<Flow>, more: &[Flow]) -> Result<(), AllocError>
-    ensures { OnOk result (flows.new ≡ flows.old ++ more.now) }
+/// Puts an ending behind the others, where its set holds some header.
+pub fn push_ending(
+    endings: &mut Items<Ending>,
+    kind: Kind,
+    from: usize,
+    set: Ref,
+) -> Result<(), AllocError>
+    ensures { OnOk result (endings.new ≡ with_ending endings.old from kind set) }
 {
-    for flow in more {
-        flows.push(*flow)?;
+    if set == NEVER {
+        return Ok(());
+    }
+    endings.push(Ending {
+        kind,
+        flow: Flow { from, set },
+    })
+}
+
+/// Puts items behind others.
+fn append<T: Copy + Drop>(items: &mut Items<T>, more: &[T]) -> Result<(), AllocError>
+    ensures { OnOk result (items.new ≡ items.old ++ more.now) }
+{
+    for item in more {
+        items.push(*item)?;
     }
     Ok(())
 }
@@ -81,7 +100,7 @@ impl Collected {
 
     /// These, and behind them those of the next positions.
     pub fn with(self, next: Collected) -> Result<Collected, AllocError>
-        ensures { IfOk result (λ whole. (seat : SeatView) (edge : ℕ → ℕ → Tree) (ends : ℕ → List Tree) (count a b c : ℕ) → IsCollected seat edge ends count a b self → IsCollected seat edge ends count b c next → IsCollected seat edge ends count a c whole) }
+        ensures { IfOk result (λ whole. (seat : SeatView) (edge : ℕ → ℕ → Tree) (ends : (KindOf → Bool) → ℕ → List Tree) (count a b c : ℕ) → IsCollected seat edge ends count a b self → IsCollected seat edge ends count b c next → IsCollected seat edge ends count a c whole) }
     {
         let Collected { mut into, mut ends } = self;
         append_all(&mut into, next.into.as_slice())?;
@@ -91,7 +110,7 @@ impl Collected {
 
     /// Those of all positions as the sets of a query.
     pub fn prepared(self) -> Prepared
-        ensures { (seat : SeatView) (edge : ℕ → ℕ → Tree) (ends : ℕ → List Tree) (count : ℕ) → IsCollected seat edge ends count 0 count self → IsPrepared seat edge ends count result }
+        ensures { (seat : SeatView) (edge : ℕ → ℕ → Tree) (ends : (KindOf → Bool) → ℕ → List Tree) (count : ℕ) → IsCollected seat edge ends count 0 count self → IsPrepared seat edge ends count result }
     {
         let Collected { into, ends } = self;
         Prepared {

@@ -10,7 +10,7 @@ mod flow;
 mod job;
 mod workers;
 
-pub use collected::{Collected, push_flow};
-pub use flow::{Flow, Prepared};
+pub use collected::{Collected, push_ending, push_flow};
+pub use flow::{Ending, Flow, Prepared};
 pub use job::Job;
 pub use workers::{at_once_or_in_turn, by_workers, in_turn};

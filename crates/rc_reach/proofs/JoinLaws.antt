@@ -25,56 +25,8 @@ use Rattle.rc_edges.specs.Endings.{end}
 use Rattle.rc_edges.specs.Query.{kinds_of, query_nodes, reached, reaching}
 use Rattle.rc_edges.proofs.QueryLaws.{coming, may_be_made, result-reached}
 use Rattle.rc_edges.specs.Prepare.{edge_at, ends_at}
+use Rattle.rc_reach.proofs.Beside.{AreBeside, beside-append, fold-map, in-at, joined, listed, may-joined, tree-joined}
 use Rattle.rc_reach.specs.Rounds.{gathered, reached_at, MayGather, MayRounds}
-
--- ---- sets and flows, one beside the other
-
--- a set and what is joined to it, one after another
-abbrev joined : Recipe → List Recipe → Recipe
-joined r xs = fold (λ s x. or s x) r xs
-
-module _ (sets : ℕ → Tree) where
-  -- each set is what its flow lets pass
-  abbrev pub AreBeside : List Recipe → List (ℕ × Tree) → Type 0
-  AreBeside [] [] = Unit {0}
-  AreBeside [] (f ∷ fs) = ⊥
-  AreBeside (x ∷ xs) [] = ⊥
-  AreBeside (x ∷ xs) (f ∷ fs) = (tree x ≡ trees.and (sets f.0) f.1) × AreBeside xs fs
-
-  beside-append : (xs : List Recipe) (fs : List (ℕ × Tree)) (ys : List Recipe) (gs : List (ℕ × Tree)) → AreBeside xs fs → AreBeside ys gs → AreBeside (xs ++ ys) (fs ++ gs)
-  beside-append [] [] ys gs a b = b
-  beside-append [] (f ∷ fs) ys gs a b = absurd a
-  beside-append (x ∷ xs) [] ys gs a b = absurd a
-  beside-append (x ∷ xs) (f ∷ fs) ys gs a b = (a.0, beside-append xs fs ys gs a.1 b)
-
-  -- so joining the sets makes the tree that the flows gather
-  tree-joined : (xs : List Recipe) (fs : List (ℕ × Tree)) → AreBeside xs fs → (r : Recipe) (s : Tree) → tree r ≡ s → tree (joined r xs) ≡ gathered sets s fs
-  tree-joined [] [] a r s e = e
-  tree-joined [] (f ∷ fs) a r s e = absurd a
-  tree-joined (x ∷ xs) [] a r s e = absurd a
-  tree-joined (x ∷ xs) (f ∷ fs) a r s e = tree-joined xs fs a.1 (or r x) (trees.or s (trees.and (sets f.0) f.1)) (λ i. trees.or (e i) (a.0 i))
-
-  -- by operations of the recipe
-  may-joined : (may : List Tree) (xs : List Recipe) (fs : List (ℕ × Tree)) → AreBeside xs fs → (r : Recipe) (s : Tree) → tree r ≡ s → HasNodes may (parts (joined r xs)) → MayGather may sets s fs
-  unfolding MayGather
-  may-joined may [] [] a r s e has = tt
-  may-joined may [] (f ∷ fs) a r s e has = absurd a
-  may-joined may (x ∷ xs) [] a r s e has = absurd a
-  may-joined may (x ∷ xs) (f ∷ fs) a r s e has =
-      let next : tree (or r x) ≡ trees.or s (trees.and (sets f.0) f.1) = λ i. trees.or (e i) (a.0 i) in
-      let first : HasNodes may (parts (or r x)) = λ t there is. has t (fold-first (λ (y : Recipe). y) (or r x) xs t there) is in
-      let part : HasNodes may (parts x) = λ t there is. first t (or-second r x t there) is in
-      (subst (HasNodesOf may) a.0 (has_recipe may x part), subst (HasNodesOf may) next (has_recipe may (or r x) first), may-joined may xs fs a.1 (or r x) (trees.or s (trees.and (sets f.0) f.1)) next has)
-
--- sets of things, joined, are the sets of their list
-fold-map : {A : Type 0} (set : A → Recipe) (xs : List A) (r : Recipe) → fold (λ s x. or s (set x)) r xs ≡ joined r (map set xs)
-fold-map set [] r = refl
-fold-map set (x ∷ xs) r = fold-map set xs (or r (set x))
-
-in-at : {A : Type 0} (xs : List A) (i : ℕ) (d : A) → i < length xs → In (slice_index_or xs i d) xs
-in-at [] i d less = absurd (omega arith)
-in-at (x ∷ xs) zero d less = inl refl
-in-at (x ∷ xs) (suc i) d less = inr (in-at xs i d (omega arith))
 
 module _ (plane : DataPlane) where
   abbrev pub count : ℕ
@@ -83,11 +35,7 @@ module _ (plane : DataPlane) where
   abbrev at : ℕ → Pos
   at p = position_at plane.network p
 
-  -- the positions of the network are those at its places
-  listed : members.positions plane.network ≡ map at (positions count)
-  listed = fill_by_all at (members.positions plane.network) count (Own 0) refl (λ k less. refl)
-
-  -- each at one place
+  -- each position at one place
   same_place : (p q : ℕ) → p < count → q < count → same_position (at p) (at q) ≡ (p == q)
   same_place p q low high = same_from_decides (same_position (at p) (at q)) (p == q) (same_position-Decides (at p) (at q)) (by_number, by_place)
     where
@@ -121,7 +69,7 @@ module _ (plane : DataPlane) where
     -- what comes in a round, as a list of sets
     round-listed : (k : ℕ) (q : Pos) → reached plane place (suc k) q ≡ joined (reached plane place k q) (map (coming plane place k q) (map at (positions count)))
     unfolding reached
-    round-listed k q = fold-map (coming plane place k q) (members.positions plane.network) (reached plane place k q) ∙ ap (λ qs. joined (reached plane place k q) (map (coming plane place k q) qs)) listed
+    round-listed k q = fold-map (coming plane place k q) (members.positions plane.network) (reached plane place k q) ∙ ap (λ qs. joined (reached plane place k q) (map (coming plane place k q) qs)) (listed plane)
 
     -- a round more is what all positions send
     pub reached-next : (k q : ℕ) → now (suc k) q ≡ gathered (now k) (now k q) (edges_to (edge_at plane) (positions count) q)
@@ -150,7 +98,7 @@ module _ (plane : DataPlane) where
 
       result-listed : reaching plane place ends ≡ joined (given never) (flat_map ended_at (map at (positions count)))
       unfolding reaching
-      result-listed = ap (λ qs. joined (given never) (flat_map ended_at qs)) listed
+      result-listed = ap (λ qs. joined (given never) (flat_map ended_at qs)) (listed plane)
 
       -- the result's tree is what has come to the endings
       reaching-ending : tree (reaching plane place ends) ≡ gathered (now count) never (endings_of (ends_at plane ends) (positions count))

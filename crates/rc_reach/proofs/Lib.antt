@@ -6,8 +6,15 @@ mod RealLaws
 mod Rounding
 mod ComingLaws
 mod EndLaws
+mod Beside
 mod JoinLaws
 mod AskedLaws
+mod LoopLaws
+mod UseLaws
+mod OnwardJoins
+mod GoingLaws
+mod TurnLaws
 mod PlaceJoins
+mod UnevenLaws
 pub mod ReachingLaws
 mod TryLaws

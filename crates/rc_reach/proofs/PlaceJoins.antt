@@ -1,8 +1,9 @@
 -- What stands at first, what is known for good, and what the result says.
-use Rattle.std.proofs.Common.{◌≡◌, ◌↔◌, ap, ◌∙◌, subst, ℕ, ◌<◌, true, cond, List, length, Result, Ok, Err, IfErr, arith}
+use Rattle.std.proofs.Common.{◌≡◌, ap, ◌∙◌, subst, ℕ, ◌<◌, Bool, cond, List, length, Result, Ok, Err, IfErr, arith}
 use Rattle.std.specs.Prelude.{◌==◌}
 use Rattle.std.specs.Set.{distinct_count}
 use Rattle.rc_base.specs.declared.ending.Ends.{Ends}
+use Rattle.rc_base.specs.declared.ending.Kind.{Kind}
 use Rattle.rc_base.specs.declared.position.Pos.{Pos}
 use Rattle.rc_bdd.specs.Work.{IsCause}
 use Rattle.rc_bdd.specs.declared.work.SetError.{SetError}
@@ -11,20 +12,20 @@ use Rattle.rc_config.specs.Lawful.{IsPosition}
 use Rattle.rc_config.specs.Members.{positions}
 use Rattle.rc_edges.proofs.ResultLaws.{result_is_reaching}
 use Rattle.rc_edges.specs.Planes.{IsPlane}
-use Rattle.rc_edges.specs.Query.{IsReaching, reaching}
+use Rattle.rc_edges.specs.Query.{reaching}
 use Rattle.rc_jobs.specs.Flows.{IsPrepared}
 use Rattle.rc_jobs.specs.declared.flow.Prepared.{Prepared}
 use Rattle.rc_nodes.proofs.CountLaws.{more_than_slots}
-use Rattle.rc_nodes.proofs.KnownLaws.{known_reduced, one_known}
 use Rattle.rc_nodes.specs.Seats.{TableView, SeatView, IsSeatOf, SeatKnows, Keeps}
 use Rattle.rc_places.proofs.PlaceLaws.{number_there}
 use Rattle.rc_places.specs.Places.{number_of, position_at}
 use Rattle.rc_reach.proofs.JoinLaws.{reached-first}
+use Rattle.rc_reach.proofs.ReachingLaws.{known_exact}
 use Rattle.rc_jobs.specs.Kept.{edges_kept, flows_kept}
 use Rattle.rc_reach.specs.Reaching.{IsReachingSet}
 use Rattle.rc_reach.specs.Rounds.{reached_at}
 use Rattle.rc_trees.specs.Recipes.{tree}
-use Rattle.rc_trees.specs.Trees.{Tree, always, never, holds, same_tree}
+use Rattle.rc_trees.specs.Trees.{Tree, always, never, same_tree}
 use Rattle.rc_walk.specs.Moves.{DataPlane}
 
 -- before the first round all headers are at the place of the number
@@ -34,15 +35,12 @@ place_first plane place there n m is many q less =
     reached-first plane place n (omega arith) (ap (position_at plane.network) is ∙ (number_there plane.network place there).1) q (omega arith)
 
 -- what was known of the sets of a query is so for good
-pub prepared_kept : (v w : SeatView) → Keeps v w → {edge : ℕ → ℕ → Tree} {ends : ℕ → List Tree} {count : ℕ} {prepared : Prepared} → IsPrepared v edge ends count prepared → IsPrepared w edge ends count prepared
-prepared_kept v w keeps p = record { as_many = p.as_many; edges = edges_kept v w keeps p.edges; endings = flows_kept v w keeps _ _ p.endings }
+pub prepared_kept : (v w : SeatView) → Keeps v w → {edge : ℕ → ℕ → Tree} {ends : (Kind → Bool) → ℕ → List Tree} {count : ℕ} {prepared : Prepared} → IsPrepared v edge ends count prepared → IsPrepared w edge ends count prepared
+prepared_kept v w keeps p = record { as_many = p.as_many; edges = edges_kept v w keeps p.edges; endings = λ these. flows_kept v w keeps _ _ (p.endings these) }
 
 -- a known result says what reaches
 pub known_reaches : (plane : DataPlane) → IsPlane plane → (place : Pos) → IsPosition plane.network place → (ends : Ends) (nodes : TableView) (seat : SeatView) → IsSeatOf nodes seat → (r : ℕ) → SeatKnows seat r (tree (reaching plane place ends)) → (t : Tree) → SeatKnows seat r t → IsReachingSet plane place ends t
-known_reaches plane ok place there ends nodes seat mine r known t other = record {
-  reduced = known_reduced seat mine.sound r t other;
-  reaches = λ h header. subst (λ u. (holds u h ≡ true) ↔ IsReaching plane h place ends) (one_known seat mine.sound r (tree (reaching plane place ends)) t known other) (result_is_reaching plane ok h header place there ends);
-}
+known_reaches plane ok place there ends nodes seat mine r known = known_exact nodes seat mine r (tree (reaching plane place ends)) known (λ h header. result_is_reaching plane ok h header place there ends)
 
 -- where the table is full, more trees may be made than it has slots
 pub full_means_more : {A : Type 0} (r : Result A SetError) (nodes : TableView) (seat : SeatView) → IfErr r (IsCause nodes seat) → IfErr r (λ e. e ≡ Full → nodes.capacity < distinct_count same_tree nodes.may)

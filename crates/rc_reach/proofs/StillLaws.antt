@@ -2,10 +2,11 @@
 use Rattle.std.proofs.Common.{refl, ◌≡◌, ap, sym, ◌∙◌, subst, ℕ, zero, suc, ◌+◌, ◌<◌, List, [], ◌∷◌, slice_index_or, length, All, arith}
 use Rattle.std.proofs.lemmas.List.Elements.{All-head, All-tail}
 use Rattle.std.proofs.lemmas.List.FromFn.{length-map-range_with_len, get_or-map-range_with_len}
-use Rattle.rc_trees.specs.Trees.{Tree}
+use Rattle.rc_trees.specs.Trees.{Tree, never}
 use Rattle.rc_trees.specs.Combine.{and, or}
 use Rattle.rc_jobs.specs.Flows.{edges_to, positions}
 use Rattle.rc_reach.specs.Known.{StaysStill}
+use Rattle.rc_reach.specs.Onward.{onward, turned}
 use Rattle.rc_reach.specs.Rounds.{before, gathered, IsInside}
 use Rattle.rc_reach.proofs.GatherLaws.{nothing_sent, sent_inside}
 use Rattle.rc_reach.proofs.PositionLaws.{edges_all}
@@ -41,6 +42,14 @@ module _ (edge : ℕ → ℕ → Tree) (count : ℕ) (sets : ℕ → ℕ → Tre
         ∙ gathered_agree (sets (suc k)) (sets k) (edges_to edge (positions count) q) (sets k q) (edges_all (λ p. sets (suc k) p ≡ sets k p) edge count q still)
         ∙ sym (round k q);
   }
+
+-- a round by which nothing less goes on is followed by none by which less does
+pub onward_still : (edge : ℕ → ℕ → Tree) (count : ℕ) → StaysStill (onward edge count) count
+unfolding onward
+onward_still edge count = record {
+  next = λ k still q less.
+      gathered_agree (onward edge count (suc k)) (onward edge count k) (edges_to (turned edge) (positions count) q) never (edges_all (λ p. onward edge count (suc k) p ≡ onward edge count k p) (turned edge) count q still);
+}
 
 -- nothing new in a round for all n later ones
 module _ (sets : ℕ → ℕ → Tree) (count : ℕ) (stays : StaysStill sets count) (k : ℕ) (still : (q : ℕ) → q < count → sets (suc k) q ≡ sets k q) where

@@ -6,7 +6,7 @@ use Rattle.rc_nodes.specs.declared.words.Ref.{Ref}
 use Rattle.rc_trees.specs.Trees.{Tree}
 use Rattle.rc_jobs.specs.Kept.{edges_kept}
 use Rattle.rc_jobs.specs.declared.flow.Flow.{Flow}
-use Rattle.rc_reach.specs.Known.{KnowsSets, KnowsShare, IsAfter, IsAtHand, MayCome}
+use Rattle.rc_reach.specs.Known.{KnowsSets, KnowsShare, IsAfter, IsAtHand, MayCome, MayOnward}
 use Rattle.rc_walk.specs.Moves.{DataPlane}
 
 module _ (v w : SeatView) (keeps : Keeps v w) where
@@ -24,3 +24,6 @@ module _ (v w : SeatView) (keeps : Keeps v w) where
 
   pub coming_kept : {nodes : TableView} {plane : DataPlane} {place : Pos} {into : List (List Flow)} → MayCome nodes v plane place into → MayCome nodes w plane place into
   coming_kept m = record { as_many = m.as_many; edges = edges_kept v w keeps m.edges; may = m.may }
+
+  pub onward_kept : {nodes : TableView} {edge : ℕ → ℕ → Tree} {out : List (List Flow)} {everywhere : List Bool} → MayOnward nodes v edge out everywhere → MayOnward nodes w edge out everywhere
+  onward_kept m = record { edges = edges_kept v w keeps m.edges; may = m.may; all = m.all }

@@ -1,5 +1,5 @@
 -- What a seat knows of the sets of a propagation.
-use Rattle.std.specs.Prelude.{◌≡◌, ℕ, suc, ◌+◌, ◌<◌, Bool, false, List, length, slice_index_or, All}
+use Rattle.std.specs.Prelude.{◌≡◌, ℕ, suc, ◌+◌, ◌<◌, Bool, true, false, List, length, replicate, slice_index_or, All}
 use Rattle.rc_base.specs.declared.position.Pos.{Pos}
 use Rattle.rc_config.specs.Members.{positions}
 use Rattle.rc_edges.specs.Prepare.{edge_at}
@@ -9,6 +9,7 @@ use Rattle.rc_trees.specs.Trees.{Tree}
 use Rattle.rc_trees.specs.Combine.{and}
 use Rattle.rc_jobs.specs.Flows.{KnowsFlows, KnowsEdges}
 use Rattle.rc_jobs.specs.declared.flow.Flow.{Flow}
+use Rattle.rc_reach.specs.Onward.{turned, MayGoOn}
 use Rattle.rc_reach.specs.Rounds.{before, IsInside, MayGather, MayRounds}
 use Rattle.rc_walk.specs.Moves.{DataPlane}
 
@@ -64,3 +65,9 @@ pub record MayCome (nodes : TableView) (seat : SeatView) (plane : DataPlane) (pl
   pub as_many : length into ≡ length (positions plane.network)
   pub edges : KnowsEdges seat into (edge_at plane)
   pub may : MayRounds nodes.may plane place (length into)
+
+-- what goes on from each position may be made: the seat knows the edges out of it, and the operations of all rounds may be done
+pub record MayOnward (nodes : TableView) (seat : SeatView) (edge : ℕ → ℕ → Tree) (out : List (List Flow)) (everywhere : List Bool) : Type 0 where
+  pub edges : KnowsEdges seat out (turned edge)
+  pub may : MayGoOn nodes.may edge (length out)
+  pub all : everywhere ≡ replicate (length out) true

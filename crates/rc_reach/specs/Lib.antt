@@ -2,5 +2,12 @@ pub mod Rounds
 pub mod Known
 pub mod Kept
 pub mod Reaching
+pub mod Loops
+pub mod Onward
+pub mod Turned
+pub mod Uneven
+pub mod Asked
 pub mod FirstTry
-pub mod Reached
+pub mod Held
+pub mod LoopRows
+pub mod UnevenRows

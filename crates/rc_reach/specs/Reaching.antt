@@ -1,4 +1,4 @@
--- The set of the headers that get from a place to an ending.
+-- Sets of exactly the headers that do something.
 use Rattle.std.specs.Prelude.{◌≡◌, ◌↔◌, true}
 use Rattle.rc_base.specs.Header.{IsHeader}
 use Rattle.rc_base.specs.declared.ending.Ends.{Ends}
@@ -8,8 +8,11 @@ use Rattle.rc_edges.specs.Query.{IsReaching}
 use Rattle.rc_trees.specs.Trees.{Tree, IsReduced, holds}
 use Rattle.rc_walk.specs.Moves.{DataPlane}
 
--- The set of exactly the headers that some walk without repeats brings from a place to one of the endings, as its reduced tree. There is
--- one such tree (`one_set_reaches`).
-pub record IsReachingSet (plane : DataPlane) (place : Pos) (ends : Ends) (set : Tree) : Type 0 where
+-- The set of exactly the headers that do something, as its reduced tree. There is one such tree (`one_set_for_each_question`).
+pub record IsSetOf (Does : Header → Type 0) (set : Tree) : Type 0 where
   pub reduced : IsReduced set
-  pub reaches : (h : Header) → IsHeader h → (holds set h ≡ true) ↔ IsReaching plane h place ends
+  pub exact : (h : Header) → IsHeader h → (holds set h ≡ true) ↔ Does h
+
+-- the set of the headers that some walk without repeats brings from a place to one of the endings
+abbrev pub IsReachingSet : DataPlane → Pos → Ends → Tree → Type 0
+IsReachingSet plane place ends = IsSetOf (λ h. IsReaching plane h place ends)

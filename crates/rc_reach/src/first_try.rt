@@ -7,6 +7,7 @@
 ghost use Rattle.std.specs.Prelude.{◌<◌, IfSome};
 ghost use Rattle.rc_reach.specs.FirstTry.{IsFirstRoom};
 
+use crate::asked::Asked;
 use rc_config::{Network, RouterText};
 use rc_outside::Gate;
 use rc_route::State;
@@ -14,6 +15,9 @@ use std::sync::atomic::{AtomicU32, Ordering};
 
 /// As how many routes a line of an access list counts: it makes about as many nodes.
 const ROUTES_A_LINE: usize = 64;
+
+/// As how many routes a route counts in a question about loops: its sets change at nearly every position in each round.
+const ROUTES_IN_LOOPS: usize = 16;
 
 /// How many routes the tables have.
 fn routes_in(state: &State) -> usize {
@@ -47,6 +51,15 @@ fn size_of(net: &Network, state: &State) -> usize {
     size
 }
 
+/// As large as how many routes a question is, about a network that is as large as so many.
+fn size_asked(asked: &Asked, size: usize) -> usize {
+    match asked {
+        Asked::Reaching(_, _) => size,
+        Asked::Looping(_) => size.saturating_mul(ROUTES_IN_LOOPS),
+        Asked::Uneven(_) => size,
+    }
+}
+
 /// How many nodes the table of a first try has room for in a network of this size, where there is one. The nodes grow slower than
 /// the routes, since the tables of neighbours are alike.
 fn room_for(size: usize) -> Option<u32>
@@ -66,10 +79,10 @@ fn room_for(size: usize) -> Option<u32>
 }
 
 /// How many nodes the table of a first try has room for, where there is one: fewer than are allowed.
-pub fn first_room(net: &Network, state: &State, allowed: u32) -> Option<u32>
+pub fn first_room(net: &Network, state: &State, asked: &Asked, allowed: u32) -> Option<u32>
     ensures { IfSome result (IsFirstRoom allowed) }
 {
-    let room = room_for(size_of(net, state));
+    let room = room_for(size_asked(asked, size_of(net, state)));
     match room {
         Some(few) if few < allowed => Some(few),
         _ => None,

@@ -1,23 +1,39 @@
-//! The headers that reach an ending from a place, in rounds, by workers at once.
+//! The headers that reach an ending from a place, that loop, or that arrive by one walk and fail by another: in rounds, by workers at once.
 //!
-//! It stands on the edges and endings of rc_edges and on the workers of rc_jobs. The layer above knows the result by the walks of
-//! rc_walk: it is the reduced tree of the headers that some loop-free walk brings from the place to an ending asked for, for every number
-//! of workers; and it knows that a table is full only where the query's operations have more different trees than the table has slots.
+//! It stands on the edges and endings of rc_edges and on the workers of rc_jobs. The layer above knows each result by the walks of
+//! rc_walk: it is the reduced tree of exactly the headers with such walks, for every number of workers; and it knows that a table is
+//! full only where the question's operations have more different trees than the table has slots.
+//!
+//! The crate goes one way: what comes together at a position (`gather`); sets that are made in rounds (`spread`), a round of them
+//! (`round`) and all (`rounds`); what comes from a place (`first`, `coming`) and of it what ends as asked (`result`), for some
+//! endings (`reaching`) and for two sets of them (`end_sets`, `both_ways`); the flows out of positions (`turning`), what goes on along
+//! these (`going_on`) and what goes on without end (`endless`); any of these questions (`asked`), in a table of its own
+//! (`asked_table`), which is a smaller one first (`first_try`).
 #![tactic(auto)]
 
+mod asked;
+mod asked_table;
+mod both_ways;
 mod coming;
+mod end_sets;
+mod endless;
 mod first;
 mod first_try;
 mod gather;
+mod going_on;
 mod laws;
-mod reached_set;
 mod reaching;
 mod result;
 mod round;
 mod rounds;
 mod spread;
+mod turning;
 
+pub use asked::{Asked, AskedQuery, asked_set};
+pub use asked_table::{AskedSet, asked_in_table};
+pub use both_ways::uneven;
+pub use end_sets::{arrivals, failures};
+pub use endless::loops;
 pub use first_try::first_room;
-pub use laws::one_set_reaches;
-pub use reached_set::{ReachedSet, reached};
+pub use laws::{a_result_is_what_loops, one_set_for_each_question, rounds_are_chains};
 pub use reaching::reach;

@@ -8,7 +8,7 @@ ghost use Rattle.rc_bdd.specs.declared.work.SetError.TheVariants.{Full};
 ghost use Rattle.rc_config.specs.Lawful.{IsLawful, IsPosition};
 ghost use Rattle.rc_config.specs.Members.{positions};
 ghost use Rattle.rc_base.specs.Endings.{all_kinds};
-ghost use Rattle.rc_edges.specs.Prepare.{edge_at, ends_at};
+ghost use Rattle.rc_edges.specs.Prepare.{edge_at, stops_at};
 ghost use Rattle.rc_edges.specs.Query.{query_nodes, reaching};
 ghost use Rattle.rc_jobs.specs.Flows.{IsPrepared};
 ghost use Rattle.rc_nodes.specs.Seats.{IsSeatOf, Keeps, SeatKnows};
@@ -64,7 +64,7 @@ fn reach_prepared<R: Threads + Sync, M: May + Send + Sync, G: Gate>(
     requires number { number ≡ number_of plane.now.network place }
     requires asking { list_any (is_among ends) all_kinds ≡ true }
     requires seat { IsSeatOf nodes.now seat }
-    requires prepared { IfOk prepared (IsPrepared seat (edge_at plane.now) (ends_at plane.now ends) (length (positions plane.now.network))) }
+    requires prepared { IfOk prepared (IsPrepared seat (edge_at plane.now) (stops_at plane.now ends) (length (positions plane.now.network))) }
     requires cause { IfErr prepared (IsCause nodes.now seat) }
     requires may { HasNodes nodes.now.may (query_nodes plane.now place ends) }
     requires some { 1 ≤ workers }

@@ -1,4 +1,4 @@
-use Rattle.std.proofs.Common.{refl, ap, sym, ◌∙◌, ◌∷◌, [], cond}
+use Rattle.std.proofs.Common.{ap, sym, ◌∙◌, ◌∷◌, [], cond}
 use Rattle.rc_edges.proofs.GiveLaws.{get_front, get_second, gives_both_if, gives_like}
 use Rattle.rc_edges.proofs.StepLaws.{link_front, link_one, link_two, owned_part, rest_part}
 use Rattle.rc_edges.specs.Edges as spec

@@ -1,4 +1,4 @@
-use Rattle.std.proofs.Common.{◌≡◌, ap, sym, ◌∙◌, subst, ℕ, ◌+◌, ◌<◌, ◌++◌, length, take, refl}
+use Rattle.std.proofs.Common.{ap, sym, ◌∙◌, subst, ◌+◌, ◌<◌, ◌++◌, length, take, refl}
 use Rattle.rc_base.specs.declared.position.Pos.TheVariants.{Entering}
 use Rattle.rc_config.specs.Lawful.{IsPosition}
 use Rattle.rc_config.specs.Members.{positions}

@@ -1,4 +1,4 @@
-use Rattle.std.proofs.Common.{ap, sym, ◌∙◌, subst, ◌≡◌, ◌<◌, ◌≤◌, [], length, get_or, arith}
+use Rattle.std.proofs.Common.{ap, sym, ◌∙◌, subst, ◌<◌, ◌≤◌, [], length, arith}
 use Rattle.std.specs.Prelude.{slice_index_or, slice_set}
 use Rattle.rc_edges.proofs.RowLaws.{all_flushed, next_flushed, none_flushed}
 use Rattle.rc_edges.specs.Given.{or_none, set_at}

@@ -1,4 +1,4 @@
-use Rattle.std.proofs.Common.{subst, ◌∙◌}
+use Rattle.std.proofs.Common.{subst}
 use Rattle.rc_edges.specs.Given.{IsRow, joined, nothing}
 use Rattle.rc_edges.proofs.position_sets.begin.Goals as goal
 

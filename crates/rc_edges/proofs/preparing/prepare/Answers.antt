@@ -1,4 +1,4 @@
-use Rattle.std.proofs.Common.{◌≡◌, length, IfOk, ap, subst, arith}
+use Rattle.std.proofs.Common.{length, IfOk, ap, subst, arith}
 use Rattle.std.proofs.lemmas.Result.{IfErr-at_err, IfErr-weaker}
 use Rattle.rc_bdd.specs.Work.{IsCause}
 use Rattle.rc_config.specs.Members.{positions}

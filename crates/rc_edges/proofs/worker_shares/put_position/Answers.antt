@@ -1,4 +1,4 @@
-use Rattle.std.proofs.Common.{◌≡◌, ap, sym, ◌∙◌, subst}
+use Rattle.std.proofs.Common.{◌≡◌, ap, ◌∙◌, subst}
 use Rattle.rc_jobs.specs.Kept.{collected_kept}
 use Rattle.rc_edges.proofs.MakingLaws.{on_done}
 use Rattle.rc_edges.specs.Sendings.{IsSending}

@@ -1,5 +1,5 @@
 use Rattle.std.proofs.Common.{◌≡◌, ◌++◌, take}
 use Rattle.rc_jobs.proofs.collected.append.Given as goal
 
-abbrev pub invariant-loop-flow : goal.invariant-loop-flow
-invariant-loop-flow l = l.flows ≡ l.fn.flows ++ take l.flow-index l.more
+abbrev pub invariant-loop-item : goal.invariant-loop-item
+invariant-loop-item g l = l.items ≡ l.fn.items ++ take l.item-index l.more

@@ -1,43 +1,22 @@
-use Rattle.std.proofs.Common.{refl, rules, ◌≡◌, ◌∙◌, ap, length, replicate, sym, true, subst}
-use Rattle.std.proofs.lemmas.Result.{IfOk-at_ok, IfOk-weaker}
+use Rattle.std.proofs.Common.{ap, length, sym, subst}
+use Rattle.std.proofs.lemmas.Result.{IfOk-at_ok}
+use Rattle.rc_base.specs.Positions.{is_among}
 use Rattle.rc_config.specs.Members.{positions}
 use Rattle.rc_edges.specs.Prepare.{ends_at}
-use Rattle.rc_edges.specs.Query.{reaching}
-use Rattle.rc_jobs.specs.Flows.{KnowsFlows, real_endings}
-use Rattle.rc_nodes.specs.Seats.{SeatKnows}
+use Rattle.rc_jobs.specs.Flows.{KnowsFlows, flows_of, real_endings}
 use Rattle.rc_reach.specs.Known.{KnowsShare}
 use Rattle.rc_reach.specs.Rounds.{reached_at}
-use Rattle.rc_trees.specs.Recipes.{tree}
-use Rattle.rc_reach.proofs.EndLaws.{ends_sent, ends_gathered, may_gather_ends}
-use Rattle.rc_reach.proofs.JoinLaws.{place_end, place_result}
 use Rattle.rc_reach.proofs.result.ended.Goals as goal
 
-pub gathered_set-requires-clause-may : goal.gathered_set-requires-clause-may
-gathered_set-requires-clause-may g c =
+pub reaching_set-requires-clause-endings : goal.reaching_set-requires-clause-endings
+reaching_set-requires-clause-endings g c =
     let plane = c.args.plane.now in
-    let place = c.args.place.now in
     let n = length (positions plane.network) in
-    let last = reached_at plane place n in
-    let is = c.as_slice.ensures.value in
-    let known : KnowsShare c.args.work.now c.as_slice.result.now last 0 n = subst (λ rs. KnowsShare c.args.work.now rs last 0 n) (sym is) (IfOk-at_ok (λ v. KnowsShare c.args.work.now v.items last 0 n) c.in-Ok.is c.requires.sets) in
-    let every : c.as_slice-2.result.now ≡ replicate (length c.in-Ok.sets.items) true = search rules in
-    let all : c.as_slice-2.result.now ≡ replicate (length c.as_slice.result.now) true = every ∙ ap (λ rs. replicate (length rs) true) (sym is) in
-    let flows : KnowsFlows c.args.work.now c.as_slice-3.result.now (real_endings (ends_at plane c.args.ends) n) = rw c.as_slice-3.ensures c.requires.endings in
-    may_gather_ends c.as_slice-3.result.now (ends_at plane c.args.ends) n last c.requires.seat known flows (place_end plane place n refl c.args.ends c.args.nodes.now.may c.requires.may) c.as_slice-2.result.now all
+    subst (λ fs. KnowsFlows c.args.work.now fs (real_endings (ends_at plane c.args.ends) n)) (sym (ap (flows_of (is_among c.args.ends)) c.as_slice.ensures)) c.requires.endings
 
-pub returns-clause-set : goal.returns-clause-set
-returns-clause-set g c =
+pub reaching_set-requires-clause-sets : goal.reaching_set-requires-clause-sets
+reaching_set-requires-clause-sets g c =
     let plane = c.args.plane.now in
-    let place = c.args.place.now in
     let n = length (positions plane.network) in
-    let ends = ends_at plane c.args.ends in
-    let last = reached_at plane place n in
-    let is = c.as_slice.ensures.value in
-    let known : KnowsShare c.args.work.now c.as_slice.result.now last 0 n = subst (λ rs. KnowsShare c.args.work.now rs last 0 n) (sym is) (IfOk-at_ok (λ v. KnowsShare c.args.work.now v.items last 0 n) c.in-Ok.is c.requires.sets) in
-    let every : c.as_slice-2.result.now ≡ replicate (length c.in-Ok.sets.items) true = search rules in
-    let all : c.as_slice-2.result.now ≡ replicate (length c.as_slice.result.now) true = every ∙ ap (λ rs. replicate (length rs) true) (sym is) in
-    let flows : KnowsFlows c.args.work.now c.as_slice-3.result.now (real_endings ends n) = rw c.as_slice-3.ensures c.requires.endings in
-    let sent = ends_sent c.as_slice-3.result.now ends n last c.requires.seat known flows c.as_slice-2.result.now all in
-    let whole = ends_gathered c.as_slice-3.result.now ends n last c.requires.seat known flows ∙ place_result plane place n refl c.args.ends in
-    IfOk-weaker c.gathered_set.result _ (λ r. SeatKnows c.gathered_set.new.work r.index (tree (reaching plane place c.args.ends)))
-    (λ r h. subst (SeatKnows c.gathered_set.new.work r.index) whole (h _ _ _ sent)) c.gathered_set.ensures.made
+    let last = reached_at plane c.args.place.now n in
+    subst (λ rs. KnowsShare c.args.work.now rs last 0 n) (sym c.as_slice-in-Ok.ensures.value) (IfOk-at_ok (λ v. KnowsShare c.args.work.now v.items last 0 n) c.in-Ok.is c.requires.sets)

@@ -1,4 +1,4 @@
-use Rattle.std.proofs.Common.{refl, ap, ◌∙◌, ◌≡◌, IfOk, OnOk}
+use Rattle.std.proofs.Common.{ap, ◌∙◌}
 use Rattle.rc_edges.proofs.MakingLaws.{on_ok}
 use Rattle.rc_edges.proofs.RowLaws.{gives_one, may_add}
 use Rattle.rc_edges.specs.Given.{set_at}

@@ -1,4 +1,4 @@
-use Rattle.std.proofs.Common.{refl, ap, sym, ◌∙◌, ◌<◌, ◌≤◌, length, get_or, arith}
+use Rattle.std.proofs.Common.{refl, ap, ◌∙◌, ◌<◌, ◌≤◌, length, get_or, arith}
 use Rattle.rc_edges.proofs.RowLaws.{all_taken, next_taken, none_taken}
 use Rattle.rc_edges.proofs.outgoing.Row.clear.Goals as goal
 
