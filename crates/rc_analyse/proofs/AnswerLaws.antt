@@ -10,7 +10,7 @@ use Rattle.rc_words.specs.declared.request.WordsFault.TheVariants as words
 use Rattle.rc_answers.specs.Texts.{usage_text}
 use Rattle.rc_answers.specs.Written.{IsLackingFor, IsPutOf, IsWritten, IsWrittenOrMemory, status_of}
 use Rattle.rc_analyse.specs.Answer.{AreFound, MayAsk, files_asked, IsLacking, IsAnswer, IsComplete, IsCompleteWithout, IsTakenWhenPlain}
-use Rattle.rc_answers.specs.Given.{Given, refused, no_place, ended}
+use Rattle.rc_answers.specs.Given.{Given, refused, no_place, idle, ended}
 use Rattle.rc_answers.specs.declared.findings.Findings.{Findings}
 use Rattle.rc_answers.specs.declared.status.Status.{Status}
 use Rattle.rc_answers.specs.declared.status.Status.TheVariants.{Done, Refused, Usage, Repeats, Limit, Nodes, Source, Sink, Memory, NoPlace}
@@ -39,6 +39,7 @@ answered (Some files) r f answer old new are (inr (lacking, same)) = inr (inr (l
 given_status : (g : Given) → ¬ (status_of g ≡ Source)
 given_status (refused refusal) e = cc
 given_status no_place e = cc
+given_status (idle routers) e = cc
 given_status (ended net (rounds_end.Fixed k) shown) e = cc
 given_status (ended net (rounds_end.Repeats i k) shown) e = cc
 given_status (ended net (rounds_end.Limit n) shown) e = cc

@@ -8,13 +8,13 @@ use Rattle.rc_config.specs.declared.router_text.RouterText.{RouterText}
 use Rattle.rc_network.specs.declared.refusal.NetCause.TheVariants.{FileTooLong}
 use Rattle.rc_network.specs.declared.refusal.NetRefusal.{NetRefusal}
 use Rattle.rc_network.specs.declared.refusal.NetRefusal.TheVariants.{InFile}
-use Rattle.rc_analyse.specs.Net.{model_of}
+use Rattle.rc_network.specs.Files.{model_by, model_of}
 
 over : (n : ℕ) → 1048576 < n → ltb 1048576 n ≡ true
 over n h = grind (arith, nat_tests)
 
 model_over : (name bytes : List ℕ) → 1048576 < length bytes → model_of name bytes ≡ Err (InFile name 0 FileTooLong)
-unfolding model_of
+unfolding model_by
 model_over name bytes h = rw (over (length bytes) h) refl
 
 -- one byte more than the limit tells as much as all

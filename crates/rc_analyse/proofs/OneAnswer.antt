@@ -11,14 +11,15 @@ use Rattle.rc_network.specs.declared.refusal.NetRefusal.{NetRefusal}
 use Rattle.rc_rounds.proofs.OutcomeLaws.{one_outcome}
 use Rattle.rc_words.specs.declared.request.Limits.{Limits}
 use Rattle.rc_words.specs.declared.request.Request.{Request}
-use Rattle.rc_analyse.specs.Net.{most_files, models_of, bytes_in, IsNet, IsNetOfModels, IsNetOf, IsNetOfFew, IsNetOfConfigs, HasOneNet}
+use Rattle.rc_analyse.specs.Net.{bytes_in, IsNet, HasOneNet}
+use Rattle.rc_network.specs.Files.{most_files, models_of, IsNetOfModels, IsNetOf, IsNetOfFew, IsNetOfConfigs}
 use Rattle.rc_answers.proofs.OneShown.{given_by}
 use Rattle.rc_answers.specs.Written.{IsGivenBy}
 use Rattle.rc_analyse.specs.Answer.{HasOneAnswer, HasOneFinding, dir_of}
 use Rattle.rc_analyse.specs.Sound.{IsFoundAs}
-use Rattle.rc_answers.specs.Subject.{asked_of}
-use Rattle.rc_answers.specs.declared.findings.Asked.{Asked}
-use Rattle.rc_answers.specs.declared.findings.Asked.TheVariants as asked
+use Rattle.rc_answers.specs.Subject.{before_rounds}
+use Rattle.rc_answers.specs.declared.findings.BeforeRounds.{BeforeRounds}
+use Rattle.rc_answers.specs.declared.findings.BeforeRounds.TheVariants as before
 use Rattle.rc_answers.specs.declared.findings.Findings.{Findings}
 use Rattle.rc_answers.specs.declared.findings.Findings.TheVariants.{Ended}
 
@@ -44,15 +45,15 @@ one_net dir files this that h g =
 
 -- ---- what is found, and what it gives
 
-found_as : (limits : Limits) (asked : Asked) (this that : Findings) → IsFoundAs limits asked this → IsFoundAs limits asked that → this ≡ that
-found_as limits (asked.OfFiles found) this that h g = h ∙ sym g
-found_as limits (asked.OfRounds net subject) this that (o, is, ended) (p, is_too, ended_too) =
+found_as : (limits : Limits) (known : BeforeRounds) (this that : Findings) → IsFoundAs limits known this → IsFoundAs limits known that → this ≡ that
+found_as limits (before.OfFiles found) this that h g = h ∙ sym g
+found_as limits (before.OfRounds net subject) this that (o, is, ended) (p, is_too, ended_too) =
     is ∙ ap (λ x. Ended net x subject) (one_outcome net limits.rounds o p ended ended_too) ∙ sym is_too
 
 pub one_finding : HasOneFinding
 one_finding files r this that (net, is, found) (other, is_too, found_too) =
     let nets : net ≡ other = one_net (dir_of r.source) files net other is is_too in
-    found_as r.limits (asked_of other r.ask) this that (subst (λ n. IsFoundAs r.limits (asked_of n r.ask) this) nets found) found_too
+    found_as r.limits (before_rounds other r.ask) this that (subst (λ n. IsFoundAs r.limits (before_rounds n r.ask) this) nets found) found_too
 
 pub one_answer : HasOneAnswer
 one_answer files r this that h g =

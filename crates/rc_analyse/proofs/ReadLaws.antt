@@ -11,7 +11,8 @@ use Rattle.rc_network.specs.Build.{Model}
 use Rattle.rc_network.specs.declared.refusal.NetRefusal.{NetRefusal}
 use Rattle.rc_network.specs.declared.refusal.NetRefusal.TheVariants.{TooManyFiles}
 use Rattle.rc_outside.specs.declared.folder.SourceError.{SourceError}
-use Rattle.rc_analyse.specs.Net.{AreConfigs, model_of, onto, models_of, too_many, with_model, bytes_in, IsNetOf, IsNetOfFew, IsNetOfConfigs, IsNet}
+use Rattle.rc_analyse.specs.Net.{AreConfigs, bytes_in, IsNet}
+use Rattle.rc_network.specs.Files.{model_of, onto, models_of, too_many, with_model, IsNetOf, IsNetOfFew, IsNetOfConfigs}
 
 abbrev Read : Type 0
 Read = Result (List Model) NetRefusal

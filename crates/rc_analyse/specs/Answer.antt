@@ -13,7 +13,7 @@ use Rattle.rc_words.specs.declared.request.Source.TheVariants.{Folder, Made}
 use Rattle.rc_analyse.specs.Net.{IsNet}
 use Rattle.rc_analyse.specs.Sound.{IsFoundAs}
 use Rattle.rc_answers.specs.Given.{Given}
-use Rattle.rc_answers.specs.Subject.{asked_of}
+use Rattle.rc_answers.specs.Subject.{before_rounds}
 use Rattle.rc_answers.specs.Texts.{text_of}
 use Rattle.rc_answers.specs.Written.{IsGivenBy, IsWritten, NeedsMoreNodes, status_of}
 use Rattle.rc_answers.specs.declared.findings.Findings.{Findings}
@@ -47,7 +47,7 @@ files_asked (Made n) told = Some (files n)
 -- what files are found to be: what they alone tell of what is asked, as their first refusal, or their network with the outcome of its
 -- rounds, and what of it is asked about. The number of workers is no part of it.
 abbrev pub AreFound : List File → Request → Findings → Type 0
-AreFound files r found = (net : Result Network NetRefusal) × IsNet (dir_of r.source) files net × IsFoundAs r.limits (asked_of net r.ask) found
+AreFound files r found = (net : Result Network NetRefusal) × IsNet (dir_of r.source) files net × IsFoundAs r.limits (before_rounds net r.ask) found
 
 pub record IsGiven (files : List File) (r : Request) (g : Given) : Type 0 where
   pub found : Findings

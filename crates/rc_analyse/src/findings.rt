@@ -6,12 +6,12 @@ ghost use Rattle.rc_outside.specs.Causes.{HasCause};
 ghost use Rattle.rc_words.specs.Request.{AreInRange, IsSourceInRange};
 ghost use Rattle.rc_analyse.specs.Answer.{AreFound, HasOneAnswer, HasOneFinding, MayAsk, dir_of, files_asked};
 ghost use Rattle.rc_analyse.specs.Net.{IsNet};
-ghost use Rattle.rc_analyse.specs.Sound.{IfOfFiles, IsEndedAs, IsFoundAs, IsSoundAsked};
+ghost use Rattle.rc_analyse.specs.Sound.{IfOfFiles, IsEndedAs, IsFoundAs, IsSoundBefore};
 ghost use Rattle.rc_answers.specs.Sound.{IsSound, StartsIn};
-ghost use Rattle.rc_answers.specs.Subject.{asked_of};
+ghost use Rattle.rc_answers.specs.Subject.{before_rounds};
 
 use crate::loading::read_network;
-use rc_answers::{Asked, Findings, Subject, asked_of};
+use rc_answers::{BeforeRounds, Findings, Subject, before_rounds};
 use rc_config::Network;
 use rc_generate::Sample;
 use rc_network::NetRefusal;
@@ -73,18 +73,18 @@ fn ended<R: Threads + Sync + AllocGlobal, G: Gate>(
 fn findings_of<R: Threads + Sync + AllocGlobal, G: Gate>(
     rt: &R,
     limits: &Limits,
-    asked: Asked,
+    known: BeforeRounds,
     gate: &G,
 ) -> Result<Findings, AllocError>
     requires limits { AreInRange limits.now }
-    requires sound { IsSoundAsked asked }
-    ensures found { IfOk result (IsFoundAs limits.now asked) }
-    ensures of_files { IfOfFiles asked (λ found. result ≡ Ok (Findings.OfFiles found)) }
+    requires sound { IsSoundBefore known }
+    ensures found { IfOk result (IsFoundAs limits.now known) }
+    ensures of_files { IfOfFiles known (λ found. result ≡ Ok (Findings.OfFiles found)) }
     ensures sound { IfOk result IsSound }
 {
-    match asked {
-        Asked::OfFiles(found) => Ok(Findings::OfFiles(found)),
-        Asked::OfRounds(net, subject) => ended(rt, net, limits, subject, gate),
+    match known {
+        BeforeRounds::OfFiles(found) => Ok(Findings::OfFiles(found)),
+        BeforeRounds::OfRounds(net, subject) => ended(rt, net, limits, subject, gate),
     }
 }
 
@@ -97,12 +97,12 @@ fn found_in<R: Threads + Sync + AllocGlobal, G: Gate>(
 ) -> Result<Findings, SourceError>
     requires lawful { IfOk net IsLawful }
     requires limits { AreInRange request.now.limits }
-    ensures found { IfOk result (IsFoundAs request.now.limits (asked_of net request.now.ask)) }
-    ensures of_files { IfOfFiles (asked_of net request.now.ask) (λ found. result ≡ Ok (Findings.OfFiles found)) }
+    ensures found { IfOk result (IsFoundAs request.now.limits (before_rounds net request.now.ask)) }
+    ensures of_files { IfOfFiles (before_rounds net request.now.ask) (λ found. result ≡ Ok (Findings.OfFiles found)) }
     ensures sound { IfOk result IsSound }
     ensures never { result ≢ Err SourceError.Failed }
 {
-    match findings_of(rt, &request.limits, asked_of(net, &request.ask), gate) {
+    match findings_of(rt, &request.limits, before_rounds(net, &request.ask), gate) {
         Ok(found) => Ok(found),
         Err(_) => Err(SourceError::Memory),
     }

@@ -4,7 +4,8 @@ ghost use Rattle.rc_outside.specs.Causes.{HasCause};
 ghost use Rattle.rc_outside.specs.Folder.{is_config, bytes_at};
 ghost use Rattle.rc_config.specs.Lawful.{IsLawful, IsLawfulFile};
 ghost use Rattle.rc_analyse.specs.Causes.{network_or_refusal, refusal_of};
-ghost use Rattle.rc_analyse.specs.Net.{model_of, models_of, too_many, with_model, bytes_in, IsNet, IsNetOf};
+ghost use Rattle.rc_analyse.specs.Net.{bytes_in, IsNet};
+ghost use Rattle.rc_network.specs.Files.{model_of, models_of, too_many, with_model, IsNetOf};
 
 use crate::listing::config_names;
 use rc_base::{FileName, Items};
@@ -54,7 +55,7 @@ fn refusal_of(error: ReadError) -> Option<FileRefusal>
 }
 
 /// The model of a file's bytes, or its first refusal.
-#[tactic(auto, unfolding(crate::specs::Net::model_of))]
+#[tactic(auto, unfolding(rc_network::specs::Files::model_by))]
 fn parsed(
     alloc: Global,
     name: &str,

@@ -85,8 +85,9 @@ pub fn run<R: Threads + Sync + AllocGlobal, F: Folder, S: Sink, G: Gate>(
     // Plain words are taken, with the values that they say and else the defaults, where their place, addresses and ending are read.
     ensures plain { IsTakenWhenPlain (map (λ w. w.now) words.now) }
 
-    // Where the files are told, the text and the status are those of the first refusal, or of the place that isn't there, or of
-    // the rounds' outcome with the routes, the walk or the cubes that are asked for; or of that text a front, where the sink failed.
+    // Where the files are told, the text and the status are those of the first refusal, or of the place that isn't there, or of the lines of
+    // access lists that never decide, or of the rounds' outcome with the routes, the walk or the cubes that are asked for; or of that text a
+    // front, where the sink failed.
     ensures answer { IfSome (request_of (map (λ w. w.now) words.now)) (λ r. IfSome (files_asked r.source (F.told folder.old)) (λ files. IsAnswer files r result (S.told out.old) (S.told out.new))) }
 
     // Where reading or memory failed, or the table of nodes is too small, nothing is written.

@@ -1,4 +1,5 @@
 mod PutLaws
 mod ExampleLaws
+mod ListLaws
 pub mod SubjectLaws
 pub mod OneShown

@@ -7,11 +7,13 @@ use Rattle.rc_cubes.specs.Cubes.{cubes}
 use Rattle.rc_network.specs.declared.refusal.NetRefusal.{NetRefusal}
 use Rattle.rc_bdd.specs.declared.work.SetError.{SetError}
 use Rattle.rc_bdd.specs.declared.work.SetError.TheVariants as set_error
-use Rattle.rc_reach.specs.Reached.{IsFullAtMost}
-use Rattle.rc_reach.specs.Reaching.{IsReachingSet}
+use Rattle.rc_reach.specs.Asked.{IsAskedSet}
+use Rattle.rc_reach.specs.Held.{IsFullAtMost}
 use Rattle.rc_report.specs.CubeText.{cubes_text, shown as only}
+use Rattle.rc_report.specs.IdleText.{routers_text}
 use Rattle.rc_report.specs.OutcomeText.{outcome_line}
 use Rattle.rc_report.specs.StateText.{route_count, routes_line}
+use Rattle.rc_report.specs.declared.idle.RouterIdle.{RouterIdle}
 use Rattle.rc_route.specs.Outcomes.{end_of}
 use Rattle.rc_route.specs.declared.state.RouterState.{RouterState}
 use Rattle.rc_route.specs.declared.outcome.Outcome.{Outcome}
@@ -22,18 +24,18 @@ use Rattle.rc_walk.specs.Moves.{DataPlane, plane_of}
 use Rattle.rc_walk.specs.Walks.{IsFirstWalk}
 use Rattle.rc_walk.specs.declared.walk.Walk.{Walk}
 use Rattle.rc_words.specs.declared.request.Request.{Request}
-use Rattle.rc_answers.specs.Given.{Shown, refused, no_place, ended, nothing, routes_of_all, routes_of, walk_of, cubes_of, first_cube_of}
+use Rattle.rc_answers.specs.Given.{Shown, refused, no_place, idle, ended, nothing, routes_of_all, routes_of, walk_of, cubes_of, first_cube_of}
 use Rattle.rc_answers.specs.Subject.{place_text}
 use Rattle.rc_answers.specs.Texts.{ended_text, head_text, no_place_line, refused_line}
-use Rattle.rc_answers.specs.Written.{AreExamplesOf, AreReachingCubes, IsDetail, IsFirstReaching, IsGivenBy, IsLackingFor, IsPutAtFixed, IsPutBehind, IsPutOf, IsPutOver, IsShown, IsShownAtFixed, IsWrittenOrMemory, NeedsMore, examples_in, lacking_of, status_after}
+use Rattle.rc_answers.specs.Written.{AreExamplesOf, AreCubesAsked, AreIdleIn, AreTooFewForLists, IsDetail, IsFirstCubeAsked, IsGivenBy, IsLackingFor, IsPutAtFixed, IsPutBehind, IsPutOf, IsPutOver, IsShown, IsShownAtFixed, IsWrittenOrMemory, NeedsMore, examples_in, lacking_of, status_after}
 use Rattle.rc_answers.specs.declared.findings.FileFindings.{FileFindings}
 use Rattle.rc_answers.specs.declared.findings.FileFindings.TheVariants as file
 use Rattle.rc_answers.specs.declared.findings.Findings.{Findings}
 use Rattle.rc_answers.specs.declared.findings.Findings.TheVariants as found
 use Rattle.rc_answers.specs.declared.status.Status.{Status}
-use Rattle.rc_answers.specs.declared.status.Status.TheVariants.{Refused, Memory, NoPlace}
+use Rattle.rc_answers.specs.declared.status.Status.TheVariants.{Done, Refused, Memory, NoPlace}
 use Rattle.rc_answers.specs.declared.subject.Detail.TheVariants.{Examples, First}
-use Rattle.rc_answers.specs.declared.subject.Reaching.{Reaching}
+use Rattle.rc_answers.specs.declared.subject.PacketSet.{PacketSet}
 use Rattle.rc_answers.specs.declared.subject.Subject.{Subject}
 use Rattle.rc_answers.specs.declared.subject.Subject.TheVariants.{AllRouters, OneRouter, Packet, Packets}
 
@@ -52,13 +54,13 @@ pub memory_at_fixed : (r : Request) (net : Network) (end : RoundsEnd) (state : L
 memory_at_fixed r net end state subject = inr (inl (refl, refl))
 
 -- want of memory, or of what a set lacks
-pub memory_over : (r : Request) (plane : DataPlane) (end : RoundsEnd) (routes : ℕ) (asked : Reaching) {old : Option (List ℕ)} → IsPutOver r plane end routes asked Memory old old
-memory_over r plane end routes asked = inr (inl (refl, refl))
+pub memory_over : (r : Request) (plane : DataPlane) (end : RoundsEnd) (routes : ℕ) (packets : PacketSet) {old : Option (List ℕ)} → IsPutOver r plane end routes packets Memory old old
+memory_over r plane end routes packets = inr (inl (refl, refl))
 
-pub lacking_over : (r : Request) (plane : DataPlane) (end : RoundsEnd) (routes : ℕ) (asked : Reaching) (e : SetError) {answer : Status} {old : Option (List ℕ)}
-    → answer ≡ lacking_of e → IsFullAtMost r.limits.nodes plane asked.place asked.ends e → IsPutOver r plane end routes asked answer old old
-lacking_over r plane end routes asked set_error.Full is full = inr (inr (is, full refl, refl))
-lacking_over r plane end routes asked set_error.Memory is full = inr (inl (is, refl))
+pub lacking_over : (r : Request) (plane : DataPlane) (end : RoundsEnd) (routes : ℕ) (packets : PacketSet) (e : SetError) {answer : Status} {old : Option (List ℕ)}
+    → answer ≡ lacking_of e → IsFullAtMost r.limits.nodes plane packets.asked e → IsPutOver r plane end routes packets answer old old
+lacking_over r plane end routes packets set_error.Full is full = inr (inr (is, full refl, refl))
+lacking_over r plane end routes packets set_error.Memory is full = inr (inl (is, refl))
 
 -- ---- what is asked of a fixed point
 
@@ -67,33 +69,33 @@ pub asked_put : (r : Request) (net : Network) (end : RoundsEnd) (state : List Ro
 asked_put r net end state subject is_subject {answer} {old} {new} is put = subst (λ s. IsPutAtFixed r net end state s answer old new) (sym is) put
 
 -- the packets of a plane are those of its network and state
-pub packets_put : (r : Request) (net : Network) (end : RoundsEnd) (state : List RouterState) (plane : DataPlane) (routes : ℕ) (asked : Reaching) {answer : Status} {old new : Option (List ℕ)}
-    → plane ≡ plane_of net state → routes ≡ route_count state → IsPutOver r plane end routes asked answer old new → IsPutAtFixed r net end state (Packets asked) answer old new
-packets_put r net end state plane routes asked {answer} {old} {new} is many put =
-    subst (λ n. IsPutOver r (plane_of net state) end n asked answer old new) many (subst (λ p. IsPutOver r p end routes asked answer old new) is put)
+pub packets_put : (r : Request) (net : Network) (end : RoundsEnd) (state : List RouterState) (plane : DataPlane) (routes : ℕ) (packets : PacketSet) {answer : Status} {old new : Option (List ℕ)}
+    → plane ≡ plane_of net state → routes ≡ route_count state → IsPutOver r plane end routes packets answer old new → IsPutAtFixed r net end state (Packets packets) answer old new
+packets_put r net end state plane routes packets {answer} {old} {new} is many put =
+    subst (λ n. IsPutOver r (plane_of net state) end n packets answer old new) many (subst (λ p. IsPutOver r p end routes packets answer old new) is put)
 
 -- a set and the walks of its examples are shown so: all cubes, or the number of routes and the first cube
-module _ (r : Request) (plane : DataPlane) (end : RoundsEnd) (routes : ℕ) (asked : Reaching) (set : Tree) (walks : List (List Walk)) where
-  pub cubes_put : {most : ℕ} {answer : Status} {old new : Option (List ℕ)} (net : Network) → asked.detail ≡ Examples most → net ≡ plane.network → IsReachingSet plane asked.place asked.ends set
-      → AreExamplesOf plane asked.place asked.ends (examples_in asked.detail) set walks
-      → IsWrittenOrMemory (status_after end) (ended_text r.source net end (cubes_of set walks)) answer old new → IsPutOver r plane end routes asked answer old new
-  cubes_put {most} {answer} {old} {new} net is same reaches are put =
-      let detailed : AreReachingCubes plane asked.place asked.ends most (cubes_of set walks) =
-      record { set = set; reaches = reaches; walks = walks; examples = subst (λ d. AreExamplesOf plane asked.place asked.ends (examples_in d) set walks) is are; are = refl } in
-      put_behind r plane.network end (IsDetail plane routes asked.place asked.ends asked.detail) _ (cubes_of set walks)
-      (subst (λ d. IsDetail plane routes asked.place asked.ends d (cubes_of set walks)) (sym is) detailed)
+module _ (r : Request) (plane : DataPlane) (end : RoundsEnd) (routes : ℕ) (packets : PacketSet) (set : Tree) (walks : List (List Walk)) where
+  pub cubes_put : {most : ℕ} {answer : Status} {old new : Option (List ℕ)} (net : Network) → packets.detail ≡ Examples most → net ≡ plane.network → IsAskedSet plane packets.asked set
+      → AreExamplesOf plane packets.asked (examples_in packets.detail) set walks
+      → IsWrittenOrMemory (status_after end) (ended_text r.source net end (cubes_of set walks)) answer old new → IsPutOver r plane end routes packets answer old new
+  cubes_put {most} {answer} {old} {new} net is same exact are put =
+      let detailed : AreCubesAsked plane packets.asked most (cubes_of set walks) =
+      record { set = set; exact = exact; walks = walks; examples = subst (λ d. AreExamplesOf plane packets.asked (examples_in d) set walks) is are; are = refl } in
+      put_behind r plane.network end (IsDetail plane routes packets.asked packets.detail) _ (cubes_of set walks)
+      (subst (λ d. IsDetail plane routes packets.asked d (cubes_of set walks)) (sym is) detailed)
       (subst (λ n. IsWrittenOrMemory (status_after end) (ended_text r.source n end (cubes_of set walks)) answer old new) same put)
 
-  pub first_cube_put : {answer : Status} {old new : Option (List ℕ)} (net : Network) → asked.detail ≡ First → net ≡ plane.network → IsReachingSet plane asked.place asked.ends set
-      → AreExamplesOf plane asked.place asked.ends (examples_in asked.detail) set walks
+  pub first_cube_put : {answer : Status} {old new : Option (List ℕ)} (net : Network) → packets.detail ≡ First → net ≡ plane.network → IsAskedSet plane packets.asked set
+      → AreExamplesOf plane packets.asked (examples_in packets.detail) set walks
       → IsWrittenOrMemory (status_after end) ((head_text r.source ++ outcome_line end) ++ (routes_line routes ++ cubes_text net (only true (cubes set)) walks)) answer old new
-      → IsPutOver r plane end routes asked answer old new
-  first_cube_put {answer} {old} {new} net is same reaches are put =
-      let none : walks ≡ [] = subst (λ d. AreExamplesOf plane asked.place asked.ends (examples_in d) set walks) is are in
-      let first : IsFirstReaching plane asked.place asked.ends routes (first_cube_of routes set) = record { set = set; reaches = reaches; is = refl } in
+      → IsPutOver r plane end routes packets answer old new
+  first_cube_put {answer} {old} {new} net is same exact are put =
+      let none : walks ≡ [] = subst (λ d. AreExamplesOf plane packets.asked (examples_in d) set walks) is are in
+      let first : IsFirstCubeAsked plane packets.asked routes (first_cube_of routes set) = record { set = set; exact = exact; is = refl } in
       let text : Network → List (List Walk) → List ℕ = λ n ws. (head_text r.source ++ outcome_line end) ++ (routes_line routes ++ cubes_text n (only true (cubes set)) ws) in
-      put_behind r plane.network end (IsDetail plane routes asked.place asked.ends asked.detail) _ (first_cube_of routes set)
-      (subst (λ d. IsDetail plane routes asked.place asked.ends d (first_cube_of routes set)) (sym is) first)
+      put_behind r plane.network end (IsDetail plane routes packets.asked packets.detail) _ (first_cube_of routes set)
+      (subst (λ d. IsDetail plane routes packets.asked d (first_cube_of routes set)) (sym is) first)
       (subst (λ ws. IsWrittenOrMemory (status_after end) (text plane.network ws) answer old new) none
       (subst (λ n. IsWrittenOrMemory (status_after end) (text n walks) answer old new) same put))
 
@@ -144,3 +146,25 @@ no_place_put r f {answer} {old} {new} is put = subst (λ x. IsPutOf r (found.OfF
     by : IsWrittenOrMemory NoPlace (no_place_line (place_text r.ask)) answer old new → IsPutOf r (found.OfFiles file.NoPlace) answer old new
     by (inl written) = inl (no_place, refl, written)
     by (inr (memory, same)) = inr (subst (IsLackingFor r.limits.nodes (found.OfFiles file.NoPlace)) (sym memory) tt, same)
+
+-- ---- access lists
+
+abbrev OfLists : Network → Option ℕ → Findings
+OfLists net router = found.OfFiles (file.Lists net router)
+
+pub lists_put : (r : Request) (net : Network) (router : Option ℕ) (told : List RouterIdle) {answer : Status} {old new : Option (List ℕ)}
+    → AreIdleIn net router told → IsWrittenOrMemory Done (routers_text told) answer old new → IsPutOf r (OfLists net router) answer old new
+lists_put r net router told are (inl written) = inl (idle told, (told, are, refl), written)
+lists_put r net router told are (inr (memory, same)) = inr (subst (IsLackingFor r.limits.nodes (OfLists net router)) (sym memory) tt, same)
+
+pub memory_for_lists : (r : Request) (net : Network) (router : Option ℕ) {old : Option (List ℕ)} → IsPutOf r (OfLists net router) Memory old old
+memory_for_lists r net router = inr (tt, refl)
+
+pub lacking_for_lists : (r : Request) (net : Network) (router : Option ℕ) (e : SetError) {answer : Status} {old : Option (List ℕ)}
+    → answer ≡ lacking_of e → (e ≡ set_error.Full → AreTooFewForLists r.limits.nodes net router) → IsPutOf r (OfLists net router) answer old old
+lacking_for_lists r net router set_error.Full is full = inr (subst (IsLackingFor r.limits.nodes (OfLists net router)) (sym is) (full refl), refl)
+lacking_for_lists r net router set_error.Memory is full = inr (subst (IsLackingFor r.limits.nodes (OfLists net router)) (sym is) tt, refl)
+
+-- what is put of one of the findings of files is put of them
+pub file_put : (r : Request) (f is_f : FileFindings) {answer : Status} {old new : Option (List ℕ)} → f ≡ is_f → IsPutOf r (found.OfFiles is_f) answer old new → IsPutOf r (found.OfFiles f) answer old new
+file_put r f is_f {answer} {old} {new} is put = subst (λ x. IsPutOf r (found.OfFiles x) answer old new) (sym is) put

@@ -13,15 +13,18 @@ use Rattle.rc_config.specs.Lawful.{IsPosition, IsRouter}
 use Rattle.rc_config.specs.Members.{router_named, interface_named, interfaces_of}
 use Rattle.rc_config.specs.Named.{index_of}
 use Rattle.rc_config.specs.declared.network.Network.{Network}
+use Rattle.rc_reach.specs.Uneven.{arrivals}
+use Rattle.rc_reach.specs.declared.asked.Asked.TheVariants.{Reaching, Looping, Uneven}
 use Rattle.rc_words.specs.declared.request.Ask.{Ask}
-use Rattle.rc_words.specs.declared.request.Ask.TheVariants.{Routes, Trace, Reach, Summary}
+use Rattle.rc_words.specs.declared.request.Ask.TheVariants.{Routes, Trace, Reach, Loops, Lines, Summary}
+use Rattle.rc_words.specs.declared.request.Ask.TheVariants as ask
 use Rattle.rc_words.specs.declared.request.PlaceName.{PlaceName}
-use Rattle.rc_answers.specs.Sound.{StartsIn}
-use Rattle.rc_answers.specs.Subject.{position_at, position_named, router_of_text, sample_place, subject_of}
+use Rattle.rc_answers.specs.Sound.{AsksWithin}
+use Rattle.rc_answers.specs.Subject.{position_at, position_named, question_of, router_of_text, sample_place}
 use Rattle.rc_answers.specs.declared.subject.Detail.TheVariants.{Examples, First}
-use Rattle.rc_answers.specs.declared.subject.Subject.{Subject}
+use Rattle.rc_answers.specs.declared.subject.Question.{Question}
+use Rattle.rc_answers.specs.declared.subject.Question.TheVariants.{OfLists, OfTables}
 use Rattle.rc_answers.specs.declared.subject.Subject.TheVariants.{AllRouters, OneRouter, Packet, Packets}
-use Rattle.rc_words.specs.Endings.{arrivals}
 
 -- an index under a name is one of the list
 within : {V : Type 0} (es : List (List ℕ × V)) (name : List ℕ) (i : ℕ) → index_of es name ≡ Some i → i < length es
@@ -51,23 +54,27 @@ module _ (net : Network) where
       by None f g = absurd (none-some q g)
       by (Some r) f g = there_at r place.interface q (within net.routers place.router r f) g
 
-  at_place : (f : Pos → Subject) (place : PlaceName) (subject : Subject) → ((q : Pos) → IsPosition net q → StartsIn net (f q)) → option_map f (position_named net place) ≡ Some subject → StartsIn net subject
-  at_place f place subject starts e = by (position_named net place) refl e
+  at_place : (f : Pos → Question) (place : PlaceName) (question : Question) → ((q : Pos) → IsPosition net q → AsksWithin net (f q)) → option_map f (position_named net place) ≡ Some question → AsksWithin net question
+  at_place f place question starts e = by (position_named net place) refl e
     where
-      by : (o : Option Pos) → position_named net place ≡ o → option_map f o ≡ Some subject → StartsIn net subject
-      by None g h = absurd (none-some subject h)
-      by (Some q) g h = let same : f q ≡ subject = cc in subst (StartsIn net) same (starts q (there_named place q g))
+      by : (o : Option Pos) → position_named net place ≡ o → option_map f o ≡ Some question → AsksWithin net question
+      by None g h = absurd (none-some question h)
+      by (Some q) g h = let same : f q ≡ question = cc in subst (AsksWithin net) same (starts q (there_named place q g))
 
-  asked_router : (text : List ℕ) (subject : Subject) → option_map OneRouter (router_of_text net text) ≡ Some subject → StartsIn net subject
-  asked_router text subject e = by (router_of_text net text) e
+  asked_router : (f : ℕ → Question) (text : List ℕ) (question : Question) → ((r : ℕ) → AsksWithin net (f r)) → option_map f (router_of_text net text) ≡ Some question → AsksWithin net question
+  asked_router f text question there e = by (router_of_text net text) e
     where
-      by : (o : Option ℕ) → option_map OneRouter o ≡ Some subject → StartsIn net subject
-      by None h = absurd (none-some subject h)
-      by (Some r) h = let same : OneRouter r ≡ subject = cc in subst (StartsIn net) same tt
+      by : (o : Option ℕ) → option_map f o ≡ Some question → AsksWithin net question
+      by None h = absurd (none-some question h)
+      by (Some r) h = let same : f r ≡ question = cc in subst (AsksWithin net) same (there r)
 
-  pub asked_is_there : (ask : Ask) (subject : Subject) → subject_of net ask ≡ Some subject → StartsIn net subject
-  asked_is_there (Routes None) subject e = let same : AllRouters ≡ subject = cc in subst (StartsIn net) same tt
-  asked_is_there (Routes (Some text)) subject e = asked_router text subject e
-  asked_is_there (Trace place header) subject e = at_place (λ q. Packet q header) place subject (λ q is. tt) e
-  asked_is_there (Reach place ends examples) subject e = at_place (λ q. Packets (record { place = q; ends = ends; detail = Examples examples })) place subject (λ q is. is) e
-  asked_is_there Summary subject e = at_place (λ q. Packets (record { place = q; ends = arrivals; detail = First })) sample_place subject (λ q is. is) e
+  pub asked_is_there : (ask : Ask) (question : Question) → question_of net ask ≡ Some question → AsksWithin net question
+  asked_is_there (Routes None) question e = let same : OfTables AllRouters ≡ question = cc in subst (AsksWithin net) same tt
+  asked_is_there (Routes (Some text)) question e = asked_router (λ r. OfTables (OneRouter r)) text question (λ r. tt) e
+  asked_is_there (Trace place header) question e = at_place (λ q. OfTables (Packet q header)) place question (λ q is. tt) e
+  asked_is_there (Reach place ends examples) question e = at_place (λ q. OfTables (Packets (record { asked = Reaching q ends; detail = Examples examples }))) place question (λ q is. is) e
+  asked_is_there (Loops place examples) question e = at_place (λ q. OfTables (Packets (record { asked = Looping q; detail = Examples examples }))) place question (λ q is. is) e
+  asked_is_there (ask.Uneven place examples) question e = at_place (λ q. OfTables (Packets (record { asked = Uneven q; detail = Examples examples }))) place question (λ q is. is) e
+  asked_is_there (Lines None) question e = let same : OfLists None ≡ question = cc in subst (AsksWithin net) same tt
+  asked_is_there (Lines (Some text)) question e = asked_router (λ r. OfLists (Some r)) text question (λ r. tt) e
+  asked_is_there Summary question e = at_place (λ q. OfTables (Packets (record { asked = Reaching q arrivals; detail = First }))) sample_place question (λ q is. is) e

@@ -2,6 +2,7 @@
 use Rattle.std.specs.Prelude.{ℕ, List}
 use Rattle.rc_config.specs.declared.network.Network.{Network}
 use Rattle.rc_network.specs.declared.refusal.NetRefusal.{NetRefusal}
+use Rattle.rc_report.specs.declared.idle.RouterIdle.{RouterIdle}
 use Rattle.rc_route.specs.declared.outcome.RoundsEnd.{RoundsEnd}
 use Rattle.rc_route.specs.declared.state.RouterState.{RouterState}
 use Rattle.rc_trees.specs.Trees.{Tree}
@@ -20,8 +21,9 @@ pub data Shown : Type 0 where
   -- how many routes all tables have, and the first cube of a set of headers
   first_cube_of : ℕ → Tree → Shown
 
--- the first refusal, or that there is no such place, or a network with how its rounds ended and what is shown after it
+-- the first refusal, or that there is no such place, or the lines of access lists that never decide, or a network with how its rounds ended and what is shown after it
 pub data Given : Type 0 where
   refused : NetRefusal → Given
   no_place : Given
+  idle : List RouterIdle → Given
   ended : Network → RoundsEnd → Shown → Given

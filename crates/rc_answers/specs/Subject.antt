@@ -7,14 +7,18 @@ use Rattle.rc_base.specs.declared.position.Pos.TheVariants.{Own, Entering}
 use Rattle.rc_config.specs.Members.{router_named, interface_named}
 use Rattle.rc_config.specs.declared.network.Network.{Network}
 use Rattle.rc_network.specs.declared.refusal.NetRefusal.{NetRefusal}
-use Rattle.rc_words.specs.Endings.{arrivals}
+use Rattle.rc_reach.specs.Uneven.{arrivals}
+use Rattle.rc_reach.specs.declared.asked.Asked.TheVariants.{Reaching, Looping, Uneven}
 use Rattle.rc_words.specs.declared.request.Ask.{Ask}
-use Rattle.rc_words.specs.declared.request.Ask.TheVariants.{Routes, Trace, Reach, Summary}
+use Rattle.rc_words.specs.declared.request.Ask.TheVariants.{Routes, Trace, Reach, Loops, Lines, Summary}
+use Rattle.rc_words.specs.declared.request.Ask.TheVariants as ask
 use Rattle.rc_words.specs.declared.request.PlaceName.{PlaceName}
-use Rattle.rc_answers.specs.declared.findings.FileFindings.TheVariants.{Refused, NoPlace}
-use Rattle.rc_answers.specs.declared.findings.Asked.{Asked}
-use Rattle.rc_answers.specs.declared.findings.Asked.TheVariants.{OfFiles, OfRounds}
+use Rattle.rc_answers.specs.declared.findings.BeforeRounds.{BeforeRounds}
+use Rattle.rc_answers.specs.declared.findings.BeforeRounds.TheVariants.{OfFiles, OfRounds}
+use Rattle.rc_answers.specs.declared.findings.FileFindings.TheVariants as file
 use Rattle.rc_answers.specs.declared.subject.Detail.TheVariants.{Examples, First}
+use Rattle.rc_answers.specs.declared.subject.Question.{Question}
+use Rattle.rc_answers.specs.declared.subject.Question.TheVariants.{OfLists, OfTables}
 use Rattle.rc_answers.specs.declared.subject.Subject.{Subject}
 use Rattle.rc_answers.specs.declared.subject.Subject.TheVariants.{AllRouters, OneRouter, Packet, Packets}
 
@@ -36,22 +40,27 @@ abbrev pub sample_place : PlaceName
 sample_place = record { router = codes "r000"; interface = Some (codes "GigabitEthernet0/3") }
 
 -- what of the network is asked about, and none where it has no such router or interface
-abbrev pub subject_of : Network → Ask → Option Subject
-subject_of net (Routes None) = Some AllRouters
-subject_of net (Routes (Some text)) = option_map OneRouter (router_of_text net text)
-subject_of net (Trace place header) = option_map (λ q. Packet q header) (position_named net place)
-subject_of net (Reach place ends examples) = option_map (λ q. Packets (record { place = q; ends = ends; detail = Examples examples })) (position_named net place)
-subject_of net Summary = option_map (λ q. Packets (record { place = q; ends = arrivals; detail = First })) (position_named net sample_place)
+abbrev pub question_of : Network → Ask → Option Question
+question_of net (Routes None) = Some (OfTables AllRouters)
+question_of net (Routes (Some text)) = option_map (λ r. OfTables (OneRouter r)) (router_of_text net text)
+question_of net (Trace place header) = option_map (λ q. OfTables (Packet q header)) (position_named net place)
+question_of net (Reach place ends examples) = option_map (λ q. OfTables (Packets (record { asked = Reaching q ends; detail = Examples examples }))) (position_named net place)
+question_of net (Loops place examples) = option_map (λ q. OfTables (Packets (record { asked = Looping q; detail = Examples examples }))) (position_named net place)
+question_of net (ask.Uneven place examples) = option_map (λ q. OfTables (Packets (record { asked = Uneven q; detail = Examples examples }))) (position_named net place)
+question_of net (Lines None) = Some (OfLists None)
+question_of net (Lines (Some text)) = option_map (λ r. OfLists (Some r)) (router_of_text net text)
+question_of net Summary = option_map (λ q. OfTables (Packets (record { asked = Reaching q arrivals; detail = First }))) (position_named net sample_place)
 
--- where there is such a router or interface the rounds have to be run, and else the files alone tell that there is none
-abbrev pub asked_at : Network → Option Subject → Asked
-asked_at net None = OfFiles NoPlace
-asked_at net (Some subject) = OfRounds net subject
+-- where there is such a router or interface the rounds have to be run, or the lists alone tell what is asked; and else the files tell that there is none
+abbrev pub question_at : Network → Option Question → BeforeRounds
+question_at net None = OfFiles file.NoPlace
+question_at net (Some (OfLists routers)) = OfFiles (file.Lists net routers)
+question_at net (Some (OfTables subject)) = OfRounds net subject
 
 -- what the files alone tell, as their first refusal, or what of their network is asked about once its rounds have ended
-abbrev pub asked_of : Result Network NetRefusal → Ask → Asked
-asked_of (Err refusal) ask = OfFiles (Refused refusal)
-asked_of (Ok net) ask = asked_at net (subject_of net ask)
+abbrev pub before_rounds : Result Network NetRefusal → Ask → BeforeRounds
+before_rounds (Err refusal) ask = OfFiles (file.Refused refusal)
+before_rounds (Ok net) ask = question_at net (question_of net ask)
 
 -- the name of an interface behind a colon
 abbrev pub behind_colon : Option (List ℕ) → List ℕ
@@ -65,4 +74,7 @@ abbrev pub place_text : Ask → List ℕ
 place_text (Routes router) = option_map_or (λ text. text) router []
 place_text (Trace place header) = name_of_place place
 place_text (Reach place ends examples) = name_of_place place
+place_text (Loops place examples) = name_of_place place
+place_text (ask.Uneven place examples) = name_of_place place
+place_text (Lines router) = option_map_or (λ text. text) router []
 place_text Summary = name_of_place sample_place

@@ -6,6 +6,7 @@ use Rattle.rc_network.specs.declared.refusal.NetRefusal.{NetRefusal}
 use Rattle.rc_network.specs.declared.refusal.NetRefusal.TheVariants.{InFile, TooManyFiles}
 use Rattle.rc_cubes.specs.Cubes.{cubes}
 use Rattle.rc_report.specs.CubeText.{cubes_text, shown as only}
+use Rattle.rc_report.specs.IdleText.{routers_text}
 use Rattle.rc_report.specs.OutcomeText.{outcome_line}
 use Rattle.rc_report.specs.StateText.{all_routes, routes_in, routes_line}
 use Rattle.rc_report.specs.WalkText.{walk_text}
@@ -13,7 +14,7 @@ use Rattle.rc_route.specs.declared.outcome.RoundsEnd.{RoundsEnd}
 use Rattle.rc_words.specs.declared.request.Request.{Request}
 use Rattle.rc_words.specs.declared.request.Source.{Source}
 use Rattle.rc_words.specs.declared.request.Source.TheVariants.{Folder, Made}
-use Rattle.rc_answers.specs.Given.{Given, refused, no_place, ended, Shown, nothing, routes_of_all, routes_of, walk_of, cubes_of, first_cube_of}
+use Rattle.rc_answers.specs.Given.{Given, refused, no_place, idle, ended, Shown, nothing, routes_of_all, routes_of, walk_of, cubes_of, first_cube_of}
 use Rattle.rc_answers.specs.Subject.{place_text}
 
 -- the usage text
@@ -21,6 +22,9 @@ unfoldable pub usage_text : List ℕ
 usage_text = codes "usage: netcheck routes DIR [--router R]\n"
     ++ codes "       netcheck trace DIR --from PLACE --dst A [--src A] [--proto N] [--sport N] [--dport N] [--type N] [--code N] [--ack N] [--rst N]\n"
     ++ codes "       netcheck reach DIR --from PLACE [--end KIND] [--examples N]\n"
+    ++ codes "       netcheck loops DIR --from PLACE [--examples N]\n"
+    ++ codes "       netcheck uneven DIR --from PLACE [--examples N]\n"
+    ++ codes "       netcheck lines DIR [--router R]\n"
     ++ codes "       netcheck sample N\n"
     ++ codes "options: --rounds N --workers N --nodes N\n"
 
@@ -53,4 +57,5 @@ ended_text source net end shown = head_text source ++ outcome_line end ++ shown_
 abbrev pub text_of : Request → Given → List ℕ
 text_of r (refused refusal) = refused_line refusal
 text_of r no_place = no_place_line (place_text r.ask)
+text_of r (idle routers) = routers_text routers
 text_of r (ended net end shown) = ended_text r.source net end shown

@@ -10,7 +10,8 @@ ghost use Rattle.rc_answers.specs.Sound.{IsSound, IsSoundEnd, StartsIn};
 ghost use Rattle.rc_answers.specs.Texts.{usage_text};
 ghost use Rattle.rc_answers.specs.Written.{IsPutAtFixed, IsPutOf, IsWritten};
 
-use crate::reaching::answer_packets;
+use crate::lists::answer_lists;
+use crate::packets::answer_packets;
 use crate::writing::{NoPlaceLine, RefusedLine, put_usage};
 use crate::written::{write, write_ended};
 use crate::{FileFindings, Findings, Status, Subject};
@@ -38,16 +39,18 @@ pub fn answer_usage<S: Sink>(out: &mut S) -> Status
 }
 
 /// Answers what files alone tell.
-fn answer_files<S: Sink>(
-    alloc: Global,
+fn answer_files<R: Threads + Sync + AllocGlobal, S: Sink>(
+    rt: &R,
     request: &Request,
     found: FileFindings,
     out: &mut S,
 ) -> Status
+    requires limits { AreInRange request.now.limits }
     ensures put { IsPutOf request.now (Findings.OfFiles found) result (S.told out.old) (S.told out.new) }
     ensures sink_only { result ≡ Status.Sink → Rose (S.faults out.old) (S.faults out.new) }
     ensures sink_always { S.faults out.old < S.faults out.new → result ≡ Status.Sink }
 {
+    let alloc = rt.alloc();
     match found {
         FileFindings::Refused(refusal) => {
             write(alloc, Status::Refused, RefusedLine { refusal }, out)
@@ -56,6 +59,7 @@ fn answer_files<S: Sink>(
             let line = NoPlaceLine { ask: &request.ask };
             write(alloc, Status::NoPlace, line, out)
         }
+        FileFindings::Lists(network, router) => answer_lists(rt, request, network, router, out),
     }
 }
 
@@ -161,8 +165,8 @@ fn answer_fixed<R: Threads + Sync + AllocGlobal, S: Sink, G: Gate>(
         Subject::Packet(position, header) => {
             answer_walk(alloc, request, net, end, state, *position, header, out)
         }
-        Subject::Packets(asked) => {
-            answer_packets(rt, request, net, end, state, asked, out, gate)
+        Subject::Packets(packets) => {
+            answer_packets(rt, request, net, end, state, packets, out, gate)
         }
     }
 }
@@ -208,7 +212,7 @@ pub fn answer_findings<R: Threads + Sync + AllocGlobal, S: Sink, G: Gate>(
     ensures sink_always { S.faults out.old < S.faults out.new → result ≡ Status.Sink }
 {
     match found {
-        Findings::OfFiles(found) => answer_files(rt.alloc(), request, found, out),
+        Findings::OfFiles(found) => answer_files(rt, request, found, out),
         Findings::Ended(net, outcome, subject) => {
             answer_ended(rt, request, &net, outcome, &subject, out, gate)
         }

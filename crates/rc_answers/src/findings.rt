@@ -1,8 +1,9 @@
 //! What files are found to be, and what is asked of them.
 ghost use Rattle.std.specs.Prelude.{◌≡◌};
-ghost use Rattle.rc_answers.specs.Subject.{asked_of};
+ghost use Rattle.rc_answers.specs.Subject.{before_rounds};
 
-use crate::{Subject, subject_of};
+use crate::{Question, Subject, question_of};
+use rc_base::RouterId;
 use rc_config::Network;
 use rc_network::NetRefusal;
 use rc_route::Outcome;
@@ -15,6 +16,8 @@ pub enum FileFindings {
     Refused(NetRefusal),
     /// The network has no router or interface of the name that is asked for.
     NoPlace,
+    /// The network, of whose access lists is asked: of those of this router, or of all.
+    Lists(Network, Option<RouterId>),
 }
 
 /// What the files that are asked about are found to be.
@@ -26,25 +29,28 @@ pub enum Findings {
     Ended(Network, Outcome, Subject),
 }
 
-/// What is asked of files, of which a network was read or a refusal.
+/// What is known of files before any rounds are run.
 #[derive(Drop)]
-pub enum Asked {
-    /// They alone tell it.
+pub enum BeforeRounds {
+    /// All that is asked: they alone tell it.
     OfFiles(FileFindings),
-    /// This of their network, once its rounds have ended.
+    /// Their network, and what of it is asked about once its rounds have ended.
     OfRounds(Network, Subject),
 }
 
 /// What the files alone tell, or what of their network is asked about once its rounds have ended.
-pub fn asked_of(net: Result<Network, NetRefusal>, ask: &Ask) -> Asked
-    ensures { result ≡ asked_of net ask.now }
+pub fn before_rounds(net: Result<Network, NetRefusal>, ask: &Ask) -> BeforeRounds
+    ensures { result ≡ before_rounds net ask.now }
 {
     let net = match net {
         Ok(net) => net,
-        Err(refusal) => return Asked::OfFiles(FileFindings::Refused(refusal)),
+        Err(refusal) => return BeforeRounds::OfFiles(FileFindings::Refused(refusal)),
     };
-    match subject_of(&net, ask) {
-        Some(subject) => Asked::OfRounds(net, subject),
-        None => Asked::OfFiles(FileFindings::NoPlace),
+    match question_of(&net, ask) {
+        Some(Question::OfTables(subject)) => BeforeRounds::OfRounds(net, subject),
+        Some(Question::OfLists(routers)) => {
+            BeforeRounds::OfFiles(FileFindings::Lists(net, routers))
+        }
+        None => BeforeRounds::OfFiles(FileFindings::NoPlace),
     }
 }

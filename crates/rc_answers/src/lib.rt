@@ -7,13 +7,14 @@
 
 mod answering;
 mod findings;
-mod reaching;
+mod lists;
+mod packets;
 mod status;
 mod subject;
 mod writing;
 mod written;
 
 pub use answering::{answer_findings, answer_usage};
-pub use findings::{Asked, FileFindings, Findings, asked_of};
+pub use findings::{BeforeRounds, FileFindings, Findings, before_rounds};
 pub use status::Status;
-pub use subject::{Detail, Reaching, Subject, subject_of};
+pub use subject::{Detail, PacketSet, Question, Subject, question_of};

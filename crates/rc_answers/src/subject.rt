@@ -1,10 +1,12 @@
 //! What of a network is asked about.
 ghost use Rattle.std.specs.Prelude.{◌≡◌, IfSome, Some};
-ghost use Rattle.rc_answers.specs.Subject.{position_at, position_named, router_of_text, sample_place, subject_of};
+ghost use Rattle.rc_reach.specs.Uneven.{arrivals};
+ghost use Rattle.rc_answers.specs.Subject.{position_at, position_named, question_of, router_of_text, sample_place};
 
-use rc_base::{Ends, Header, Name, Pos, RouterId};
+use rc_base::{Header, Name, Pos, RouterId};
 use rc_config::Network;
-use rc_words::{Ask, PlaceName, arrivals};
+use rc_reach::{Asked, arrivals};
+use rc_words::{Ask, PlaceName};
 
 /// Which cubes of a set of packets are shown.
 #[derive(Clone, Copy)]
@@ -15,11 +17,10 @@ pub enum Detail {
     First,
 }
 
-/// The packets that get from a position to one of some endings, and which of their cubes are shown.
+/// The packets that a question is about, and which of their cubes are shown.
 #[derive(Clone, Copy)]
-pub struct Reaching {
-    pub place: Pos,
-    pub ends: Ends,
+pub struct PacketSet {
+    pub asked: Asked,
     pub detail: Detail,
 }
 
@@ -33,7 +34,16 @@ pub enum Subject {
     /// The walk of a packet with this header from this position.
     Packet(Pos, Header),
     /// These packets.
-    Packets(Reaching),
+    Packets(PacketSet),
+}
+
+/// What of a network is asked about.
+#[derive(Clone, Copy)]
+pub enum Question {
+    /// Its access lists: those of this router, or of all. No tables are asked about.
+    OfLists(Option<RouterId>),
+    /// Its tables, once the rounds have ended.
+    OfTables(Subject),
 }
 
 /// The router that a text names. A text that is no name names none.
@@ -77,19 +87,36 @@ fn sample_place() -> Option<PlaceName>
     })
 }
 
+/// The packets from a place that a question is about, with so many examples.
+fn packets(asked: Asked, examples: u32) -> Question
+    ensures { result ≡ Question.OfTables (Subject.Packets (record { asked = asked; detail = Detail.Examples examples })) }
+{
+    let detail = Detail::Examples(examples);
+    Question::OfTables(Subject::Packets(PacketSet { asked, detail }))
+}
+
+/// The packets that `sample` asks about, from its place.
+fn summary(place: Pos) -> Question
+    ensures { result ≡ Question.OfTables (Subject.Packets (record { asked = Asked.Reaching place arrivals; detail = Detail.First })) }
+{
+    let asked = Asked::Reaching(place, arrivals());
+    let detail = Detail::First;
+    Question::OfTables(Subject::Packets(PacketSet { asked, detail }))
+}
+
 /// What of the network is asked about, or `None` exactly where it has no such router or interface.
-pub fn subject_of(net: &Network, ask: &Ask) -> Option<Subject>
-    ensures { result ≡ subject_of net.now ask.now }
+pub fn question_of(net: &Network, ask: &Ask) -> Option<Question>
+    ensures { result ≡ question_of net.now ask.now }
 {
     match ask {
-        Ask::Routes { router: None } => Some(Subject::AllRouters),
+        Ask::Routes { router: None } => Some(Question::OfTables(Subject::AllRouters)),
         Ask::Routes { router: Some(text) } => {
             let router = router_of_text(net, text.as_str())?;
-            Some(Subject::OneRouter(router))
+            Some(Question::OfTables(Subject::OneRouter(router)))
         }
         Ask::Trace { place, header } => {
             let position = position_named(net, place)?;
-            Some(Subject::Packet(position, *header))
+            Some(Question::OfTables(Subject::Packet(position, *header)))
         }
         Ask::Reach {
             place,
@@ -97,20 +124,24 @@ pub fn subject_of(net: &Network, ask: &Ask) -> Option<Subject>
             examples,
         } => {
             let position = position_named(net, place)?;
-            Some(Subject::Packets(Reaching {
-                place: position,
-                ends: *ends,
-                detail: Detail::Examples(*examples),
-            }))
+            Some(packets(Asked::Reaching(position, *ends), *examples))
+        }
+        Ask::Loops { place, examples } => {
+            let position = position_named(net, place)?;
+            Some(packets(Asked::Looping(position), *examples))
+        }
+        Ask::Uneven { place, examples } => {
+            let position = position_named(net, place)?;
+            Some(packets(Asked::Uneven(position), *examples))
+        }
+        Ask::Lines { router: None } => Some(Question::OfLists(None)),
+        Ask::Lines { router: Some(text) } => {
+            let router = router_of_text(net, text.as_str())?;
+            Some(Question::OfLists(Some(router)))
         }
         Ask::Summary => {
             let place = sample_place()?;
-            let position = position_named(net, &place)?;
-            Some(Subject::Packets(Reaching {
-                place: position,
-                ends: arrivals(),
-                detail: Detail::First,
-            }))
+            Some(summary(position_named(net, &place)?))
         }
     }
 }

@@ -24,13 +24,16 @@ fn put_piece<S: Sink>(out: &mut S, text: &[u8]) -> Result<(), SinkFault>
 
 /// The lines of the usage text.
 #[tactic(auto, unfolding(crate::specs::Texts::usage_text))]
-fn usage_lines() -> [&'static [u8]; 5]
+fn usage_lines() -> [&'static [u8]; 8]
     ensures { flat_map (λ text. text.now) result ≡ usage_text }
 {
     [
         b"usage: netcheck routes DIR [--router R]\n",
         b"       netcheck trace DIR --from PLACE --dst A [--src A] [--proto N] [--sport N] [--dport N] [--type N] [--code N] [--ack N] [--rst N]\n",
         b"       netcheck reach DIR --from PLACE [--end KIND] [--examples N]\n",
+        b"       netcheck loops DIR --from PLACE [--examples N]\n",
+        b"       netcheck uneven DIR --from PLACE [--examples N]\n",
+        b"       netcheck lines DIR [--router R]\n",
         b"       netcheck sample N\n",
         b"options: --rounds N --workers N --nodes N\n",
     ]
@@ -169,25 +172,36 @@ fn router_text(router: &Option<WordText>) -> &[u8]
     }
 }
 
+/// What stands in the line of a router that isn't there. What it doesn't have is an empty text.
+#[tactic(auto, unfolding(crate::specs::Texts::no_place_line))]
+fn router_parts(router: &Option<WordText>) -> [Part<'_>; 5]
+    ensures { flat_map part_text result ≡ no_place_line (option_map_or (λ text. text) router.now []) }
+{
+    [
+        Part::Text(b"no place "),
+        Part::Text(router_text(router)),
+        Part::Text(b"\n"),
+        Part::Text(b""),
+        Part::Text(b""),
+    ]
+}
+
 /// What stands in the line of a place that isn't there.
 #[tactic(auto, unfolding(crate::specs::Texts::no_place_line))]
 fn no_place_parts(ask: &Ask) -> [Part<'_>; 5]
     ensures { flat_map part_text result ≡ no_place_line (place_text ask.now) }
 {
     match ask {
-        Ask::Routes { router } => [
-            Part::Text(b"no place "),
-            Part::Text(router_text(router)),
-            Part::Text(b"\n"),
-            Part::Text(b""),
-            Part::Text(b""),
-        ],
+        Ask::Routes { router } => router_parts(router),
         Ask::Trace { place, header: _ } => named_parts(place),
         Ask::Reach {
             place,
             ends: _,
             examples: _,
         } => named_parts(place),
+        Ask::Loops { place, examples: _ } => named_parts(place),
+        Ask::Uneven { place, examples: _ } => named_parts(place),
+        Ask::Lines { router } => router_parts(router),
         Ask::Summary => [
             Part::Text(b"no place "),
             Part::Text(b"r000"),

@@ -6,3 +6,5 @@ pub mod CubeRows
 pub mod RouteRows
 pub mod OutcomeText
 pub mod StateText
+pub mod IdleText
+pub mod IdleRows

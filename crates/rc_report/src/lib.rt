@@ -7,6 +7,7 @@
 mod behind;
 mod buffer;
 mod cubes;
+mod idle;
 mod names;
 mod outcomes;
 mod part;
@@ -19,6 +20,7 @@ mod walks;
 pub use behind::{CubeLines, WalkLines};
 pub use buffer::Buffer;
 pub use cubes::put_cubes;
+pub use idle::{IdleLines, ListIdle, RouterIdle, put_idle};
 pub use outcomes::OutcomeLine;
 pub use part::Part;
 pub use put::{SinkFault, end_line, put_line, put_parts};

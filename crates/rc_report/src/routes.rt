@@ -150,20 +150,27 @@ fn put_router<S: Sink>(
 ) -> Result<(), SinkFault>
     ensures { IsPut S.Sink out.old out.new result (router_line (router_name net.now router)) }
 {
-    let parts = router_parts(net, router);
+    put_router_line(out, line, router_name(net, router))
+}
+
+/// Puts the line of a router of this name.
+pub(crate) fn put_router_line<S: Sink>(
+    out: &mut S,
+    line: &mut Buffer,
+    name: &[u8],
+) -> Result<(), SinkFault>
+    ensures { IsPut S.Sink out.old out.new result (router_line name.now) }
+{
+    let parts = router_parts(name);
     put_line(out, line, &parts)
 }
 
 /// What stands in the line of a router.
 #[tactic(auto, unfolding(crate::specs::RouteText::router_line))]
-fn router_parts<'a>(net: &'a Network, router: RouterId) -> [Part<'a>; 3]
-    ensures { flat_map part_text result ≡ router_line (router_name net.now router) }
+fn router_parts(name: &[u8]) -> [Part<'_>; 3]
+    ensures { flat_map part_text result ≡ router_line name.now }
 {
-    [
-        Part::Text(b"router "),
-        Part::Text(router_name(net, router)),
-        Part::Text(b"\n"),
-    ]
+    [Part::Text(b"router "), Part::Text(name), Part::Text(b"\n")]
 }
 
 /// Puts the line of a router and those of its routes. What is in hand of an earlier line, which failed, is dropped. A

@@ -4,8 +4,8 @@ use Rattle.clap.specs.Simple.{Shape, names_of, entered, rows_at}
 use Rattle.clap.specs.Walk.{Held, Names, Row, Rule, Text, Walk, walked, walk, nothing_held}
 use Rattle.clap.specs.Words.{subcommand_of}
 use Rattle.rc_words.specs.App.{netcheck_app}
-use Rattle.rc_words.specs.Plain.{CommandName, routes, trace, reach, sample, command_word}
-use Rattle.rc_words.proofs.Commands.{IsCommand, whole, gone, dir_rule, count_rule, routes_shape, routes_is, trace_shape, trace_is, reach_shape, reach_is, sample_shape, sample_is}
+use Rattle.rc_words.specs.Plain.{CommandName, routes, trace, reach, loops, uneven, lines, sample, command_word}
+use Rattle.rc_words.proofs.Commands.{IsCommand, whole, gone, dir_rule, count_rule, routes_shape, routes_is, trace_shape, trace_is, reach_shape, reach_is, loops_shape, loops_is, uneven_shape, uneven_is, lines_shape, lines_is, sample_shape, sample_is}
 
 all_texts : (ts : List Text) → ts ++ [] ≡ ts
 all_texts [] = refl
@@ -29,4 +29,7 @@ pub rows_of_command : (k : CommandName) (ws : List Text) → (rows : List Row) �
 rows_of_command routes = rows_of_shape routes dir_rule routes_shape routes_is
 rows_of_command trace = rows_of_shape trace dir_rule trace_shape trace_is
 rows_of_command reach = rows_of_shape reach dir_rule reach_shape reach_is
+rows_of_command loops = rows_of_shape loops dir_rule loops_shape loops_is
+rows_of_command uneven = rows_of_shape uneven dir_rule uneven_shape uneven_is
+rows_of_command lines = rows_of_shape lines dir_rule lines_shape lines_is
 rows_of_command sample = rows_of_shape sample count_rule sample_shape sample_is

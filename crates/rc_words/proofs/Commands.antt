@@ -22,7 +22,7 @@ use Rattle.rc_base.specs.declared.field.Field.{Field}
 use Rattle.rc_base.specs.declared.field.Field.TheVariants.{Dst}
 use Rattle.rc_base.proofs.FieldLaws.{is_new, is_there, same-is}
 use Rattle.rc_words.specs.App.{netcheck_app}
-use Rattle.rc_words.specs.Plain.{CommandName, routes, trace, reach, sample, command_word, OptionName, router, from, field, end, examples, rounds, workers, nodes, option_name, same_option, ValueKind, number, text, kind_of, default, options_of, required_of}
+use Rattle.rc_words.specs.Plain.{CommandName, routes, trace, reach, loops, uneven, lines, sample, command_word, OptionName, router, from, field, end, examples, rounds, workers, nodes, option_name, same_option, ValueKind, number, text, kind_of, default, options_of, required_of}
 use Rattle.rc_words.proofs.Defaults.{IsDefaulted, defaults_by, looked, or_default}
 use Rattle.rc_words.proofs.KeptValues.{IsOwn, AreOwn}
 use Rattle.rc_words.proofs.PlainWalk.{IsFirst}
@@ -356,6 +356,138 @@ reach_is = record {
   required = (reach_options.0, tt);
   defaults = reach_defaults;
   defaults_pass = reach_defaults_pass;
+  check = λ rows. refl;
+}
+
+-- ---- loops
+
+abbrev pub loops_shape : Shape
+loops_shape = shape_at (codes "loops")
+
+loops_enters : walked whole.top.rules (names_of whole) (walk_from nothing_held) (codes "loops") ≡ gone nothing_held (codes "loops") []
+unfolding clap_on_literals
+loops_enters = refl
+
+loops_enters_well : turn_fault whole.top (names_of whole) (walk_from nothing_held) (codes "loops") ≡ []
+unfolding clap_on_literals
+loops_enters_well = refl
+
+loops_own : AllOf (IsOwn loops_shape.rules) loops_shape.rules
+loops_own = own_computed loops_shape.rules refl refl refl refl
+
+loops_options : AllOf (IsOption loops_shape.rules) (options_of loops)
+loops_options = options_computed loops_shape.rules (options_of loops) refl refl refl
+
+loops_defaults : AllOf IsDefaulted loops_shape.rules
+loops_defaults = defaulted_computed loops_shape.rules refl
+
+loops_defaults_pass : AllOf (λ a. given_default_fault a a.defaults ≡ []) loops_shape.rules
+loops_defaults_pass = all_same (λ (a : Rule). given_default_fault a a.defaults) (λ a. []) loops_shape.rules refl
+
+pub loops_is : IsCommand loops dir_rule loops_shape
+loops_is = record {
+  found = refl;
+  name = refl;
+  enters = loops_enters;
+  enters_well = loops_enters_well;
+  once = refl;
+  own = own_by loops_shape.rules loops_own (λ x. refl);
+  first = λ v e. record { single = record { here = refl; set = refl; least = refl; most = refl; passes = e }; place = refl; one = refl; several = refl; trailing = refl };
+  after = λ found. refl;
+  no_default = refl;
+  apart = λ o. (named o).not_dir;
+  options = loops_options;
+  required = (loops_options.0, tt);
+  defaults = loops_defaults;
+  defaults_pass = loops_defaults_pass;
+  check = λ rows. refl;
+}
+
+-- ---- uneven
+
+abbrev pub uneven_shape : Shape
+uneven_shape = shape_at (codes "uneven")
+
+uneven_enters : walked whole.top.rules (names_of whole) (walk_from nothing_held) (codes "uneven") ≡ gone nothing_held (codes "uneven") []
+unfolding clap_on_literals
+uneven_enters = refl
+
+uneven_enters_well : turn_fault whole.top (names_of whole) (walk_from nothing_held) (codes "uneven") ≡ []
+unfolding clap_on_literals
+uneven_enters_well = refl
+
+uneven_own : AllOf (IsOwn uneven_shape.rules) uneven_shape.rules
+uneven_own = own_computed uneven_shape.rules refl refl refl refl
+
+uneven_options : AllOf (IsOption uneven_shape.rules) (options_of uneven)
+uneven_options = options_computed uneven_shape.rules (options_of uneven) refl refl refl
+
+uneven_defaults : AllOf IsDefaulted uneven_shape.rules
+uneven_defaults = defaulted_computed uneven_shape.rules refl
+
+uneven_defaults_pass : AllOf (λ a. given_default_fault a a.defaults ≡ []) uneven_shape.rules
+uneven_defaults_pass = all_same (λ (a : Rule). given_default_fault a a.defaults) (λ a. []) uneven_shape.rules refl
+
+pub uneven_is : IsCommand uneven dir_rule uneven_shape
+uneven_is = record {
+  found = refl;
+  name = refl;
+  enters = uneven_enters;
+  enters_well = uneven_enters_well;
+  once = refl;
+  own = own_by uneven_shape.rules uneven_own (λ x. refl);
+  first = λ v e. record { single = record { here = refl; set = refl; least = refl; most = refl; passes = e }; place = refl; one = refl; several = refl; trailing = refl };
+  after = λ found. refl;
+  no_default = refl;
+  apart = λ o. (named o).not_dir;
+  options = uneven_options;
+  required = (uneven_options.0, tt);
+  defaults = uneven_defaults;
+  defaults_pass = uneven_defaults_pass;
+  check = λ rows. refl;
+}
+
+-- ---- lines
+
+abbrev pub lines_shape : Shape
+lines_shape = shape_at (codes "lines")
+
+lines_enters : walked whole.top.rules (names_of whole) (walk_from nothing_held) (codes "lines") ≡ gone nothing_held (codes "lines") []
+unfolding clap_on_literals
+lines_enters = refl
+
+lines_enters_well : turn_fault whole.top (names_of whole) (walk_from nothing_held) (codes "lines") ≡ []
+unfolding clap_on_literals
+lines_enters_well = refl
+
+lines_own : AllOf (IsOwn lines_shape.rules) lines_shape.rules
+lines_own = own_computed lines_shape.rules refl refl refl refl
+
+lines_options : AllOf (IsOption lines_shape.rules) (options_of lines)
+lines_options = options_computed lines_shape.rules (options_of lines) refl refl refl
+
+lines_defaults : AllOf IsDefaulted lines_shape.rules
+lines_defaults = defaulted_computed lines_shape.rules refl
+
+lines_defaults_pass : AllOf (λ a. given_default_fault a a.defaults ≡ []) lines_shape.rules
+lines_defaults_pass = all_same (λ (a : Rule). given_default_fault a a.defaults) (λ a. []) lines_shape.rules refl
+
+pub lines_is : IsCommand lines dir_rule lines_shape
+lines_is = record {
+  found = refl;
+  name = refl;
+  enters = lines_enters;
+  enters_well = lines_enters_well;
+  once = refl;
+  own = own_by lines_shape.rules lines_own (λ x. refl);
+  first = λ v e. record { single = record { here = refl; set = refl; least = refl; most = refl; passes = e }; place = refl; one = refl; several = refl; trailing = refl };
+  after = λ found. refl;
+  no_default = refl;
+  apart = λ o. (named o).not_dir;
+  options = lines_options;
+  required = tt;
+  defaults = lines_defaults;
+  defaults_pass = lines_defaults_pass;
   check = λ rows. refl;
 }
 

@@ -8,10 +8,11 @@ use Rattle.clap.specs.Lexer.{long_of, short_of}
 use Rattle.clap.specs.Simple.{names_of, entered}
 use Rattle.clap.specs.Walk.{Held, Text, Walk, idle, value, Step, plain, after_flag, bundle_met, bundle_step, short_or_plain, long_or_other, nothing_held, walk_from, walked, subcommand_met}
 use Rattle.rc_words.specs.App.{netcheck_app}
-use Rattle.rc_words.specs.Plain.{CommandName, routes, trace, reach, sample, command_word}
+use Rattle.rc_words.specs.Plain.{CommandName, routes, trace, reach, loops, uneven, lines, sample, command_word}
 use Rattle.rc_words.proofs.Commands.{whole}
 use Rattle.rc_words.proofs.KeptValues.{first_none, second_none}
 use Rattle.rc_words.proofs.Matched.{stop_at, top_parts}
+use Rattle.rc_words.proofs.Rules.{AllOf}
 
 -- the top command has no arguments of its own, so what is no command's name is a stray word
 bundle_value : (k : ℕ) (flags word : Text) (h : Held) → (after_flag [] idle word (bundle_met [] k flags 0 plain h).0 (bundle_met [] k flags 0 plain h).1).1 ≡ value
@@ -42,15 +43,24 @@ IsOther w = subcommand_met (names_of whole) idle w ≡ None
 abbrev IsNamed : Text → Type 0
 IsNamed w = (k : CommandName) × (w ≡ command_word k)
 
-command_or_other : (w : Text) → IsNamed w ⊎ IsOther w
-command_or_other w = go (bytes_eq (codes "routes") w) refl (bytes_eq (codes "trace") w) refl (bytes_eq (codes "reach") w) refl (bytes_eq (codes "sample") w) refl
+abbrev commands : List CommandName
+commands = routes ∷ trace ∷ reach ∷ loops ∷ uneven ∷ lines ∷ sample ∷ []
+
+-- the word names one of some commands, or none of them
+one_or_none : (ks : List CommandName) (w : Text) → IsNamed w ⊎ AllOf (λ k. bytes_eq (command_word k) w ≡ false) ks
+one_or_none [] w = inr tt
+one_or_none (k ∷ ks) w = go (bytes_eq (command_word k) w) refl (one_or_none ks w)
   where
-    go : (a : Bool) → bytes_eq (codes "routes") w ≡ a → (b : Bool) → bytes_eq (codes "trace") w ≡ b → (c : Bool) → bytes_eq (codes "reach") w ≡ c → (d : Bool) → bytes_eq (codes "sample") w ≡ d → IsNamed w ⊎ IsOther w
-    go true e b f c g d h = inl (routes, sym ((bytes_eq-Decides (codes "routes") w).0 e))
-    go false e true f c g d h = inl (trace, sym ((bytes_eq-Decides (codes "trace") w).0 f))
-    go false e false f true g d h = inl (reach, sym ((bytes_eq-Decides (codes "reach") w).0 g))
-    go false e false f false g true h = inl (sample, sym ((bytes_eq-Decides (codes "sample") w).0 h))
-    go false e false f false g false h = inr (rw (e, f, g, h))
+    go : (b : Bool) → bytes_eq (command_word k) w ≡ b → IsNamed w ⊎ AllOf (λ k. bytes_eq (command_word k) w ≡ false) ks → IsNamed w ⊎ AllOf (λ k. bytes_eq (command_word k) w ≡ false) (k ∷ ks)
+    go true e others = inl (k, sym ((bytes_eq-Decides (command_word k) w).0 e))
+    go false e (inl named) = inl named
+    go false e (inr none) = inr (e, none)
+
+command_or_other : (w : Text) → IsNamed w ⊎ IsOther w
+command_or_other w = elim (one_or_none commands w) [
+  | inl named ↦ inl named
+  | inr none ↦ inr (rw (none.0, none.1.0, none.1.1.0, none.1.1.1.0, none.1.1.1.1.0, none.1.1.1.1.1.0, none.1.1.1.1.1.1.0))
+]
 
 top_word : (w : Text) → IsOther w → bytes_eq w (45 ∷ 45 ∷ []) ≡ false → turn_fault whole.top (names_of whole) (walk_from nothing_held) w ≡ [] → ⊥
 top_word w other no_dashes e = no_flag w (long_of w) (rw (other, no_dashes) at e)

@@ -1,5 +1,5 @@
 -- Where clap finds no fault in the words there is a request, with every number in its option's range, but where the text of a place, an address or an ending isn't read.
-use Rattle.std.proofs.Common.{ap, sym, lit<, ◌≡◌, ◌∙◌, ℕ, ◌<◌, ◌^◌, Bool, true, false, not, ◌&&◌, ◌||◌, ◌⊎◌, inl, inr, List, [], ◌∷◌, refl, Option, Some, None, codes, find, is_some, map, true≢false}
+use Rattle.std.proofs.Common.{ap, sym, lit<, ◌≡◌, ◌∙◌, ℕ, ◌<◌, ◌≤◌, ◌^◌, Bool, true, false, not, ◌&&◌, ◌||◌, ◌⊎◌, inl, inr, List, [], ◌∷◌, refl, Option, Some, None, codes, find, is_some, map, true≢false}
 use Rattle.std.proofs.Math.Nat.{lt_of_le_of_lt}
 use Rattle.std.specs.Prelude.{option_and_then, option_map}
 use Rattle.std.specs.List.{list_any}
@@ -22,13 +22,15 @@ use Rattle.rc_words.specs.App.{netcheck_app}
 use Rattle.rc_base.specs.Endings.{kind_named}
 use Rattle.rc_words.specs.Endings.{endings_of, only}
 use Rattle.rc_words.specs.HeaderOptions.{greatest}
-use Rattle.rc_words.specs.Plain.{CommandName, routes, trace, reach, sample, command_word, from, field, examples, rounds, workers, nodes, limit_options}
-use Rattle.rc_words.specs.Request.{address_at, place_of, place_at, field_at, header_at, ends_at, trace_at, reach_at, source_at, limits_at, request_at, is_read, texts_are_read, AreInRange, IsSourceInRange, IsAskInRange}
-use Rattle.rc_words.specs.declared.request.Ask.TheVariants.{Routes, Trace, Reach, Summary}
+use Rattle.rc_words.specs.Plain.{CommandName, routes, trace, reach, loops, uneven, lines, sample, command_word, from, field, examples, rounds, workers, nodes, limit_options}
+use Rattle.rc_words.specs.Request.{address_at, place_of, place_at, field_at, header_at, ends_at, trace_at, reach_at, packets_at, ask_at, number_at, source_at, limits_at, request_at, is_read, texts_are_read, AreInRange, IsSourceInRange, IsAskInRange}
+use Rattle.rc_words.specs.declared.request.Ask.TheVariants.{Routes, Trace, Reach, Loops, Uneven, Lines, Summary}
+use Rattle.rc_words.specs.declared.request.Ask.{Ask}
 use Rattle.rc_words.specs.declared.request.Limits.{Limits}
+use Rattle.rc_words.specs.declared.request.PlaceName.{PlaceName}
 use Rattle.rc_words.specs.declared.request.Request.{Request}
 use Rattle.rc_words.specs.declared.request.Source.TheVariants.{Folder, Made}
-use Rattle.rc_words.proofs.Commands.{IsCommand, IsOption, whole, wanted_ids, dir_rule, count_rule, rule_for, routes_shape, routes_is, trace_shape, trace_is, reach_shape, reach_is, sample_shape, sample_is}
+use Rattle.rc_words.proofs.Commands.{IsCommand, IsOption, whole, wanted_ids, dir_rule, count_rule, rule_for, routes_shape, routes_is, trace_shape, trace_is, reach_shape, reach_is, loops_shape, loops_is, uneven_shape, uneven_is, lines_shape, lines_is, sample_shape, sample_is}
 use Rattle.rc_words.proofs.Defaults.{IsDefaulted, look, look_all}
 use Rattle.rc_words.proofs.KeptValues.{RowsPass, all_pass, settled_passes, first_none, second_none}
 use Rattle.rc_words.proofs.HeaderRead.{IsNumbered, address_fits, header_read, zeros_fit}
@@ -224,6 +226,65 @@ reach_told rows h given =
       unread = λ e. without_ask (source_at (codes "reach") (after reach_shape.rules rows)) (reach_at (after reach_shape.rules rows)) (limits_at (after reach_shape.rules rows)) (reach_unread (after reach_shape.rules rows) no_dst no_src e);
     }
 
+-- a command that asks of the packets from a place, and has no other text among its options
+module _ (k : CommandName) (s : Shape) (f : IsCommand k dir_rule s) (ask : PlaceName → ℕ → Ask) (in_range : (place : PlaceName) (n : ℕ) → n ≤ 1000 → IsAskInRange (ask place n))
+    (asks : (rows : List Row) → ask_at (command_word k) rows ≡ packets_at ask rows) (about : (rows : List Row) → source_at (command_word k) rows ≡ option_map Folder (first_of (codes "DIR") rows))
+    (options : AllOf (IsOption s.rules) (from ∷ examples ∷ limit_options)) where
+  packets_told : (rows : List Row) → RowsPass s.rules rows → AreGiven (codes "DIR" ∷ codes "from" ∷ []) (after s.rules rows)
+      → first_of (codes "dst") (after s.rules rows) ≡ None → first_of (codes "src") (after s.rules rows) ≡ None → first_of (codes "end") (after s.rules rows) ≡ None
+      → IsTold (Some (command_word k, after s.rules rows))
+  packets_told rows h given no_dst no_src no_end =
+      let d = f.defaults in
+      let (dir, dir_is) = argument_asked k dir_rule s f rows h given.0 in
+      let (place_text, place_is) = given_text s.rules (codes "from") (rule_for from) rows (look_option s.rules from rows d options.0) refl h given.1.0 in
+      let (n, n_is, n_low, n_high) = number_in 32 s.rules examples 0 1000 (codes "0") rows d options.1.0 h refl refl refl (lit< tt) in
+      let (l, l_is, l_in) = limits_asked s.rules rows d options.1.1 h in
+      record {
+        read = λ e.
+            let (place, place_at_is) = read_text place_of (first_of (codes "from") (after s.rules rows)) place_text place_is (both _ _ (both _ _ (both _ _ e).0).0).0 in
+            let asked : ask_at (command_word k) (after s.rules rows) ≡ Some (ask place n) = asks (after s.rules rows) ∙ rw (place_at_is, n_is) in
+            let source : source_at (command_word k) (after s.rules rows) ≡ Some (Folder dir) = about (after s.rules rows) ∙ rw dir_is in
+            (record { source = Folder dir; ask = ask place n; limits = l }, rw (source, asked, l_is), l_in, tt, in_range place n n_high);
+        unread = λ e.
+            let fewer : (is_read place_of (first_of (codes "from") (after s.rules rows)) && true && true && true) ≡ false = rw (no_dst, no_src, no_end) at e in
+            without_ask (source_at (command_word k) (after s.rules rows)) (ask_at (command_word k) (after s.rules rows)) (limits_at (after s.rules rows))
+            (asks (after s.rules rows) ∙ no_packets (after s.rules rows) (unread_none place_of (first_of (codes "from") (after s.rules rows)) (only_first (is_read place_of (first_of (codes "from") (after s.rules rows))) fewer)));
+      }
+    where
+      only_first : (b : Bool) → (b && true && true && true) ≡ false → b ≡ false
+      only_first true e = e
+      only_first false e = refl
+
+      no_packets : (rows : List Row) → place_at (codes "from") rows ≡ None → packets_at ask rows ≡ None
+      no_packets rows e = rw e
+
+loops_told : (rows : List Row) → RowsPass loops_shape.rules rows → AreGiven (wanted_ids dir_rule loops) (after loops_shape.rules rows) → IsTold (Some (codes "loops", after loops_shape.rules rows))
+loops_told rows h given =
+    let d = loops_is.defaults in
+    packets_told loops loops_shape loops_is Loops (λ place n most. most) (λ rows. refl) (λ rows. refl) loops_is.options rows h given
+    (no_text loops_shape.rules (codes "dst") rows d h refl refl) (no_text loops_shape.rules (codes "src") rows d h refl refl) (no_text loops_shape.rules (codes "end") rows d h refl refl)
+
+uneven_told : (rows : List Row) → RowsPass uneven_shape.rules rows → AreGiven (wanted_ids dir_rule uneven) (after uneven_shape.rules rows) → IsTold (Some (codes "uneven", after uneven_shape.rules rows))
+uneven_told rows h given =
+    let d = uneven_is.defaults in
+    packets_told uneven uneven_shape uneven_is Uneven (λ place n most. most) (λ rows. refl) (λ rows. refl) uneven_is.options rows h given
+    (no_text uneven_shape.rules (codes "dst") rows d h refl refl) (no_text uneven_shape.rules (codes "src") rows d h refl refl) (no_text uneven_shape.rules (codes "end") rows d h refl refl)
+
+lines_told : (rows : List Row) → RowsPass lines_shape.rules rows → AreGiven (wanted_ids dir_rule lines) (after lines_shape.rules rows) → IsTold (Some (codes "lines", after lines_shape.rules rows))
+lines_told rows h given =
+    let c = lines_shape.rules in
+    let d = lines_is.defaults in
+    let (dir, dir_is) = argument_asked lines dir_rule lines_shape lines_is rows h given.0 in
+    let (l, l_is, l_in) = limits_asked lines_shape.rules rows d lines_is.options.1 h in
+    let no_from : first_of (codes "from") (after lines_shape.rules rows) ≡ None = no_text lines_shape.rules (codes "from") rows d h refl refl in
+    let no_dst : first_of (codes "dst") (after lines_shape.rules rows) ≡ None = no_text lines_shape.rules (codes "dst") rows d h refl refl in
+    let no_src : first_of (codes "src") (after lines_shape.rules rows) ≡ None = no_text lines_shape.rules (codes "src") rows d h refl refl in
+    let no_end : first_of (codes "end") (after lines_shape.rules rows) ≡ None = no_text lines_shape.rules (codes "end") rows d h refl refl in
+    record {
+      read = λ _. (record { source = Folder dir; ask = Lines (first_of (codes "router") (after lines_shape.rules rows)); limits = l }, rw (dir_is, l_is), l_in, tt, tt);
+      unread = λ e. let bad : true ≡ false = rw (no_from, no_dst, no_src, no_end) at e in absurd (true≢false bad);
+    }
+
 -- ---- the command that the words name
 
 any_false : (ids : List Text) (rows : List Row) → list_any (λ id. not (is_given id rows)) ids ≡ false → AreGiven ids rows
@@ -255,7 +316,7 @@ abbrev Tells : Shape → Type 0
 Tells s = (ws : List Text) → level_fault s [] nothing_held ws false [] ≡ [] → IsTold (Some (rows_at s ws))
 
 all_tell : AllOf Tells whole.subs
-all_tell = (level_told routes dir_rule routes_shape routes_is routes_told, (level_told trace dir_rule trace_shape trace_is trace_told, (level_told reach dir_rule reach_shape reach_is reach_told, (level_told sample count_rule sample_shape sample_is sample_told, tt))))
+all_tell = (level_told routes dir_rule routes_shape routes_is routes_told, (level_told trace dir_rule trace_shape trace_is trace_told, (level_told reach dir_rule reach_shape reach_is reach_told, (level_told loops dir_rule loops_shape loops_is loops_told, (level_told uneven dir_rule uneven_shape uneven_is uneven_told, (level_told lines dir_rule lines_shape lines_is lines_told, (level_told sample count_rule sample_shape sample_is sample_told, tt)))))))
 
 stop_told : (stop : Option (Text × List Text)) → entered_fault whole stop ≡ [] → is_some (entered whole stop) ≡ true → IsTold (entered whole stop)
 stop_told None e there = absurd (true≢false (sym there))

@@ -5,10 +5,10 @@ use Rattle.clap.specs.Words.{Row, Text, first_of}
 use Rattle.rc_base.specs.declared.ending.Ends.{Ends}
 use Rattle.rc_base.specs.declared.header.Header.{Header}
 use Rattle.rc_words.specs.Laws.{is_sample}
-use Rattle.rc_words.specs.Plain.{CommandName, routes, trace, reach, sample, command_word}
+use Rattle.rc_words.specs.Plain.{CommandName, routes, trace, reach, loops, uneven, lines, sample, command_word}
 use Rattle.rc_words.specs.Request.{source_at, ask_at, limits_at, request_at, number_at, header_at, place_at, ends_at, is_made, is_summary}
 use Rattle.rc_words.specs.declared.request.Ask.{Ask}
-use Rattle.rc_words.specs.declared.request.Ask.TheVariants.{Routes, Trace, Reach, Summary}
+use Rattle.rc_words.specs.declared.request.Ask.TheVariants.{Routes, Trace, Reach, Loops, Uneven, Lines, Summary}
 use Rattle.rc_words.specs.declared.request.Limits.{Limits}
 use Rattle.rc_words.specs.declared.request.PlaceName.{PlaceName}
 use Rattle.rc_words.specs.declared.request.Request.{Request}
@@ -56,6 +56,9 @@ source_found : (k : CommandName) (rows : List Row) (source : Source) → source_
 source_found routes rows = folder_found _
 source_found trace rows = folder_found _
 source_found reach rows = folder_found _
+source_found loops rows = folder_found _
+source_found uneven rows = folder_found _
+source_found lines rows = folder_found _
 source_found sample rows = count_found _
 
 other_ask : (this ask : Ask) → is_summary this ≡ false → Some this ≡ Some ask → is_summary ask ≡ false
@@ -72,10 +75,19 @@ reach_found (Some p) None examples ask e = absurd (cc)
 reach_found (Some p) (Some k) None ask e = absurd (cc)
 reach_found (Some p) (Some k) (Some n) ask e = other_ask (Reach p k n) ask refl e
 
+packets_found : (make : PlaceName → ℕ → Ask) → ((p : PlaceName) (n : ℕ) → is_summary (make p n) ≡ false) → (place : Option PlaceName) (examples : Option ℕ) (ask : Ask)
+    → option_and_then (λ p. option_map (λ n. make p n) examples) place ≡ Some ask → is_summary ask ≡ false
+packets_found make other None examples ask e = absurd (cc)
+packets_found make other (Some p) None ask e = absurd (cc)
+packets_found make other (Some p) (Some n) ask e = other_ask (make p n) ask (other p n) e
+
 ask_found : (k : CommandName) (rows : List Row) (ask : Ask) → ask_at (command_word k) rows ≡ Some ask → is_summary ask ≡ is_sample k
 ask_found routes rows ask e = other_ask (Routes (first_of (codes "router") rows)) ask refl e
 ask_found trace rows ask e = trace_found (place_at (codes "from") rows) (header_at rows) ask e
 ask_found reach rows ask e = reach_found (place_at (codes "from") rows) (ends_at rows) (number_at 32 (codes "examples") rows) ask e
+ask_found loops rows ask e = packets_found Loops (λ p n. refl) (place_at (codes "from") rows) (number_at 32 (codes "examples") rows) ask e
+ask_found uneven rows ask e = packets_found Uneven (λ p n. refl) (place_at (codes "from") rows) (number_at 32 (codes "examples") rows) ask e
+ask_found lines rows ask e = other_ask (Lines (first_of (codes "router") rows)) ask refl e
 ask_found sample rows ask e = let is : Summary ≡ ask = cc in ap is_summary (sym is)
 
 pub made_found : (k : CommandName) (rows : List Row) (r : Request) → request_at (Some (command_word k, rows)) ≡ Some r → (is_made r.source ≡ is_sample k) × (is_summary r.ask ≡ is_sample k)

@@ -22,18 +22,19 @@ use Rattle.rc_base.specs.declared.field.Field.{Field}
 use Rattle.rc_base.specs.declared.field.Field.TheVariants.{Dst, Src}
 use Rattle.rc_base.specs.declared.header.Header.{Header}
 use Rattle.rc_openings.specs.Values.{address_of, at_most}
-use Rattle.rc_words.specs.Plain.{CommandName, routes, trace, reach, sample, command_word, OptionName, router, from, field, end, examples, rounds, workers, nodes, option_name, same_option, ValueKind, number, text, kind_of, default, limit_options, options_of, required_of, has_option, Use, IsPlainNumber, IsPlainValue, is_plain_text, is_given, ArePlainUses, ArePlain, option_words, plain_words, text_for, number_for, plain_limits, plain_field, plain_request}
+use Rattle.rc_words.specs.Plain.{CommandName, routes, trace, reach, loops, uneven, lines, sample, command_word, OptionName, router, from, field, end, examples, rounds, workers, nodes, option_name, same_option, ValueKind, number, text, kind_of, default, limit_options, options_of, required_of, argument_of, has_option, Use, IsPlainNumber, IsPlainValue, is_plain_text, is_given, ArePlainUses, ArePlain, option_words, plain_words, text_for, number_for, plain_limits, plain_field, plain_request}
 use Rattle.rc_words.specs.Endings.{endings_of}
 use Rattle.rc_words.specs.HeaderOptions.{greatest, header_of}
-use Rattle.rc_words.specs.Request.{number_read, number_at, address_at, place_of, place_at, limits_at, field_at, header_at, ends_at, request_at, request_of}
-use Rattle.rc_words.specs.declared.request.Ask.TheVariants.{Trace, Reach, Summary}
+use Rattle.rc_words.specs.Request.{number_read, number_at, address_at, place_of, place_at, limits_at, field_at, header_at, ends_at, packets_at, ask_at, source_at, request_at, request_of}
+use Rattle.rc_words.specs.declared.request.Ask.{Ask}
+use Rattle.rc_words.specs.declared.request.Ask.TheVariants.{Trace, Reach, Loops, Uneven, Summary}
 use Rattle.rc_words.specs.declared.request.Limits.{Limits}
 use Rattle.rc_words.specs.declared.request.PlaceName.{PlaceName}
 use Rattle.rc_words.specs.declared.request.Source.TheVariants.{Folder, Made}
 use Rattle.rc_words.proofs.HeaderRead.{same_header}
 use Rattle.rc_words.proofs.NumberFields.{IsNumberField, are_numbers, number_fields}
 use Rattle.rc_words.proofs.Numbers.{IsDigits, digits_are, digits_read, digits_accepted, within}
-use Rattle.rc_words.proofs.Commands.{IsCommand, IsOption, IsSmall, named, same_is, rule_for, dir_rule, count_rule, parser_by, wanted_ids, routes_shape, routes_is, trace_shape, trace_is, reach_shape, reach_is, sample_shape, sample_is}
+use Rattle.rc_words.proofs.Commands.{IsCommand, IsOption, IsSmall, named, same_is, rule_for, dir_rule, count_rule, parser_by, wanted_ids, routes_shape, routes_is, trace_shape, trace_is, reach_shape, reach_is, loops_shape, loops_is, uneven_shape, uneven_is, lines_shape, lines_is, sample_shape, sample_is}
 use Rattle.rc_words.proofs.Defaults.{look, look_all, or_default, default_row, defaults_by}
 use Rattle.rc_words.proofs.PlainWalk.{IsSingle, IsOptionWord, IsPlainText, OptionUse, words_of, given, AreUsed, row_for, same_text_eq}
 use Rattle.rc_words.proofs.PlainTaken.{plain_well, plain_rows}
@@ -322,6 +323,42 @@ reach_taken d uses h =
     (value_found reach dir_rule reach_shape reach_is d refl uses 32 examples 0 1000 (codes "0") reach_is.options.1.1.0 refl (lit< tt) refl refl h.options)
     (limits_found reach dir_rule reach_shape reach_is d refl uses reach_is.options.1.1.1 h.options)
 
+-- ---- loops, uneven
+
+module _ (k : CommandName) (s : Shape) (f : IsCommand k dir_rule s) (ask : PlaceName → ℕ → Ask) (asks : (rows : List Row) → ask_at (command_word k) rows ≡ packets_at ask rows)
+    (about : (rows : List Row) → source_at (command_word k) rows ≡ option_map Folder (first_of (codes "DIR") rows))
+    (says : (d : Text) (uses : List Use) → plain_request k d uses ≡ option_map (λ a. record { source = Folder d; ask = a; limits = plain_limits uses }) (option_map (λ p. ask p (number_for examples uses)) (option_and_then place_of (text_for from uses))))
+    (argument : (d : Text) → IsPlainValue (argument_of k) d → IsPlainText d) (options : AllOf (IsOption s.rules) (from ∷ examples ∷ limit_options)) where
+  packets_from : (rows : List Row) (d : Text) (place : Option PlaceName) (n : ℕ) (l : Limits) → first_of (codes "DIR") rows ≡ Some d → place_at (codes "from") rows ≡ place → number_at 32 (codes "examples") rows ≡ Some n
+      → limits_at rows ≡ Some l → request_at (Some (command_word k, rows)) ≡ option_map (λ a. record { source = Folder d; ask = a; limits = l }) (option_map (λ p. ask p n) place)
+  packets_from rows d None n l dir_is place_is n_is l_is =
+      let source : source_at (command_word k) rows ≡ Some (Folder d) = about rows ∙ rw dir_is in
+      let asked : ask_at (command_word k) rows ≡ None = asks rows ∙ rw place_is in
+      rw (source, asked)
+  packets_from rows d (Some p) n l dir_is place_is n_is l_is =
+      let source : source_at (command_word k) rows ≡ Some (Folder d) = about rows ∙ rw dir_is in
+      let asked : ask_at (command_word k) rows ≡ Some (ask p n) = asks rows ∙ rw (place_is, n_is) in
+      rw (source, asked, l_is)
+
+  packets_taken : (d : Text) (uses : List Use) → ArePlain k d uses → request_of (plain_words k d uses) ≡ plain_request k d uses
+  packets_taken d uses h =
+      words_ask k dir_rule s f d refl uses (argument d h.argument) h
+      ∙ packets_from (after s.rules (plain_found dir_rule d uses)) d (option_and_then place_of (text_for from uses)) (number_for examples uses) (plain_limits uses)
+      (ap first_in (argument_found k dir_rule s f d refl uses))
+      (ap (option_and_then place_of) (text_found k dir_rule s f d refl uses from options.0))
+      (value_found k dir_rule s f d refl uses 32 examples 0 1000 (codes "0") options.1.0 refl (lit< tt) refl refl h.options)
+      (limits_found k dir_rule s f d refl uses options.1.1 h.options)
+      ∙ sym (says d uses)
+
+-- ---- lines
+
+lines_taken : (d : Text) (uses : List Use) → ArePlain lines d uses → request_of (plain_words lines d uses) ≡ plain_request lines d uses
+lines_taken d uses h =
+    let dir = ap first_in (argument_found lines dir_rule lines_shape lines_is d refl uses) in
+    let one = text_found lines dir_rule lines_shape lines_is d refl uses router lines_is.options.0 in
+    let limits = limits_found lines dir_rule lines_shape lines_is d refl uses lines_is.options.1 h.options in
+    words_ask lines dir_rule lines_shape lines_is d refl uses (text_plain d h.argument) h ∙ rw (dir, one, limits)
+
 -- ---- sample
 
 sample_from : (rows : List Row) (n : ℕ) (l : Limits) → number_at 32 (codes "N") rows ≡ Some n → limits_at rows ≡ Some l → request_at (Some (codes "sample", rows)) ≡ Some (record { source = Made n; ask = Summary; limits = l })
@@ -341,4 +378,7 @@ pub plain_taken : (k : CommandName) (d : Text) (uses : List Use) → ArePlain k 
 plain_taken routes = routes_taken
 plain_taken trace = trace_taken
 plain_taken reach = reach_taken
+plain_taken loops = packets_taken loops loops_shape loops_is Loops (λ rows. refl) (λ rows. refl) (λ d uses. refl) (λ d p. text_plain d p) loops_is.options
+plain_taken uneven = packets_taken uneven uneven_shape uneven_is Uneven (λ rows. refl) (λ rows. refl) (λ d uses. refl) (λ d p. text_plain d p) uneven_is.options
+plain_taken lines = lines_taken
 plain_taken sample = sample_taken

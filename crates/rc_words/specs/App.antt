@@ -47,28 +47,45 @@ field_option f = number_option (name f) 0 (greatest f) (codes "0")
 abbrev pub with_header : App → App
 with_header a = fold with_rule a (map field_option fields)
 
--- which packets are asked about: those from a place to an ending
-abbrev pub with_reach : App → App
-with_reach a = with_rule (with_rule (with_rule a
-    (wanted_option (codes "from")))
-    (text_option (codes "end")))
-    (number_option (codes "examples") 0 1000 (codes "0"))
+-- how many cubes get an example
+abbrev pub with_examples : App → App
+with_examples a = with_rule a (number_option (codes "examples") 0 1000 (codes "0"))
 
 -- a command whose first argument is DIR
 abbrev pub on_folder : Text → App
 on_folder name = with_rule (new_app name) dir_argument
 
+-- one about all routers or one
+abbrev pub on_routers : Text → App
+on_routers name = with_rule (on_folder name) (text_option (codes "router"))
+
+-- one about the packets from a place
+abbrev pub on_packets : Text → App
+on_packets name = with_rule (on_folder name) (wanted_option (codes "from"))
+
 -- routes DIR [--router R]
 abbrev pub routes_app : App
-routes_app = with_limits (with_rule (on_folder (codes "routes")) (text_option (codes "router")))
+routes_app = with_limits (on_routers (codes "routes"))
 
 -- trace DIR --from PLACE --dst A [--src A] [--proto N] [--sport N] [--dport N] [--type N] [--code N] [--ack N] [--rst N]
 abbrev pub trace_app : App
-trace_app = with_limits (with_header (with_rule (on_folder (codes "trace")) (wanted_option (codes "from"))))
+trace_app = with_limits (with_header (on_packets (codes "trace")))
 
 -- reach DIR --from PLACE [--end KIND] [--examples N]
 abbrev pub reach_app : App
-reach_app = with_limits (with_reach (on_folder (codes "reach")))
+reach_app = with_limits (with_examples (with_rule (on_packets (codes "reach")) (text_option (codes "end"))))
+
+-- loops DIR --from PLACE [--examples N]
+abbrev pub loops_app : App
+loops_app = with_limits (with_examples (on_packets (codes "loops")))
+
+-- uneven DIR --from PLACE [--examples N]
+abbrev pub uneven_app : App
+uneven_app = with_limits (with_examples (on_packets (codes "uneven")))
+
+-- lines DIR [--router R]
+abbrev pub lines_app : App
+lines_app = with_limits (on_routers (codes "lines"))
 
 -- sample N
 abbrev pub sample_app : App
@@ -82,5 +99,9 @@ with_settings a = record a { top = record a.top { no_binary_name = true; disable
 abbrev pub tables_app : App
 tables_app = with_subcommand (with_subcommand (with_settings (new_app (codes "netcheck"))) routes_app.top) trace_app.top
 
+-- and those that ask about sets of packets
+abbrev pub sets_app : App
+sets_app = with_subcommand (with_subcommand (with_subcommand tables_app reach_app.top) loops_app.top) uneven_app.top
+
 abbrev pub netcheck_app : App
-netcheck_app = with_subcommand (with_subcommand tables_app reach_app.top) sample_app.top
+netcheck_app = with_subcommand (with_subcommand sets_app lines_app.top) sample_app.top

@@ -7,7 +7,8 @@ use Rattle.clap.specs.Walk.{bundle_met, walked}
 use Rattle.rc_base.specs.Fields.{zeros}
 use Rattle.rc_base.specs.declared.header.Header.{Header}
 use Rattle.rc_words.specs.Request.{request_of}
-use Rattle.rc_words.specs.declared.request.Ask.TheVariants.{Routes, Trace, Summary}
+use Rattle.rc_words.specs.declared.request.Ask.{Ask}
+use Rattle.rc_words.specs.declared.request.Ask.TheVariants.{Routes, Trace, Loops, Uneven, Lines, Summary}
 use Rattle.rc_words.specs.declared.request.PlaceName.{PlaceName}
 use Rattle.rc_words.specs.declared.request.Request.{Request}
 use Rattle.rc_words.specs.declared.request.Source.TheVariants.{Folder, Made}
@@ -198,6 +199,39 @@ pub a_source_behind_equals : asked (codes "trace d --from R1 --dst 10.0.0.1 --sr
 unfolding request_of walk_fault flags_fault defaults_fault walked bundle_met chars
 a_source_behind_equals = refl
 
+-- ---- sets of packets
+
+-- what asks about packets of the folder `d`
+abbrev asks : Ask → ℕ → ℕ → ℕ → Option Request
+asks ask rounds workers nodes = Some (record { source = Folder (codes "d"); ask = ask; limits = record { rounds = rounds; workers = workers; nodes = nodes } })
+
+-- without options no example is shown
+pub plain_loops : asked (codes "loops d --from R1") ≡ asks (Loops (at_router (codes "R1")) 0) 1000 4 1048576
+unfolding request_of walk_fault flags_fault defaults_fault walked bundle_met chars
+plain_loops = refl
+
+pub loops_with_examples : asked (codes "loops --examples 1000 d --workers 64 --from R1:Gi0/0") ≡ asks (Loops (at_interface (codes "R1") (codes "Gi0/0")) 1000) 1000 64 1048576
+unfolding request_of walk_fault flags_fault defaults_fault walked bundle_met chars
+loops_with_examples = refl
+
+pub plain_uneven : asked (codes "uneven d --from R1") ≡ asks (Uneven (at_router (codes "R1")) 0) 1000 4 1048576
+unfolding request_of walk_fault flags_fault defaults_fault walked bundle_met chars
+plain_uneven = refl
+
+pub uneven_with_examples : asked (codes "uneven d --from=R1 --examples=01 --rounds 7 --nodes 16") ≡ asks (Uneven (at_router (codes "R1")) 1) 7 4 16
+unfolding request_of walk_fault flags_fault defaults_fault walked bundle_met chars
+uneven_with_examples = refl
+
+-- ---- lines of access lists
+
+pub plain_lines : asked (codes "lines d") ≡ asks (Lines None) 1000 4 1048576
+unfolding request_of walk_fault flags_fault defaults_fault walked bundle_met chars
+plain_lines = refl
+
+pub lines_of_one : asked (codes "lines d --nodes 16 --router R1") ≡ asks (Lines (Some (codes "R1"))) 1000 4 16
+unfolding request_of walk_fault flags_fault defaults_fault walked bundle_met chars
+lines_of_one = refl
+
 -- ---- made networks
 
 -- what asks for the summary of a made network
@@ -236,6 +270,8 @@ pub no_command : refused (
     ∷ codes "d"
     ∷ codes "Routes d"
     ∷ codes "route d"
+    ∷ codes "loop d --from R1"
+    ∷ codes "line d"
     ∷ codes "sample 3"
     ∷ codes "Trace d --from R1 --dst 10.0.0.1"
     ∷ []) ≡ true
@@ -263,6 +299,10 @@ pub no_such_option : refused (
     ∷ codes "routes d --dst 10.0.0.1"
     ∷ codes "routes d --ack 1"
     ∷ codes "reach d --from R1 --type 8"
+    ∷ codes "loops d --from R1 --end exits"
+    ∷ codes "uneven d --from R1 --dst 10.0.0.1"
+    ∷ codes "lines d --from R1"
+    ∷ codes "lines d --examples 1"
     ∷ codes "routes d --round 5"
     ∷ codes "trace d --from R1 --dst 10.0.0.1 --router R1"
     ∷ []) ≡ true
@@ -314,6 +354,8 @@ pub no_number : refused (
     ∷ codes "routes d --workers 65"
     ∷ codes "routes d --nodes 15"
     ∷ codes "routes d --nodes 16777217"
+    ∷ codes "loops d --from R1 --examples 1001"
+    ∷ codes "uneven d --from R1 --examples -1"
     ∷ codes "trace d --from R1 --dst 10.0.0.1 --rounds 0"
     ∷ codes "trace d --from R1 --dst 10.0.0.1 --nodes 16777217"
     ∷ []) ≡ true
@@ -370,6 +412,10 @@ pub no_place : refused (
     ∷ codes "trace d --from  --dst 10.0.0.1"
     ∷ (codes "trace d --from " ++ 195 ∷ 169 ∷ [] ++ codes " --dst 10.0.0.1")
     ∷ codes "reach d --from R1 --end nowhere"
+    ∷ codes "loops d"
+    ∷ codes "loops d --from R1:"
+    ∷ codes "uneven d --examples 1"
+    ∷ codes "uneven d --from :"
     ∷ []) ≡ true
 unfolding request_of walk_fault flags_fault defaults_fault walked bundle_met chars
 no_place = refl

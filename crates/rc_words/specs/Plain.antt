@@ -12,7 +12,7 @@ use Rattle.rc_words.specs.Endings.{endings_of}
 use Rattle.rc_words.specs.HeaderOptions.{greatest, header_of}
 use Rattle.rc_words.specs.Request.{place_of}
 use Rattle.rc_words.specs.declared.request.Ask.{Ask}
-use Rattle.rc_words.specs.declared.request.Ask.TheVariants.{Routes, Trace, Reach, Summary}
+use Rattle.rc_words.specs.declared.request.Ask.TheVariants.{Routes, Trace, Reach, Loops, Uneven, Lines, Summary}
 use Rattle.rc_words.specs.declared.request.Limits.{Limits}
 use Rattle.rc_words.specs.declared.request.Request.{Request}
 use Rattle.rc_words.specs.declared.request.Source.{Source}
@@ -25,6 +25,9 @@ pub data CommandName : Type 0 where
   routes : CommandName
   trace : CommandName
   reach : CommandName
+  loops : CommandName
+  uneven : CommandName
+  lines : CommandName
   sample : CommandName
 
 -- the word that names a command
@@ -32,6 +35,9 @@ abbrev pub command_word : CommandName → List ℕ
 command_word routes = codes "routes"
 command_word trace = codes "trace"
 command_word reach = codes "reach"
+command_word loops = codes "loops"
+command_word uneven = codes "uneven"
+command_word lines = codes "lines"
 command_word sample = codes "sample"
 
 pub data OptionName : Type 0 where
@@ -104,6 +110,9 @@ abbrev pub options_of : CommandName → List OptionName
 options_of routes = router ∷ limit_options
 options_of trace = from ∷ map field fields ++ limit_options
 options_of reach = from ∷ end ∷ examples ∷ limit_options
+options_of loops = from ∷ examples ∷ limit_options
+options_of uneven = from ∷ examples ∷ limit_options
+options_of lines = router ∷ limit_options
 options_of sample = limit_options
 
 -- those that have to be given
@@ -111,14 +120,15 @@ abbrev pub required_of : CommandName → List OptionName
 required_of routes = []
 required_of trace = from ∷ field Dst ∷ []
 required_of reach = from ∷ []
+required_of loops = from ∷ []
+required_of uneven = from ∷ []
+required_of lines = []
 required_of sample = []
 
 -- what the word behind the command is: a folder, or for `sample` a number of routers
 abbrev pub argument_of : CommandName → ValueKind
-argument_of routes = text
-argument_of trace = text
-argument_of reach = text
 argument_of sample = number 4 512
+argument_of _ = text
 
 abbrev pub has_option : OptionName → List OptionName → Bool
 has_option o os = list_any (λ a. same_option a o) os
@@ -198,6 +208,9 @@ abbrev pub plain_ask : CommandName → List Use → Option Ask
 plain_ask routes uses = Some (Routes (text_for router uses))
 plain_ask trace uses = option_and_then (λ place. option_map (λ header. Trace place header) (header_of (plain_field uses))) (option_and_then place_of (text_for from uses))
 plain_ask reach uses = option_and_then (λ place. option_map (λ ends. Reach place ends (number_for examples uses)) (endings_of (text_for end uses))) (option_and_then place_of (text_for from uses))
+plain_ask loops uses = option_map (λ place. Loops place (number_for examples uses)) (option_and_then place_of (text_for from uses))
+plain_ask uneven uses = option_map (λ place. Uneven place (number_for examples uses)) (option_and_then place_of (text_for from uses))
+plain_ask lines uses = Some (Lines (text_for router uses))
 plain_ask sample uses = Some Summary
 
 -- what plain words ask for, and nothing where the text of a place, an address or an ending isn't read

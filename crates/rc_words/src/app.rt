@@ -5,7 +5,7 @@
 ghost use Rattle.std.specs.Prelude.{◌≡◌, false, codes, fold, map, IfOk};
 ghost use Rattle.rc_base.specs.Fields.{name};
 ghost use Rattle.clap.specs.Words.{App, rule_of, new_app, with_rule, with_subcommand};
-ghost use Rattle.rc_words.specs.App.{number_option, text_option, wanted_option, default_option, dir_argument, count_argument, routes_app, trace_app, reach_app, sample_app, with_settings, netcheck_app};
+ghost use Rattle.rc_words.specs.App.{number_option, text_option, wanted_option, default_option, dir_argument, count_argument, routes_app, trace_app, reach_app, loops_app, uneven_app, lines_app, sample_app, with_settings, netcheck_app};
 ghost use Rattle.rc_words.specs.Arguments.{IsTold, rule_told};
 ghost use Rattle.rc_words.specs.HeaderOptions.{greatest};
 
@@ -197,6 +197,13 @@ const RST: Argument = Argument::Number {
     default: "0",
 };
 
+const EXAMPLES: Argument = Argument::Number {
+    name: "examples",
+    least: 0,
+    most: 1000,
+    default: "0",
+};
+
 const ROUNDS: Argument = Argument::Number {
     name: "rounds",
     least: 1,
@@ -269,12 +276,57 @@ fn reach_command<'a>(alloc: Global) -> Result<Command<'a>, AllocError>
             Argument::Folder,
             Argument::Wanted("from"),
             Argument::Text("end"),
-            Argument::Number {
-                name: "examples",
-                least: 0,
-                most: 1000,
-                default: "0",
-            },
+            EXAMPLES,
+            ROUNDS,
+            WORKERS,
+            NODES,
+        ],
+    )
+}
+
+fn loops_command<'a>(alloc: Global) -> Result<Command<'a>, AllocError>
+    ensures { IfOk result (λ c. IsTold c loops_app) }
+{
+    command_of(
+        alloc,
+        "loops",
+        &[
+            Argument::Folder,
+            Argument::Wanted("from"),
+            EXAMPLES,
+            ROUNDS,
+            WORKERS,
+            NODES,
+        ],
+    )
+}
+
+fn uneven_command<'a>(alloc: Global) -> Result<Command<'a>, AllocError>
+    ensures { IfOk result (λ c. IsTold c uneven_app) }
+{
+    command_of(
+        alloc,
+        "uneven",
+        &[
+            Argument::Folder,
+            Argument::Wanted("from"),
+            EXAMPLES,
+            ROUNDS,
+            WORKERS,
+            NODES,
+        ],
+    )
+}
+
+fn lines_command<'a>(alloc: Global) -> Result<Command<'a>, AllocError>
+    ensures { IfOk result (λ c. IsTold c lines_app) }
+{
+    command_of(
+        alloc,
+        "lines",
+        &[
+            Argument::Folder,
+            Argument::Text("router"),
             ROUNDS,
             WORKERS,
             NODES,
@@ -322,5 +374,8 @@ pub(crate) fn netcheck_command<'a>(alloc: Global) -> Result<Command<'a>, AllocEr
     let command = with_command(Ok(settings(alloc)), routes_command(alloc));
     let command = with_command(command, trace_command(alloc));
     let command = with_command(command, reach_command(alloc));
+    let command = with_command(command, loops_command(alloc));
+    let command = with_command(command, uneven_command(alloc));
+    let command = with_command(command, lines_command(alloc));
     with_command(command, sample_command(alloc))
 }

@@ -39,7 +39,7 @@ fn only(kind: Kind) -> Ends
 }
 
 /// The endings at which a packet comes to its destination: a router takes it, or it leaves onto the subnet that holds it.
-pub fn arrivals() -> Ends
+fn arrivals() -> Ends
     ensures { result ≡ spec.arrivals }
 {
     let mut ends = no_endings();

@@ -12,7 +12,6 @@ mod laws;
 mod reading;
 mod request;
 
-pub use endings::arrivals;
 pub use laws::{
     first_word_is_a_command, made_by_sample, numbers_are_in_range, plain_words_are_taken,
     refused_as_by_clap,

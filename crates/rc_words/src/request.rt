@@ -90,6 +90,25 @@ pub enum Ask {
         /// How many cubes get an example, from 0 to 1000; 0 where nothing is said.
         examples: u32,
     },
+    /// Which packets never stop: of these a walk comes back to a position of its own.
+    Loops {
+        /// Where the packets start.
+        place: PlaceName,
+        /// How many cubes get an example, from 0 to 1000; 0 where nothing is said.
+        examples: u32,
+    },
+    /// Which packets get to their destination on one walk, and are dropped or leave on another.
+    Uneven {
+        /// Where the packets start.
+        place: PlaceName,
+        /// How many cubes get an example, from 0 to 1000; 0 where nothing is said.
+        examples: u32,
+    },
+    /// Which lines of the access lists of every router, or of one, never decide.
+    Lines {
+        /// The router that is asked about, as it was typed; every router where nothing is said.
+        router: Option<WordText>,
+    },
     /// How many routes there are, and the first of the packets that get from outside to a router or a host: what
     /// `sample` asks of a made network.
     Summary,

@@ -1,6 +1,7 @@
 use Rattle.std.proofs.Common.{IfSome}
 use Rattle.std.proofs.lemmas.Result.{IfOk-weaker}
-use Rattle.rc_analyse.specs.Net.{IsNetOf, models_of, bytes_in}
+use Rattle.rc_analyse.specs.Net.{bytes_in}
+use Rattle.rc_network.specs.Files.{IsNetOf, models_of}
 use Rattle.rc_analyse.proofs.ReadLaws.{net_of_read}
 use Rattle.rc_analyse.proofs.loading.network_read.Goals as goal
 

@@ -1,5 +1,5 @@
 use Rattle.std.proofs.Common.{◌∙◌, ap}
-use Rattle.rc_analyse.specs.Net.{model_of}
+use Rattle.rc_network.specs.Files.{model_of}
 use Rattle.rc_analyse.proofs.FileFronts.{said_of}
 use Rattle.rc_analyse.proofs.loading.read_model.Goals as goal
 

@@ -1,6 +1,7 @@
 use Rattle.std.proofs.Common.{ℕ, List, ap, ◌∙◌, IfSome, length}
 use Rattle.std.proofs.lemmas.Result.{IfOk-weaker}
-use Rattle.rc_analyse.specs.Net.{IsNet, IsNetOfConfigs, bytes_in, too_many}
+use Rattle.rc_analyse.specs.Net.{IsNet, bytes_in}
+use Rattle.rc_network.specs.Files.{IsNetOfConfigs, too_many}
 use Rattle.rc_analyse.proofs.ReadLaws.{few_where_none, is_net, net_of_number}
 use Rattle.rc_analyse.proofs.loading.read_network.Goals as goal
 

@@ -12,7 +12,7 @@ returns-in_err-put_piece g c =
     let lines = c.usage_lines-lines.result in
     let i = c.loop-text.text-index in
     let line = get_or lines i nothing in
-    let long : length lines ≡ 5 = search rules in
+    let long : length lines ≡ 8 = search rules in
     let less : i < length lines = omega (arith, long) in
     rw (← c.usage_lines-lines.ensures) (each_stopped (λ t. t.now) lines i line c.from_residual.ensures.0 less (get_or_default lines i nothing line less) c.loop-text.invariant c.in_err-put_piece.ensures)
 
@@ -21,6 +21,6 @@ loop-text-preserved g c =
     let lines = c.usage_lines-lines.result in
     let i = c.loop-text.text-index in
     let line = get_or lines i nothing in
-    let long : length lines ≡ 5 = search rules in
+    let long : length lines ≡ 8 = search rules in
     let less : i < length lines = omega (arith, long) in
     each_put (λ t. t.now) lines i line less (get_or_default lines i nothing line less) c.loop-text.invariant c.in_ok-put_piece.ensures

@@ -1,33 +1,34 @@
-//! Which packets get from a place to an ending is found, and written as cubes.
+//! The packets that a question is about are found, and written as cubes.
 //!
 //! The table of nodes, the set and the walks of its examples are all made before the first line is put, and a cube takes no memory: so an
 //! answer is written whole, or it lacks something and nothing is.
-ghost use Rattle.std.specs.Prelude.{◌≡◌, ◌∷◌, ◌<◌, [], IfOk, IfErr, IfSome, length};
+ghost use Rattle.std.specs.Prelude.{◌≡◌, ◌++◌, ◌<◌, option_to_list, IfOk, IfErr, IfSome, length};
 ghost use Rattle.rc_config.specs.Lawful.{IsLawful, IsPosition};
 ghost use Rattle.rc_nodes.specs.Seats.{IsKnown, IsSeatOf, Keeps, SeatKnows};
 ghost use Rattle.rc_outside.specs.Causes.{Rose};
 ghost use Rattle.rc_reach.specs.FirstTry.{IsFirstRoom};
-ghost use Rattle.rc_reach.specs.Reached.{HoldsReaching, IsFullAtMost};
-ghost use Rattle.rc_reach.specs.Reaching.{IsReachingSet};
+ghost use Rattle.rc_reach.specs.Asked.{IsAskedSet, place_of};
+ghost use Rattle.rc_reach.specs.Held.{HoldsAsked, IsFullAtMost};
+ghost use Rattle.rc_reach.specs.Uneven.{arrivals, failures};
 ghost use Rattle.rc_route.specs.Tables.{IsStateOf};
 ghost use Rattle.rc_topology.specs.Ports.{links_of};
 ghost use Rattle.rc_trees.specs.Trees.{Tree};
 ghost use Rattle.rc_words.specs.Request.{AreInRange};
-ghost use Rattle.rc_answers.specs.Written.{AreExamplesOf, AreWalksOf, IsPutAtFixed, IsPutOver, examples_in, lacking_of};
+ghost use Rattle.rc_answers.specs.Written.{AreExamplesOf, AreShortest, AreShortestBack, AreWalksOf, IsPutAtFixed, IsPutOver, examples_in, lacking_of};
 
 use crate::written::write_ended;
-use crate::{Detail, Reaching, Status, Subject};
-use rc_base::{Header, Items};
+use crate::{Detail, PacketSet, Status, Subject};
+use rc_base::{Ends, Header, Items, Pos};
 use rc_bdd::SetError;
 use rc_config::Network;
 use rc_cubes::Cubes;
 use rc_nodes::{May, Nodes, Ref, Seat};
 use rc_outside::{Gate, Sink};
-use rc_reach::{ReachedSet, first_room, reached};
+use rc_reach::{Asked, AskedSet, arrivals, asked_in_table, failures, first_room};
 use rc_report::{CubeLines, RoutesLine, Then, route_count};
 use rc_route::{RoundsEnd, State};
 use rc_topology::Links;
-use rc_walk::{Plane, Walk, shortest};
+use rc_walk::{Plane, Walk, looping, shortest};
 use rc_words::Request;
 use std::alloc::{AllocError, AllocGlobal, Global};
 use std::thread::Threads;
@@ -44,28 +45,79 @@ pub(crate) struct AtFixed<'a> {
     pub routes: u64,
 }
 
-/// One walk.
-fn alone(alloc: Global, walk: Walk) -> Result<Items<Walk>, AllocError>
-    ensures { IfOk result (λ walks. walks ≡ walk ∷ []) }
+/// Walks, and behind them the one that was found, if one was.
+fn with_found(walks: Items<Walk>, found: Option<Walk>) -> Result<Items<Walk>, AllocError>
+    ensures { IfOk result (λ all. all ≡ walks ++ option_to_list found) }
 {
-    let mut walks = Items::new(alloc);
+    let Some(walk) = found else {
+        return Ok(walks);
+    };
+    let mut walks = walks;
     walks.push(walk)?;
     Ok(walks)
 }
 
-/// The walks of an example: the shortest one to an ending asked for.
+/// The walk that was found, if one was.
+fn found_alone(alloc: Global, found: Option<Walk>) -> Result<Items<Walk>, AllocError>
+    ensures { IfOk result (λ walks. walks ≡ option_to_list found) }
+{
+    with_found(Items::new(alloc), found)
+}
+
+/// The shortest walk to one of some endings, if there is one.
+fn shortest_walks(
+    alloc: Global,
+    plane: &Plane<'_>,
+    place: &Pos,
+    ends: &Ends,
+    header: &Header,
+) -> Result<Items<Walk>, AllocError>
+    ensures { IfOk result (AreShortest plane.now place.now ends.now header.now) }
+{
+    let found = shortest(alloc, plane, *place, header, *ends)?;
+    found_alone(alloc, found)
+}
+
+/// The shortest walk that comes back, if there is one.
+fn walks_back(
+    alloc: Global,
+    plane: &Plane<'_>,
+    place: &Pos,
+    header: &Header,
+) -> Result<Items<Walk>, AllocError>
+    ensures { IfOk result (AreShortestBack plane.now place.now header.now) }
+{
+    let found = looping(alloc, plane, *place, header)?;
+    found_alone(alloc, found)
+}
+
+/// The shortest walk that arrives, and the shortest one that fails.
+fn uneven_walks(
+    alloc: Global,
+    plane: &Plane<'_>,
+    place: &Pos,
+    header: &Header,
+) -> Result<Items<Walk>, AllocError>
+    ensures { IfOk result (AreWalksOf plane.now (Asked.Uneven place.now) header.now) }
+{
+    let arriving = shortest_walks(alloc, plane, place, &arrivals(), header)?;
+    let failing = shortest(alloc, plane, *place, header, failures())?;
+    with_found(arriving, failing)
+}
+
+/// The walks of an example.
 fn walks_of(
     alloc: Global,
     plane: &Plane<'_>,
-    asked: &Reaching,
+    asked: &Asked,
     header: &Header,
 ) -> Result<Items<Walk>, AllocError>
-    ensures { IfOk result (AreWalksOf plane.now asked.now.place asked.now.ends header.now) }
+    ensures { IfOk result (AreWalksOf plane.now asked.now header.now) }
 {
-    let found = shortest(alloc, plane, asked.place, header, asked.ends)?;
-    match found {
-        Some(walk) => alone(alloc, walk),
-        None => Ok(Items::new(alloc)),
+    match asked {
+        Asked::Reaching(place, ends) => shortest_walks(alloc, plane, place, ends, header),
+        Asked::Looping(place) => walks_back(alloc, plane, place, header),
+        Asked::Uneven(place) => uneven_walks(alloc, plane, place, header),
     }
 }
 
@@ -83,7 +135,7 @@ fn examples_in(detail: &Detail) -> u32
 fn example_walks<M: May>(
     alloc: Global,
     plane: &Plane<'_>,
-    asked: &Reaching,
+    asked: &Asked,
     nodes: &Nodes<M>,
     seat: &mut Seat<M>,
     set: Ref,
@@ -93,7 +145,7 @@ fn example_walks<M: May>(
     requires known { IsKnown seat.old set.index }
     ensures seat { IsSeatOf nodes.now seat.new }
     ensures keeps { Keeps seat.old seat.new }
-    ensures walks { IfOk result (λ walks. (t : Tree) → SeatKnows seat.old set.index t → AreExamplesOf plane.now asked.now.place asked.now.ends most t walks.items) }
+    ensures walks { IfOk result (λ walks. (t : Tree) → SeatKnows seat.old set.index t → AreExamplesOf plane.now asked.now most t walks.items) }
 {
     let mut walks = Vec::new(alloc);
     let mut cubes = Cubes::new(set);
@@ -107,7 +159,7 @@ fn example_walks<M: May>(
 }
 
 /// What is lacking where a set can't be made.
-fn lacking(error: SetError) -> Status
+pub(crate) fn lacking(error: SetError) -> Status
     ensures { result ≡ lacking_of error }
 {
     match error {
@@ -120,22 +172,22 @@ fn lacking(error: SetError) -> Status
 fn write_set<S: Sink>(
     alloc: Global,
     at: &AtFixed<'_>,
-    asked: &Reaching,
-    held: ReachedSet<'_>,
+    packets: &PacketSet,
+    held: AskedSet<'_>,
     examples: Vec<Items<Walk>>,
     out: &mut S,
 ) -> Status
     requires seat { IsSeatOf held.nodes held.seat }
     requires known { IsKnown held.seat held.set.index }
-    requires set { (t : Tree) × SeatKnows held.seat held.set.index t × IsReachingSet at.now.plane.now asked.now.place asked.now.ends t × AreExamplesOf at.now.plane.now asked.now.place asked.now.ends (examples_in asked.now.detail) t examples.items }
-    ensures put { IsPutOver at.now.request.now at.now.plane.now at.now.end at.now.routes asked.now result (S.told out.old) (S.told out.new) }
+    requires set { (t : Tree) × SeatKnows held.seat held.set.index t × IsAskedSet at.now.plane.now packets.now.asked t × AreExamplesOf at.now.plane.now packets.now.asked (examples_in packets.now.detail) t examples.items }
+    ensures put { IsPutOver at.now.request.now at.now.plane.now at.now.end at.now.routes packets.now result (S.told out.old) (S.told out.new) }
     ensures sink_only { result ≡ Status.Sink → Rose (S.faults out.old) (S.faults out.new) }
     ensures sink_always { S.faults out.old < S.faults out.new → result ≡ Status.Sink }
 {
-    let ReachedSet { nodes, seat, set } = held;
+    let AskedSet { nodes, seat, set } = held;
     let net = at.plane.network();
     let source = &at.request.source;
-    match asked.detail {
+    match packets.detail {
         Detail::Examples(_) => {
             let cubes = CubeLines {
                 net,
@@ -165,27 +217,27 @@ fn write_set<S: Sink>(
     }
 }
 
-/// Answers which packets reach where their set was made, and else what was lacking for it.
+/// Answers which packets are asked about where their set was made, and else what was lacking for it.
 #[tactic(auto, using(crate::proofs::PutLaws::memory_over, crate::proofs::PutLaws::lacking_over))]
-fn answer_reached<S: Sink>(
+fn answer_made<S: Sink>(
     alloc: Global,
     at: &AtFixed<'_>,
-    asked: &Reaching,
-    reached: Result<ReachedSet<'_>, SetError>,
+    packets: &PacketSet,
+    made: Result<AskedSet<'_>, SetError>,
     out: &mut S,
 ) -> Status
-    requires set { IfOk reached (HoldsReaching at.now.plane.now asked.now.place asked.now.ends) }
-    requires full { IfErr reached (IsFullAtMost at.now.request.now.limits.nodes at.now.plane.now asked.now.place asked.now.ends) }
-    ensures put { IsPutOver at.now.request.now at.now.plane.now at.now.end at.now.routes asked.now result (S.told out.old) (S.told out.new) }
-    ensures lacking { IfErr reached.entry (λ e. result ≡ lacking_of e) }
+    requires set { IfOk made (HoldsAsked at.now.plane.now packets.now.asked) }
+    requires full { IfErr made (IsFullAtMost at.now.request.now.limits.nodes at.now.plane.now packets.now.asked) }
+    ensures put { IsPutOver at.now.request.now at.now.plane.now at.now.end at.now.routes packets.now result (S.told out.old) (S.told out.new) }
+    ensures lacking { IfErr made.entry (λ e. result ≡ lacking_of e) }
     ensures sink_only { result ≡ Status.Sink → Rose (S.faults out.old) (S.faults out.new) }
     ensures sink_always { S.faults out.old < S.faults out.new → result ≡ Status.Sink }
 {
-    let held = match reached {
+    let held = match made {
         Ok(held) => held,
         Err(error) => return lacking(error),
     };
-    let ReachedSet {
+    let AskedSet {
         nodes,
         mut seat,
         set,
@@ -193,24 +245,24 @@ fn answer_reached<S: Sink>(
     let Ok(examples) = example_walks(
         alloc,
         at.plane,
-        asked,
+        &packets.asked,
         &nodes,
         &mut seat,
         set,
-        examples_in(&asked.detail),
+        examples_in(&packets.detail),
     ) else {
         return Status::Memory;
     };
-    let held = ReachedSet { nodes, seat, set };
-    write_set(alloc, at, asked, held, examples, out)
+    let held = AskedSet { nodes, seat, set };
+    write_set(alloc, at, packets, held, examples, out)
 }
 
-/// Answers which packets reach, over a plane.
+/// Answers which packets are asked about, over a plane.
 fn answer_over<R: Threads + Sync + AllocGlobal, S: Sink, G: Gate>(
     rt: &R,
     at: &AtFixed<'_>,
     few: Option<u32>,
-    asked: &Reaching,
+    packets: &PacketSet,
     out: &mut S,
     gate: &G,
 ) -> Status
@@ -218,26 +270,25 @@ fn answer_over<R: Threads + Sync + AllocGlobal, S: Sink, G: Gate>(
     requires lawful { IsLawful at.now.plane.now.network }
     requires links { at.now.plane.now.links ≡ links_of at.now.plane.now.network }
     requires few { IfSome few (IsFirstRoom at.now.request.now.limits.nodes) }
-    requires place { IsPosition at.now.plane.now.network asked.now.place }
-    ensures put { IsPutOver at.now.request.now at.now.plane.now at.now.end at.now.routes asked.now result (S.told out.old) (S.told out.new) }
+    requires place { IsPosition at.now.plane.now.network (place_of packets.now.asked) }
+    ensures put { IsPutOver at.now.request.now at.now.plane.now at.now.end at.now.routes packets.now result (S.told out.old) (S.told out.new) }
     ensures sink_only { result ≡ Status.Sink → Rose (S.faults out.old) (S.faults out.new) }
     ensures sink_always { S.faults out.old < S.faults out.new → result ≡ Status.Sink }
 {
     let limits = &at.request.limits;
-    let reached = reached(
+    let made = asked_in_table(
         rt,
         few,
         at.plane,
-        &asked.place,
-        &asked.ends,
+        &packets.asked,
         limits.nodes,
         limits.workers,
         gate,
     );
-    answer_reached(rt.alloc(), at, asked, reached, out)
+    answer_made(rt.alloc(), at, packets, made, out)
 }
 
-/// Answers which packets get from a position to one of some endings, at a fixed point. Its tables become those of the plane.
+/// Answers which packets are asked about, at a fixed point. Its tables become those of the plane.
 #[tactic(auto, using(crate::proofs::PutLaws::memory_at_fixed))]
 pub(crate) fn answer_packets<R: Threads + Sync + AllocGlobal, S: Sink, G: Gate>(
     rt: &R,
@@ -245,15 +296,15 @@ pub(crate) fn answer_packets<R: Threads + Sync + AllocGlobal, S: Sink, G: Gate>(
     net: &Network,
     end: RoundsEnd,
     state: State,
-    asked: &Reaching,
+    packets: &PacketSet,
     out: &mut S,
     gate: &G,
 ) -> Status
     requires limits { AreInRange request.now.limits }
     requires lawful { IsLawful net.now }
     requires state { IsStateOf (length net.now.routers) state }
-    requires place { IsPosition net.now asked.now.place }
-    ensures put { IsPutAtFixed request.now net.now end state (Subject.Packets asked.now) result (S.told out.old) (S.told out.new) }
+    requires place { IsPosition net.now (place_of packets.now.asked) }
+    ensures put { IsPutAtFixed request.now net.now end state (Subject.Packets packets.now) result (S.told out.old) (S.told out.new) }
     ensures sink_only { result ≡ Status.Sink → Rose (S.faults out.old) (S.faults out.new) }
     ensures sink_always { S.faults out.old < S.faults out.new → result ≡ Status.Sink }
 {
@@ -263,7 +314,7 @@ pub(crate) fn answer_packets<R: Threads + Sync + AllocGlobal, S: Sink, G: Gate>(
     let Ok(routes) = route_count(&state) else {
         return Status::Memory;
     };
-    let few = first_room(net, &state, request.limits.nodes);
+    let few = first_room(net, &state, &packets.asked, request.limits.nodes);
     let Ok(plane) = Plane::of(rt.alloc(), net, &links, state) else {
         return Status::Memory;
     };
@@ -273,5 +324,5 @@ pub(crate) fn answer_packets<R: Threads + Sync + AllocGlobal, S: Sink, G: Gate>(
         end,
         routes,
     };
-    answer_over(rt, &at, few, asked, out, gate)
+    answer_over(rt, &at, few, packets, out, gate)
 }
