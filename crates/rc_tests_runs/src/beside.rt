@@ -1,4 +1,5 @@
-//! `reach` beside `trace`: where each route has one hop, a header is in the set of the ending of its walk, and in no other.
+//! Sets of headers beside walks. Where each route has one hop, a header is in the set of the ending of its walk, and in no other. From a
+//! router with two ways it loops where it does so on one of them, and it is uneven where it arrives on the one and fails on the other.
 use crate::answers::{Host, NamedText, folder_of, ran, sink_of};
 use rc_openings::{word_addr, word_u32};
 use rc_outside::OpenGate;
@@ -6,8 +7,9 @@ use std::alloc::Global;
 use std::str::from_utf8;
 use std::test::Fail;
 
-/// A router with lists at two of its interfaces, and one behind it. What goes to 10.2.64.0/18 goes round between them.
-const FILES: [NamedText<'_>; 2] = [
+/// A router with lists at some of its interfaces, and one behind it. What goes to 10.2.64.0/18 goes round between them. In front of the first one
+/// stands a router that sends all to it, and to another one too.
+const FILES: [NamedText<'_>; 4] = [
     (
         "a.cfg",
         "hostname R1
@@ -19,6 +21,9 @@ interface GigabitEthernet0/1
  ip access-group 102 out
 interface GigabitEthernet0/2
  ip address 10.0.12.1 255.255.255.252
+interface GigabitEthernet0/3
+ ip address 192.0.2.2 255.255.255.252
+ ip access-group 101 in
 interface Loopback0
  ip address 1.1.1.1 255.255.255.0
 access-list 101 permit tcp any any established
@@ -42,6 +47,33 @@ interface GigabitEthernet0/1
  ip address 10.2.0.1 255.255.255.0
 ip route 10.2.64.0 255.255.192.0 10.0.12.1
 ip route 10.2.128.0 255.255.128.0 Null0
+",
+    ),
+    (
+        "c.cfg",
+        "hostname R0
+interface GigabitEthernet0/0
+ ip address 192.0.2.1 255.255.255.252
+interface GigabitEthernet0/1
+ ip address 192.0.2.5 255.255.255.252
+ip route 0.0.0.0 0.0.0.0 192.0.2.2
+ip route 0.0.0.0 0.0.0.0 192.0.2.6
+",
+    ),
+    (
+        "d.cfg",
+        "hostname R3
+interface GigabitEthernet0/0
+ ip address 192.0.2.6 255.255.255.252
+ ip access-group 103 in
+interface GigabitEthernet0/1
+ ip address 192.168.0.1 255.255.255.0
+interface Loopback0
+ ip address 10.0.0.1 255.255.255.255
+access-list 103 deny udp any any
+access-list 103 permit ip any any
+ip route 10.2.0.0 255.255.0.0 GigabitEthernet0/1
+ip route 8.0.0.0 255.0.0.0 192.168.0.9
 ",
     ),
 ];
@@ -173,22 +205,22 @@ fn header_at(number: usize) -> [u32; 9] {
     [destination, source, protocol, 5, port, kind, code, ack, rst]
 }
 
-/// What is said of the walk of a packet.
-fn walk_of(rt: &impl Host, header: &[u32; 9]) -> Result<String, Fail> {
+/// What is said of the walk of a packet from a place.
+fn walk_of(rt: &impl Host, place: &str, header: &[u32; 9]) -> Result<String, Fail> {
     let destination = dotted(rt.alloc(), header[0])?;
     let source = dotted(rt.alloc(), header[1])?;
     let line = format!(in rt.alloc();
-        "trace d --from {PLACE} --workers 1 --dst {destination} --src {source} --proto {} --sport {} --dport {} --type {} --code {} --ack {} --rst {}",
+        "trace d --from {place} --workers 1 --dst {destination} --src {source} --proto {} --sport {} --dport {} --type {} --code {} --ack {} --rst {}",
         header[2], header[3], header[4], header[5], header[6], header[7], header[8]
     )?;
     said(rt, line.as_str())
 }
 
-/// The walks of all headers.
-fn walks_of_all(rt: &impl Host) -> Result<Vec<String>, Fail> {
+/// The walks of all headers from a place.
+fn walks_of_all(rt: &impl Host, place: &str) -> Result<Vec<String>, Fail> {
     let mut walks = Vec::new(rt.alloc());
     for number in 0..HEADERS {
-        walks.push(walk_of(rt, &header_at(number))?)?;
+        walks.push(walk_of(rt, place, &header_at(number))?)?;
     }
     Ok(walks)
 }
@@ -241,6 +273,54 @@ fn check_endings(rt: &impl Host, endings: &[&str], walks: &[String]) -> Result<(
 
 #[test]
 fn walks_end_where_their_headers_are_held(rt: HostRuntime) -> Result<(), Fail> {
-    let walks = walks_of_all(&rt)?;
+    let walks = walks_of_all(&rt, PLACE)?;
     check_endings(&rt, &ENDINGS, walks.as_slice())
+}
+
+/// Whether a walk brings the packet to its destination.
+fn arrives(walk: &str) -> bool {
+    ends_at(walk, "accepted") || ends_at(walk, "delivered")
+}
+
+fn goes_round(walk: &str) -> bool {
+    ends_at(walk, "loop")
+}
+
+/// Whether `loops` and `uneven` say of a header what its walks on two ways say.
+fn agree(header: &[u32; 9], first: &str, second: &str, loops: &str, uneven: &str) -> bool {
+    let round = goes_round(first) || goes_round(second);
+    let differs = arrives(first) != arrives(second) && !round;
+    is_held(header, loops) == round && is_held(header, uneven) == differs
+}
+
+/// The first header of which they say otherwise. Without one it is their number.
+fn first_other(first: &[String], second: &[String], loops: &str, uneven: &str) -> usize {
+    for (number, (one, other)) in first.iter().zip(second.iter()).enumerate() {
+        if !agree(
+            &header_at(number),
+            one.as_str(),
+            other.as_str(),
+            loops,
+            uneven,
+        ) {
+            return number;
+        }
+    }
+    first.len()
+}
+
+#[test]
+fn two_ways_loop_or_differ_as_their_walks_do(rt: HostRuntime) -> Result<(), Fail> {
+    let first = walks_of_all(&rt, "R1:GigabitEthernet0/3")?;
+    let second = walks_of_all(&rt, "R3:GigabitEthernet0/0")?;
+    let loops = said(&rt, "loops d --from R0 --workers 2")?;
+    let uneven = said(&rt, "uneven d --from R0 --workers 2")?;
+    let other = first_other(
+        first.as_slice(),
+        second.as_slice(),
+        loops.as_str(),
+        uneven.as_str(),
+    );
+    assert!(&rt; other == HEADERS, "header {other}");
+    Ok(())
 }

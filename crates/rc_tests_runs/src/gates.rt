@@ -45,7 +45,7 @@ impl Gate for Counts {
 type Row = (&'static str, &'static str, u32, u32);
 
 /// Each worker passes once in each round, also where its share is empty; nobody does where no round is made.
-const ROUNDS: [Row; 13] = [
+const ROUNDS: [Row; 14] = [
     (CIRCLE, "routes d", 4, 7),
     (CIRCLE, "routes d --workers 1", 1, 7),
     (CIRCLE, "routes d --workers 5", 5, 7),
@@ -58,6 +58,7 @@ const ROUNDS: [Row; 13] = [
     (BASE, "routes nowhere --workers 6", 6, 1),
     (BASE, "routes", 4, 0),
     (BASE, "routes d --router R9", 4, 0),
+    (BASE, "lines d", 4, 0),
     ("frobnicate\n", "routes d", 4, 0),
 ];
 
@@ -111,18 +112,47 @@ fn three_workers_pass_in_three_rounds(rt: HostRuntime) -> Result<(), Fail> {
     Ok(())
 }
 
+/// A router with two ways of one cost, of which one leads to a router that has the address.
+const TWO_WAYS: [NamedText<'_>; 2] = [
+    (
+        "a.cfg",
+        "hostname R1\ninterface GigabitEthernet0/0\n ip address 10.0.0.1 255.255.255.0\nip route 9.0.0.0 255.0.0.0 10.0.0.2\nip route 9.0.0.0 255.0.0.0 10.0.0.3\n",
+    ),
+    (
+        "b.cfg",
+        "hostname R2\ninterface GigabitEthernet0/0\n ip address 10.0.0.2 255.255.255.0\ninterface Loopback0\n ip address 9.1.1.1 255.255.255.255\n",
+    ),
+];
+
 /// Asserts that two workers of a run are at the gate at once in a phase.
-fn check_meets(rt: &impl Host, line: &str, phase: u32) -> Result<(), Fail> {
+fn check_meets(
+    rt: &impl Host,
+    files: &[NamedText<'_>],
+    line: &str,
+    phase: u32,
+) -> Result<(), Fail> {
     let gate = MeetGate::new(phase);
-    let status = ended_at(rt, &IN_CIRCLES, line, &gate)?;
+    let status = ended_at(rt, files, line, &gate)?;
     assert!(rt; status == Status::Done && gate.met(), "{line}");
     Ok(())
 }
 
 #[test]
 fn workers_meet_at_the_gate(rt: HostRuntime) -> Result<(), Fail> {
-    check_meets(&rt, "routes d --workers 2", 1)?;
-    check_meets(&rt, "reach d --from R1 --workers 2", 100_001)
+    check_meets(&rt, &IN_CIRCLES, "routes d --workers 2", 1)?;
+    check_meets(&rt, &IN_CIRCLES, "reach d --from R1 --workers 2", 100_001)?;
+    check_meets(
+        &rt,
+        &IN_CIRCLES,
+        "loops d --from R1 --examples 1 --workers 2",
+        100_001,
+    )?;
+    check_meets(
+        &rt,
+        &TWO_WAYS,
+        "uneven d --from R1 --examples 1 --workers 2",
+        100_001,
+    )
 }
 
 /// Asserts that there is no meeting before anybody comes, nor where the second worker comes when the first has waited in vain.
