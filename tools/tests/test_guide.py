@@ -1,5 +1,6 @@
 """The companions' examples in the guide write what stands below them there."""
 import re
+import subprocess
 
 import common
 from support import CompanionTest, run
@@ -17,4 +18,8 @@ class GuideTest(CompanionTest):
     def test_examples(self):
         for command, below in examples():
             with self.subTest(command):
-                self.assertEqual(run(*command.split(), directory=common.ROOT).text, below)
+                companion, _, behind = command.partition(" | ")
+                text = run(*companion.split(), directory=common.ROOT).text
+                if behind:
+                    text = subprocess.run(behind, shell=True, input=text, text=True, stdout=subprocess.PIPE, check=True).stdout
+                self.assertEqual(text, below)
