@@ -1,16 +1,17 @@
 -- The openings that a line finds in a table are all with which it begins.
-use Rattle.std.proofs.Common.{◌≡◌, ℕ, suc, zero, ◌+◌, ◌-◌, ◌<◌, ◌≤◌, subst, Bool, true, false, ◌||◌, ◌&&◌, cond, List, [], ◌∷◌, ◌++◌, map, arith, refl, sym, ◌∙◌, ap, inl, inr, Option, Some, None}
+use Rattle.std.proofs.Common.{◌≡◌, ℕ, suc, zero, ◌+◌, ◌-◌, ◌<◌, ◌≤◌, add-one, Bool, true, false, ◌||◌, ◌&&◌, cond, List, [], ◌∷◌, ◌++◌, length, map, take, drop, arith, refl, sym, ◌∙◌, ap, inl, inr, Option, Some, None}
 use borrow.Author.Tests.{ltb-true}
-use Rattle.std.specs.Prelude.{nat_eq, nat_lt, Contains}
-use Rattle.std.specs.List.{filter, list_all, list_any}
+use Rattle.std.specs.Prelude.{nat_eq, nat_lt, slice_index_or, Contains}
+use Rattle.std.specs.List.{filter, flat_map, list_all, list_any}
 use Rattle.std.specs.Str.{bytes_eq}
 use Rattle.std.proofs.lemmas.Bool.{and_parts, or_cases, false≢true, eqb-true, ne_eqb}
 use Rattle.std.proofs.lemmas.Bool.Decides.{nat_tests}
+use Rattle.std.proofs.lemmas.List.{take_at, take-map, drop_at, drop-drop}
 use Rattle.std.proofs.lemmas.List.Elements.{All-contains_itself, All-filter, All-contains, Contains-append_left, Contains-append_right, Contains-append_cases}
 use Rattle.std.proofs.lemmas.List.Folds.{list_any_at, list_any-append}
 use Rattle.rc_openings.specs.declared.table.Index.{Index}
 use Rattle.rc_openings.specs.declared.table.Table.{Table}
-use Rattle.rc_openings.specs.Groups.{at_letter, is_letter, letters, letters_from, keyed, is_placed, IsIndex, one_word, starred, more_words, is_of_three, IsTable}
+use Rattle.rc_openings.specs.Groups.{groups, starts_from, is_letter, letters, letters_from, keyed, is_placed, IsIndex, one_word, starred, more_words, is_of_three, IsTable}
 use Rattle.rc_openings.specs.Opening.{Row, row_of, stands_for, begins_with, begins_form, is_form_verdict, IsAnswer}
 use Rattle.rc_openings.specs.Words.{first_byte, second_byte}
 use Rattle.rc_openings.proofs.ApartLemmas.{at_element}
@@ -129,7 +130,7 @@ form_of_found table rows line h =
     (λ e. let p = some_of q rows e in any_of q (found rows line) p.0 (found_all table rows line p.0 h p.1 (and_parts (is_form_verdict p.0.verdict) (begins_with line p.0.words) p.2).1) p.2)
 
 -- no row has a key that is no letter
-none_keyed : (key : List (List ℕ) → ℕ) (rows : List Row) (b : ℕ) → list_all (is_placed key) rows ≡ true → is_letter b ≡ false → keyed key b rows ≡ []
+pub none_keyed : (key : List (List ℕ) → ℕ) (rows : List Row) (b : ℕ) → list_all (is_placed key) rows ≡ true → is_letter b ≡ false → keyed key b rows ≡ []
 none_keyed key [] b placed other = refl
 none_keyed key (row ∷ rows) b placed other =
     let parts = and_parts (is_placed key row) (list_all (is_placed key) rows) placed in
@@ -139,31 +140,59 @@ none_keyed key (row ∷ rows) b placed other =
     by true e has h = absurd (false≢true (sym other ∙ rw (eqb-true (key row.words) b e) at has))
     by false e has h = h
 
-abbrev first_of : {X : Type 0} → X → List X → X
-first_of x [] = x
-first_of x (y ∷ ys) = y
+-- the rows of a letter stand from its start to that of the next one
+first_start : {X : Type 0} (n : ℕ) (xss : List (List X)) → slice_index_or (starts_from n xss) 0 0 ≡ n
+first_start n [] = refl
+first_start n (xs ∷ xss) = refl
 
-abbrev rest_of : {X : Type 0} → List X → List X
-rest_of [] = []
-rest_of (y ∷ ys) = ys
+start_le : {X : Type 0} (n : ℕ) (xss : List (List X)) (k : ℕ) → k ≤ length xss → n ≤ slice_index_or (starts_from n xss) k 0
+start_le n [] zero h = omega arith
+start_le n [] (suc k) h = absurd (omega arith)
+start_le n (xs ∷ xss) zero h = omega arith
+start_le n (xs ∷ xss) (suc k) h =
+    let more : n + length xs ≤ slice_index_or (starts_from (n + length xs) xss) k 0 = start_le (n + length xs) xss k (omega arith) in
+    omega arith
 
--- what two functions give all letters, they give each
-at_each : {X : Type 0} (f g : ℕ → X) (b n k : ℕ) → k < n → map f (letters_from b n) ≡ map g (letters_from b n) → f (b + k) ≡ g (b + k)
-at_each f g b zero k lt same = absurd (omega arith)
-at_each f g b (suc n) zero lt same = let e : b + zero ≡ b = omega arith in rw e (ap (first_of (f b)) same)
-at_each f g b (suc n) (suc k) lt same =
-    let e : b + suc k ≡ suc b + k = omega arith in
-    rw e (at_each f g (suc b) n k (omega arith) (ap rest_of same))
+many_letters : (f : ℕ → List Row) (b m : ℕ) → length (map f (letters_from b m)) ≡ m
+many_letters f b zero = refl
+many_letters f b (suc m) = ap suc (many_letters f (suc b) m)
 
-pub openings_at : (key : List (List ℕ) → ℕ) (index : Index) (rows : List Row) (b : ℕ) → IsIndex key index rows → map row_of (at_letter index.starts.now index.openings.now b) ≡ keyed key b rows
+part_at : (f : ℕ → List Row) (b m k n : ℕ) → k < m → let start = λ (i : ℕ). slice_index_or (starts_from n (map f (letters_from b m))) i 0 in
+    take (start (suc k) - start k) (drop (start k - n) (flat_map (λ rs. rs) (map f (letters_from b m)))) ≡ f (b + k)
+part_at f b zero k n lt = absurd (omega arith)
+part_at f b (suc m) zero n lt =
+    let rest = map f (letters_from (suc b) m) in
+    let size : slice_index_or (starts_from (n + length (f b)) rest) 0 0 - n ≡ length (f b) = omega (arith, first_start (n + length (f b)) rest) in
+    let none : n - n ≡ 0 = omega arith in
+    let here : b + zero ≡ b = omega arith in
+    rw (size, none, here) (take_at (f b) (flat_map (λ rs. rs) rest) (length (f b)) refl)
+part_at f b (suc m) (suc k) n lt =
+    let rest = map f (letters_from (suc b) m) in
+    let behind = n + length (f b) in
+    let start = slice_index_or (starts_from behind rest) k 0 in
+    let low : behind ≤ start = start_le behind rest k (omega (arith, many_letters f (suc b) m)) in
+    let far : start - n ≡ length (f b) + (start - behind) = omega arith in
+    let past : drop (start - n) (f b ++ flat_map (λ rs. rs) rest) ≡ drop (start - behind) (flat_map (λ rs. rs) rest) =
+    ap (λ i. drop i (f b ++ flat_map (λ rs. rs) rest)) far ∙ sym (drop-drop (start - behind) (length (f b)) (f b ++ flat_map (λ rs. rs) rest))
+    ∙ ap (drop (start - behind)) (drop_at (f b) (flat_map (λ rs. rs) rest) (length (f b)) refl) in
+    let next : b + suc k ≡ suc b + k = omega arith in
+    rw (past, next) (part_at f (suc b) m k behind (omega arith))
+
+drop-map : {X Y : Type 0} (f : X → Y) (n : ℕ) (xs : List X) → map f (drop n xs) ≡ drop n (map f xs)
+drop-map f zero xs = refl
+drop-map f (suc n) [] = refl
+drop-map f (suc n) (x ∷ xs) = drop-map f n xs
+
+pub at_letter : (key : List (List ℕ) → ℕ) (index : Index) (rows : List Row) (b : ℕ) → is_letter b ≡ true → IsIndex key index rows → let start = λ (i : ℕ). slice_index_or index.starts.now i 0 in
+    map row_of (take (start (b - 65 + 1) - start (b - 65)) (drop (start (b - 65)) index.openings.now)) ≡ keyed key b rows
 unfolding letters
-openings_at key index rows b h = by (is_letter b) refl
-  where
-    by : (v : Bool) → is_letter b ≡ v → map row_of (at_letter index.starts.now index.openings.now b) ≡ keyed key b rows
-    by true e =
-        let low : 65 ≤ b = grind (arith, nat_tests) in
-        let k : b - 65 < 58 = grind (arith, nat_tests) in
-        let same : 65 + (b - 65) ≡ b = omega arith in
-        subst (λ n. map row_of (at_letter index.starts.now index.openings.now n) ≡ keyed key n rows) same
-        (at_each (λ n. map row_of (at_letter index.starts.now index.openings.now n)) (λ n. keyed key n rows) 65 58 (b - 65) k h.each)
-    by false e = rw (e, none_keyed key rows b h.placed e) refl
+at_letter key index rows b e h =
+    let low : 65 ≤ b = grind (arith, nat_tests) in
+    let k : b - 65 < 58 = grind (arith, nat_tests) in
+    let same : 65 + (b - 65) ≡ b = omega arith in
+    let start = λ (i : ℕ). slice_index_or (starts_from 0 (groups key rows)) i 0 in
+    let parts : take (start (suc (b - 65)) - start (b - 65)) (drop (start (b - 65) - 0) (flat_map (λ rs. rs) (groups key rows))) ≡ keyed key (65 + (b - 65)) rows =
+    part_at (λ c. keyed key c rows) 65 58 (b - 65) 0 k in
+    let whole : start (b - 65) - 0 ≡ start (b - 65) = omega arith in
+    rw (h.starts, ← (take-map row_of (start (b - 65 + 1) - start (b - 65)) (drop (start (b - 65)) index.openings.now)), drop-map row_of (start (b - 65)) index.openings.now, h.openings, add-one)
+    (rw (whole, same) at parts)

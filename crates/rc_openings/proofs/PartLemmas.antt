@@ -1,6 +1,6 @@
 -- What a glance at the texts of an opening and of a line tells of their words.
 use borrow.Author.Tests.{ltb-true}
-use Rattle.std.proofs.Common.{◌≡◌, ℕ, suc, ◌<◌, arith, Bool, true, false, ◌||◌, ◌&&◌, cond, List, [], ◌∷◌, ◌++◌, append-nil, ap, length, take, drop, refl, sym, ◌∙◌, subst, add-one}
+use Rattle.std.proofs.Common.{◌≡◌, ℕ, suc, ◌<◌, arith, Bool, true, false, ◌||◌, ◌&&◌, cond, List, [], ◌∷◌, ◌++◌, append-nil, ap, length, take, drop, Some, refl, sym, ◌∙◌, subst, add-one}
 use Rattle.std.specs.Prelude.{nat_eq, nat_lt, codes}
 use Rattle.std.specs.Str.{bytes_eq}
 use Rattle.std.specs.List.{slice_split, filter, onto_first}
@@ -10,12 +10,30 @@ use Rattle.std.specs.List.{position_or_len}
 use Rattle.std.proofs.Math.Nat.{add_comm}
 use Rattle.std.proofs.Math.Bool.{and-false}
 use Rattle.std.proofs.lemmas.Bool.{false≢true, eqb-true, ne_eqb, and_parts}
-use Rattle.rc_openings.specs.Words.{words_of, is_blank, has_bytes}
-use Rattle.rc_openings.specs.Opening.{begins_with, stands_for, differing, compared}
+use Rattle.std.proofs.lemmas.Bool.Decides.{nat_tests}
+use Rattle.rc_openings.specs.Words.{words_of, is_blank, has_bytes, ends_word}
+use Rattle.rc_openings.specs.Opening.{begins_with, stands_for, first_difference, told_by, glance}
 use Rattle.rc_openings.specs.declared.opening.Glance.{Glance}
 use Rattle.rc_openings.specs.declared.opening.Glance.TheVariants.{Begins, Differs, Unclear}
 use Rattle.rc_openings.proofs.WordsLemmas.{words-blank, front_word, first_piece}
 use Rattle.rc_openings.proofs.ApartLemmas.{or_right}
+
+-- what the texts tell at a glance, byte by byte
+abbrev pub compared : List ℕ → List ℕ → Glance
+compared [] [] = Begins
+compared [] (b ∷ bs) = cond (is_blank b) Begins Unclear
+compared (a ∷ as') [] = Unclear
+compared (a ∷ as') (b ∷ bs) = cond (nat_eq a b) (compared as' bs) (told_by (Some (a, b)))
+
+pub glance_is : (opening line : List ℕ) → compared opening line ≡ glance opening line
+glance_is [] [] = refl
+glance_is [] (b ∷ l) = refl
+glance_is (a ∷ o) [] = refl
+glance_is (a ∷ o) (b ∷ l) = by (nat_eq a b) refl (glance_is o l)
+  where
+    by : (v : Bool) → nat_eq a b ≡ v → compared o l ≡ glance o l → cond v (compared o l) (told_by (Some (a, b))) ≡ cond ((nat_eq b a && bytes_eq (take (length o) l) o) && ends_word (drop (length o) l)) Begins (told_by (cond v (first_difference o l) (Some (a, b))))
+    by true e h = let other : nat_eq b a ≡ true = grind (arith, nat_tests) in rw other h
+    by false e h = let other : nat_eq b a ≡ false = grind (arith, nat_tests) in rw other refl
 
 -- the texts differ within a word
 abbrev parts_within_word : List ℕ → List ℕ → Bool
@@ -125,17 +143,12 @@ parts-there (a ∷ o) [] h = h
 parts-there (a ∷ o) (b ∷ l) h = by (nat_eq a b) (parts-there o l) h
   where
     by : (v : Bool) → (is_difference (compared o l) ≡ true → parts_within_word o l ≡ true)
-        → is_difference (cond v (compared o l) (differing a b)) ≡ true → cond v (parts_within_word o l) (nat_lt 42 a && nat_lt 32 b) ≡ true
+        → is_difference (cond v (compared o l) (told_by (Some (a, b)))) ≡ true → cond v (parts_within_word o l) (nat_lt 42 a && nat_lt 32 b) ≡ true
     by true later g = later g
     by false later g = sym (differ-test (nat_lt 42 a && nat_lt 32 b)) ∙ g
 
 pub differs : (opening line : List ℕ) → compared opening line ≡ Differs → begins_with (words_of line) (words_of opening) ≡ false
 differs opening line h = cannot_begin opening line (parts-there opening line (ap is_difference h))
-
--- a text ends here, or a blank follows
-abbrev stops : List ℕ → Bool
-stops [] = true
-stops (b ∷ bs) = is_blank b
 
 begin-test : (v : Bool) → is_begin (cond v Begins Unclear) ≡ v
 begin-test true = refl
@@ -145,14 +158,14 @@ no_begin : (v : Bool) → is_begin (cond v Differs Unclear) ≡ false
 no_begin true = refl
 no_begin false = refl
 
-front-there : (opening line : List ℕ) → is_begin (compared opening line) ≡ true → (line ≡ opening ++ drop (length opening) line) × (stops (drop (length opening) line) ≡ true)
+front-there : (opening line : List ℕ) → is_begin (compared opening line) ≡ true → (line ≡ opening ++ drop (length opening) line) × (ends_word (drop (length opening) line) ≡ true)
 front-there [] [] h = (refl, refl)
 front-there [] (b ∷ l) h = (refl, sym (begin-test (is_blank b)) ∙ h)
 front-there (a ∷ o) [] h = absurd (false≢true h)
 front-there (a ∷ o) (b ∷ l) h = by (nat_eq a b) refl (front-there o l) h
   where
-    by : (v : Bool) → nat_eq a b ≡ v → (is_begin (compared o l) ≡ true → (l ≡ o ++ drop (length o) l) × (stops (drop (length o) l) ≡ true))
-        → is_begin (cond v (compared o l) (differing a b)) ≡ true → (b ∷ l ≡ a ∷ (o ++ drop (length o) l)) × (stops (drop (length o) l) ≡ true)
+    by : (v : Bool) → nat_eq a b ≡ v → (is_begin (compared o l) ≡ true → (l ≡ o ++ drop (length o) l) × (ends_word (drop (length o) l) ≡ true))
+        → is_begin (cond v (compared o l) (told_by (Some (a, b)))) ≡ true → (b ∷ l ≡ a ∷ (o ++ drop (length o) l)) × (ends_word (drop (length o) l) ≡ true)
     by true e later g = let rest = later g in (rw (eqb-true a b e) (ap (λ s. b ∷ s) rest.0), rest.1)
     by false e later g = absurd (false≢true (sym (no_begin (nat_lt 42 a && nat_lt 32 b)) ∙ g))
 
@@ -166,7 +179,7 @@ pieces-append (x ∷ s) b bs h = by (is_blank x) (pieces-append s b bs h)
     by true e = ap (λ ps. [] ∷ ps) e
     by false e = rw (e, first_piece s) refl
 
-words-append : (s r : List ℕ) → stops r ≡ true → words_of (s ++ r) ≡ words_of s ++ words_of r
+words-append : (s r : List ℕ) → ends_word r ≡ true → words_of (s ++ r) ≡ words_of s ++ words_of r
 unfolding words_of
 words-append s [] h = rw (append-nil s, append-nil (filter has_bytes (slice_split is_blank s))) refl
 words-append s (b ∷ bs) h =

@@ -1,5 +1,5 @@
 -- A table by how a line finds the openings that it may begin with.
-use Rattle.std.specs.Prelude.{◌≡◌, ℕ, zero, suc, ◌+◌, ◌-◌, Bool, true, ◌||◌, ◌&&◌, List, [], ◌∷◌, map, take, drop, nat_eq, nat_lt, nat_le, slice_index_or, if◌then◌else◌}
+use Rattle.std.specs.Prelude.{◌≡◌, ℕ, zero, suc, ◌+◌, Bool, true, ◌||◌, ◌&&◌, List, [], ◌∷◌, length, map, flat_map, nat_eq, nat_lt, nat_le}
 use Rattle.std.specs.List.{filter, list_all}
 use Rattle.rc_openings.specs.declared.table.Index.{Index}
 use Rattle.rc_openings.specs.declared.table.Table.{Table}
@@ -17,26 +17,27 @@ letters_from b (suc n) = b ∷ letters_from (suc b) n
 unfoldable pub letters : List ℕ
 letters = letters_from 65 58
 
--- where those of a letter start
-abbrev pub start_of : List ℕ → ℕ → ℕ
-start_of starts k = slice_index_or starts k 0
-
--- the elements of a letter: from where its own start to where those of the next letter do. Other bytes have none.
-abbrev pub at_letter : {X : Type 0} → List ℕ → List X → ℕ → List X
-at_letter starts xs b =
-    if is_letter b then take (start_of starts (b - 65 + 1) - start_of starts (b - 65)) (drop (start_of starts (b - 65)) xs) else []
-
 -- the rows whose key is this byte
 abbrev pub keyed : (List (List ℕ) → ℕ) → ℕ → List Row → List Row
 keyed key b rows = filter (λ r. nat_eq (key r.words) b) rows
+
+-- the rows of each letter
+abbrev pub groups : (List (List ℕ) → ℕ) → List Row → List (List Row)
+groups key rows = map (λ b. keyed key b rows) letters
+
+-- where each of some lists starts when they are joined from a place on, and where the last one ends
+abbrev pub starts_from : {X : Type 0} → ℕ → List (List X) → List ℕ
+starts_from place [] = place ∷ []
+starts_from place (xs ∷ xss) = place ∷ starts_from (place + length xs) xss
 
 -- the row's key is a letter, and so stands for itself: `*`, which is 42, does not
 abbrev pub is_placed : (List (List ℕ) → ℕ) → Row → Bool
 is_placed key row = nat_lt 42 (key row.words) && is_letter (key row.words)
 
--- the program's index holds these rows, letter by letter of this key
+-- the program's index holds these rows: those of each letter of this key, one letter behind the other, and where each letter's start
 pub record IsIndex (key : List (List ℕ) → ℕ) (index : Index) (rows : List Row) : Type 0 where
-  pub each : map (λ b. map row_of (at_letter index.starts.now index.openings.now b)) letters ≡ map (λ b. keyed key b rows) letters
+  pub openings : map row_of index.openings.now ≡ flat_map (λ rs. rs) (groups key rows)
+  pub starts : index.starts.now ≡ starts_from 0 (groups key rows)
   pub placed : list_all (is_placed key) rows ≡ true
 
 -- the rows with no second word, with `*` for it, and with a word that stands for itself

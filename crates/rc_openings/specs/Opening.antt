@@ -1,5 +1,5 @@
 -- Which opening decides a line.
-use Rattle.std.specs.Prelude.{◌≡◌, ℕ, ◌≤◌, Bool, true, false, ◌||◌, ◌&&◌, List, [], ◌∷◌, ◌++◌, length, nat_eq, nat_lt, if◌then◌else◌, codes, map, Contains, Option, Some, None}
+use Rattle.std.specs.Prelude.{◌≡◌, ℕ, ◌≤◌, Bool, true, false, ◌||◌, ◌&&◌, List, [], ◌∷◌, ◌++◌, length, take, drop, nat_eq, nat_lt, if◌then◌else◌, codes, map, Contains, Option, Some, None}
 use Rattle.std.specs.Str.{bytes_eq}
 use Rattle.std.specs.List.{list_any}
 use Rattle.rc_openings.specs.declared.form.Form.{Form as FormKind}
@@ -8,7 +8,7 @@ use Rattle.rc_openings.specs.declared.opening.Glance.TheVariants.{Begins, Differ
 use Rattle.rc_openings.specs.declared.opening.Opening.{Opening}
 use Rattle.rc_openings.specs.declared.opening.Verdict.{Verdict}
 use Rattle.rc_openings.specs.declared.opening.Verdict.TheVariants.{Form, Refused, Ignored}
-use Rattle.rc_openings.specs.Words.{words_of, is_blank}
+use Rattle.rc_openings.specs.Words.{words_of, ends_word}
 
 -- the words of an opening, and what it says of a line that begins with them
 pub record Row : Type 0 where
@@ -40,17 +40,25 @@ begins_with line [] = true
 begins_with [] (t ∷ ts) = false
 begins_with (w ∷ ws) (t ∷ ts) = stands_for t w && begins_with ws ts
 
--- what two texts tell where they differ at these bytes: no byte up to 32 is surely within a word, and none up to `*`, which is 42,
--- surely stands for itself
-abbrev pub differing : ℕ → ℕ → Glance
-differing a b = if nat_lt 42 a && nat_lt 32 b then Differs else Unclear
+-- a text begins with another one, whose last word ends there
+abbrev pub begins_text : List ℕ → List ℕ → Bool
+begins_text line front = bytes_eq (take (length front) line) front && ends_word (drop (length front) line)
+
+-- the first two bytes at which texts differ; none where one of the texts begins with the other
+abbrev pub first_difference : List ℕ → List ℕ → Option (ℕ × ℕ)
+first_difference [] line = None
+first_difference (a ∷ as') [] = None
+first_difference (a ∷ as') (b ∷ bs) = if nat_eq a b then first_difference as' bs else Some (a, b)
+
+-- what is told by the first bytes at which the texts of an opening and of a line differ: no byte up to 32 is surely within a word, and
+-- none up to `*`, which is 42, surely stands for itself
+abbrev pub told_by : Option (ℕ × ℕ) → Glance
+told_by None = Unclear
+told_by (Some (a, b)) = if nat_lt 42 a && nat_lt 32 b then Differs else Unclear
 
 -- what the texts of an opening and of a line tell at a glance
-abbrev pub compared : List ℕ → List ℕ → Glance
-compared [] [] = Begins
-compared [] (b ∷ bs) = if is_blank b then Begins else Unclear
-compared (a ∷ as') [] = Unclear
-compared (a ∷ as') (b ∷ bs) = if nat_eq a b then compared as' bs else differing a b
+abbrev pub glance : List ℕ → List ℕ → Glance
+glance opening line = if begins_text line opening then Begins else told_by (first_difference opening line)
 
 -- of the rows with which the line begins, this one has the most words
 pub record IsDecisive (rows : List Row) (line : List (List ℕ)) (row : Row) : Type 0 where

@@ -15,6 +15,11 @@ abbrev pub starts_blank : List ℕ → Bool
 starts_blank [] = false
 starts_blank (b ∷ bs) = is_blank b
 
+-- a word ends here: nothing follows, or a blank
+abbrev pub ends_word : List ℕ → Bool
+ends_word [] = true
+ends_word (b ∷ bs) = is_blank b
+
 -- the words of a text: the pieces between blanks that are not empty
 unfoldable pub words_of : List ℕ → List (List ℕ)
 words_of text = filter has_bytes (slice_split is_blank text)

@@ -1,7 +1,7 @@
 //! An opening, and what it says of a line.
-ghost use Rattle.std.specs.Prelude.{◌≡◌, true, false, [], length, drop};
+ghost use Rattle.std.specs.Prelude.{◌≡◌, true, false, [], Some, length, drop};
 ghost use Rattle.rc_openings.specs.Words.{words_of, words_left};
-ghost use Rattle.rc_openings.specs.Opening.{begins_with, differing, compared as compared_of, is_form_verdict};
+ghost use Rattle.rc_openings.specs.Opening.{begins_with, told_by, glance, is_form_verdict};
 
 use crate::words::is_blank;
 use crate::{Form, Words};
@@ -39,7 +39,7 @@ pub(crate) enum Glance {
 /// What is told where the texts differ at these bytes. No byte up to that of a space is surely within a word, and none up to
 /// `*` surely stands for itself.
 fn at_difference(byte: u8, other: u8) -> Glance
-    ensures { result ≡ differing byte other }
+    ensures { result ≡ told_by (Some (byte, other)) }
 {
     if byte > b'*' && other > b' ' {
         Glance::Differs
@@ -50,7 +50,7 @@ fn at_difference(byte: u8, other: u8) -> Glance
 
 /// What is told where the text of the opening ends, and this is left of the line.
 fn at_end(rest: &[u8]) -> Glance
-    ensures { result ≡ compared_of [] rest.now }
+    ensures { result ≡ glance [] rest.now }
 {
     match rest {
         [] => Glance::Begins,
@@ -64,8 +64,9 @@ fn at_end(rest: &[u8]) -> Glance
     }
 }
 
+/// What the texts of an opening and of a line tell at a glance, byte by byte up to the first one at which they differ.
 fn compared(opening: &[u8], line: &[u8]) -> Glance
-    ensures { result ≡ compared_of opening.now line.now }
+    ensures { result ≡ glance opening.now line.now }
 {
     let mut token = opening;
     let mut word = line;

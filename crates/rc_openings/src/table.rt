@@ -6,7 +6,7 @@ ghost use Rattle.std.specs.Prelude.{◌≡◌, ◌||◌, ℕ, List, map, take, d
 ghost use Rattle.std.specs.Option.{option_map};
 ghost use Rattle.rc_openings.specs.Words.{words_left};
 ghost use Rattle.rc_openings.specs.Opening.{IsAnswer, Row, begins_form as begins_form_of, row_of};
-ghost use Rattle.rc_openings.specs.Groups.{IsIndex, IsTable, at_letter, keyed};
+ghost use Rattle.rc_openings.specs.Groups.{IsIndex, IsTable, keyed};
 
 use crate::decide::{begins_form, decisive, decisive_from};
 use crate::{Opening, Words};
@@ -92,19 +92,6 @@ fn part_of(openings: &'static [Opening], start: usize, count: usize) -> &'static
     here
 }
 
-/// The openings of a letter, from where its own start to where those of the next letter do.
-fn openings_at(openings: &'static [Opening], starts: &[u8; 59], byte: u8) -> &'static [Opening]
-    ensures { result.now ≡ at_letter starts.now openings.now byte }
-{
-    if byte < b'A' || byte > b'z' {
-        return &[];
-    }
-    let place = usize::from(byte - b'A');
-    let start = usize::from(starts[place]);
-    let end = usize::from(starts[place + 1]);
-    part_of(openings, start, end.saturating_sub(start))
-}
-
 fn is_one_of_three(first: bool, second: bool, third: bool) -> bool
     ensures { result ≡ (first || second || third) }
 {
@@ -116,7 +103,13 @@ impl Index {
     fn at(self, byte: u8) -> &'static [Opening]
         ensures { (key : List (List ℕ) → ℕ) (rows : List Row) → IsIndex key self rows → map row_of result.now ≡ keyed key byte rows }
     {
-        openings_at(self.openings, self.starts, byte)
+        if byte < b'A' || byte > b'z' {
+            return &[];
+        }
+        let place = usize::from(byte - b'A');
+        let start = usize::from(self.starts[place]);
+        let end = usize::from(self.starts[place + 1]);
+        part_of(self.openings, start, end.saturating_sub(start))
     }
 }
 

@@ -7,8 +7,8 @@ use Rattle.rc_openings.proofs.bgp.bgp_table.Goals as goal
 pub returns : goal.returns
 unfolding bgp bgp_forms bgp_refused bgp_ignored words_of letters
 returns c = record {
-  one_word = record { each = refl; placed = refl };
+  one_word = record { openings = refl; starts = refl; placed = refl };
   starred = refl;
-  more_words = record { each = refl; placed = refl };
+  more_words = record { openings = refl; starts = refl; placed = refl };
   three = refl;
 }

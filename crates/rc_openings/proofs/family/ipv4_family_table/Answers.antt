@@ -8,8 +8,8 @@ use Rattle.rc_openings.proofs.family.ipv4_family_table.Goals as goal
 pub returns : goal.returns
 unfolding ipv4_family bgp bgp_forms bgp_refused bgp_ignored words_of letters
 returns c = record {
-  one_word = record { each = refl; placed = refl };
+  one_word = record { openings = refl; starts = refl; placed = refl };
   starred = refl;
-  more_words = record { each = refl; placed = refl };
+  more_words = record { openings = refl; starts = refl; placed = refl };
   three = refl;
 }

@@ -7,8 +7,8 @@ use Rattle.rc_openings.proofs.global.global_table.Goals as goal
 pub returns : goal.returns
 unfolding global global_forms global_refused global_ignored words_of letters
 returns c = record {
-  one_word = record { each = refl; placed = refl };
+  one_word = record { openings = refl; starts = refl; placed = refl };
   starred = refl;
-  more_words = record { each = refl; placed = refl };
+  more_words = record { openings = refl; starts = refl; placed = refl };
   three = refl;
 }

@@ -7,8 +7,8 @@ use Rattle.rc_openings.proofs.ospf.ospf_table.Goals as goal
 pub returns : goal.returns
 unfolding ospf ospf_forms ospf_refused ospf_ignored words_of letters
 returns c = record {
-  one_word = record { each = refl; placed = refl };
+  one_word = record { openings = refl; starts = refl; placed = refl };
   starred = refl;
-  more_words = record { each = refl; placed = refl };
+  more_words = record { openings = refl; starts = refl; placed = refl };
   three = refl;
 }
