@@ -5,10 +5,10 @@ pub mod IfType
 pub mod Interface
 pub mod Update
 pub mod Members
+pub mod Cuts
 pub mod LawfulInterface
 pub mod Lawful
 pub mod Rows
-pub mod OpenBlock
 pub mod ActionWord
 pub mod DirectionWord
 pub mod Down

@@ -7,6 +7,7 @@ use Rattle.rc_base.specs.Prefix.{prefix_at}
 use Rattle.rc_config.specs.AccessList as access
 use Rattle.rc_config.specs.AccessList.{any_address, host_address, standard_line}
 use Rattle.rc_config.specs.ByNumber.{placed, with_number, without_number, has_number, last_number}
+use Rattle.rc_config.specs.Cuts.{uncut}
 use Rattle.rc_config.specs.IfType.{nominal_bandwidth, type_of}
 use Rattle.rc_config.specs.Interface.{fresh}
 use Rattle.rc_config.specs.MaskedAddr.{MaskedAddr}
@@ -167,7 +168,7 @@ pub commands_change_a_model : two_interfaces ≡ record empty {
 commands_change_a_model = refl
 
 abbrev net : Network
-net = record { routers = (codes "r1", two_interfaces) ∷ [] }
+net = uncut ((codes "r1", two_interfaces) ∷ [])
 
 -- a router is found by its host name, and an interface by its router and its own name
 pub names_are_looked_up :

@@ -1,7 +1,6 @@
 -- Worked cases of peer groups and of activity, each by computation.
-use Rattle.std.specs.Prelude.{◌≡◌, ℕ, Bool, true, false, List, [], ◌∷◌, Option, Some, None, fold, map, codes, refl}
+use Rattle.std.specs.Prelude.{◌≡◌, ℕ, Bool, true, false, List, [], ◌∷◌, Some, None, fold, map, codes, refl}
 use Rattle.rc_config.specs.Bgp.{fresh, no_lines, settled, with_line}
-use Rattle.rc_config.specs.Peering.{no_peering}
 use Rattle.rc_config.specs.Settings.{no_settings}
 use Rattle.rc_config.specs.Update.{after, empty, settled_router}
 use Rattle.rc_config.specs.declared.bgp.BgpLine.{BgpLine}
@@ -13,7 +12,6 @@ use Rattle.rc_config.specs.declared.bgp.NeighborSetting.TheVariants.{RemoteAs, U
 use Rattle.rc_config.specs.declared.command.Command.TheVariants.{BgpOpened, FamilyOpened, FamilyClosed, OtherFamilyOpened}
 use Rattle.rc_config.specs.declared.interface.Direction.TheVariants.{In, Out}
 use Rattle.rc_config.specs.declared.peering.Peer.TheVariants.{Address, Group}
-use Rattle.rc_config.specs.declared.peering.Peering.{Peering}
 use Rattle.rc_config.specs.declared.route_map.Mention.{Mention}
 use Rattle.rc_config.specs.declared.settings.Settings.{Settings}
 

@@ -12,6 +12,7 @@ use Rattle.rc_config.specs.declared.static_route.StaticRoute.{StaticRoute as Rou
 use Rattle.rc_config.specs.declared.static_route.Target.{Target}
 use Rattle.rc_config.specs.declared.static_route.Target.TheVariants as target
 use Rattle.rc_base.specs.Prefix.{prefix_at}
+use Rattle.rc_config.specs.Cuts.{uncut}
 use Rattle.rc_config.specs.IfType.{type_of}
 use Rattle.rc_config.specs.Interface.{fresh, declared_addresses}
 use Rattle.rc_config.specs.MaskedAddr.{MaskedAddr}
@@ -134,7 +135,7 @@ other_type = refl
 
 -- ids are indexes: routers in the network's order, interfaces in the order of declaration
 abbrev pair : Network
-pair = record { routers = (codes "r1", file (Interface first 1 ∷ [])) ∷ (codes "r2", file (Interface first 1 ∷ Interface second 2 ∷ [])) ∷ [] }
+pair = uncut ((codes "r1", file (Interface first 1 ∷ [])) ∷ (codes "r2", file (Interface first 1 ∷ Interface second 2 ∷ [])) ∷ [])
 
 pub router_place : router_named pair (codes "r2") ≡ Some 1
 router_place = refl

@@ -1,9 +1,6 @@
 //! Where a line stands.
-ghost use Rattle.std.specs.Prelude.{◌≡◌};
-
 use crate::{AccessListKind, RouterText};
 use rc_base::Name;
-use rc_openings::Block;
 
 /// The block that is open at a line.
 #[derive(Clone, Copy)]
@@ -28,28 +25,6 @@ pub enum OpenBlock {
     InOtherFamily,
     /// A block whose lines are all passed over.
     Ignored,
-}
-
-impl OpenBlock {
-    ghost use Rattle.rc_config.specs.OpenBlock.{block_at};
-
-    /// The kind of the block, which has its openings.
-    pub fn kind(&self) -> Block
-        ensures { result ≡ block_at self.now }
-    {
-        match self {
-            OpenBlock::Closed => Block::Closed,
-            OpenBlock::Global => Block::Global,
-            OpenBlock::Interface(_) => Block::Interface,
-            OpenBlock::AccessList(_, _) => Block::AccessList,
-            OpenBlock::Map(_, _) => Block::RouteMap,
-            OpenBlock::Ospf => Block::Ospf,
-            OpenBlock::Bgp => Block::Bgp,
-            OpenBlock::InFamily => Block::Ipv4Family,
-            OpenBlock::InOtherFamily => Block::OtherFamily,
-            OpenBlock::Ignored => Block::Ignored,
-        }
-    }
 }
 
 /// Where a line stands: the open block, and what the file has said before.

@@ -10,7 +10,7 @@
 //! (`access_list` with its `ports`, `prefix_list`, `community_list`, together in `lists`), `route_map` (`map_line`, `sets`),
 //! `ospf`, `bgp` with what `neighbor` lines set (`settings`) and the peer groups (`peering`); where a line stands (`context`),
 //! what it says (`command`) and which lines count (`last_line`); the file that these make (`router_text`), and the network of
-//! all files (`network`), whose neighbours have what holds of them in the end.
+//! all files (`routers`, `network`), whose neighbours have what holds of them in the end, and which may be cut between interfaces.
 #![tactic(auto)]
 
 mod access_list;
@@ -36,6 +36,7 @@ mod ports;
 mod prefix_list;
 mod route_map;
 mod router_text;
+mod routers;
 mod sets;
 mod settings;
 mod static_route;
@@ -61,7 +62,7 @@ pub use last_line::last_line_counts;
 pub use lists::{ListLine, Lists};
 pub use map_line::{MapLine, MatchKind, SetLine};
 pub use named::Named;
-pub use network::Network;
+pub use network::{Network, Pair};
 pub use ospf::{
     DefaultInformation, NetworkType, OspfArea, OspfLine, OspfNetwork, OspfProcess, OspfSetting,
     OspfSettings, RedistributedSource, Redistribution, StubArea,
@@ -71,6 +72,7 @@ pub use ports::Ports;
 pub use prefix_list::{PrefixLine, PrefixList};
 pub use route_map::{MapEntry, Mention, RouteMap};
 pub use router_text::{HostLine, RouterText};
+pub use routers::Routers;
 pub use sets::{CommunityChange, MetricType, Sets, compare_metric_types};
 pub use settings::Settings;
 pub use static_route::{StaticRoute, Target};
