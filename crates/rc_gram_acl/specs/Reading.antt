@@ -6,7 +6,7 @@ use Rattle.rc_openings.specs.declared.form.AccessListForm.TheVariants as form
 use Rattle.rc_openings.specs.declared.form.Form.{Form}
 use Rattle.rc_openings.specs.declared.form.Form.TheVariants.{AccessList}
 use Rattle.rc_openings.specs.declared.reading.LineRefusal.TheVariants.{BadValue}
-use Rattle.rc_config.specs.OpenBlock.{block_at}
+use Rattle.rc_lines.specs.OpenBlock.{block_at}
 use Rattle.rc_config.specs.declared.access_list.AccessListKind.TheVariants.{Standard, Extended}
 use Rattle.rc_config.specs.declared.access_list.Action.{Action}
 use Rattle.rc_config.specs.declared.access_list.Action.TheVariants.{Permit, Deny}

@@ -8,7 +8,7 @@ ghost use Rattle.rc_gram_acl.specs.Reading as reading;
 use crate::lists::{line_of, numbered, opened};
 use crate::refused::refused_words;
 use rc_config::{AccessListKind, Action, Command, Context, OpenBlock, PortTest, RouterText};
-use rc_lines::Line;
+use rc_lines::{Line, kind_of};
 use rc_openings::{
     AccessListForm, Decision, Form, LineError, LineRefusal, Words, judged, number_in_front,
 };
@@ -129,7 +129,7 @@ fn read_in(line: &Line, block: &OpenBlock, file: &RouterText) -> Result<Command,
     ensures in_range { IfOk result IsInRange }
     ensures fits { IfOk result (FitsFile file.now) }
 {
-    match block.kind().decided(line.words()) {
+    match kind_of(block).decided(line.words()) {
         Decision::Passed => Ok(Command::Passed),
         Decision::Refused(refusal) => Err(LineError::Refused(refusal)),
         Decision::Form(Form::AccessList(form), behind) => read_form(

@@ -7,7 +7,7 @@ ghost use Rattle.rc_gram_bgp.specs.Reading as reading;
 
 use crate::rows::row;
 use rc_config::{Command, Context, OpenBlock, RouterText};
-use rc_lines::Line;
+use rc_lines::{Line, kind_of};
 use rc_openings::{BgpForm, Decision, Form, LineError, LineRefusal, Words, judged};
 
 /// The words that make a line of a form one that isn't modelled, where it fits no row.
@@ -52,7 +52,7 @@ fn read_in(line: &Line, block: &OpenBlock, file: &RouterText) -> Result<Command,
     ensures in_range { IfOk result IsInRange }
     ensures fits { IfOk result (FitsFile file.now) }
 {
-    match block.kind().decided(line.words()) {
+    match kind_of(block).decided(line.words()) {
         Decision::Passed => Ok(Command::Passed),
         Decision::Refused(refusal) => Err(LineError::Refused(refusal)),
         Decision::Form(Form::Bgp(form), behind) => read_form(form, behind, line, block, file),

@@ -8,7 +8,7 @@ use Rattle.rc_openings.specs.declared.form.GeneralForm.TheVariants as general
 use Rattle.rc_openings.specs.declared.form.InterfaceForm.{InterfaceForm}
 use Rattle.rc_openings.specs.declared.form.InterfaceForm.TheVariants as form
 use Rattle.rc_openings.specs.declared.reading.LineRefusal.TheVariants.{BadValue}
-use Rattle.rc_config.specs.OpenBlock.{block_at}
+use Rattle.rc_lines.specs.OpenBlock.{block_at}
 use Rattle.rc_config.specs.declared.command.Command.{Command}
 use Rattle.rc_config.specs.declared.command.Command.TheVariants.{Passed}
 use Rattle.rc_config.specs.declared.context.OpenBlock.{OpenBlock}

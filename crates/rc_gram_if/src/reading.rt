@@ -15,7 +15,7 @@ use crate::rows::{
 };
 use rc_base::Name;
 use rc_config::{Command, Context, NetworkType, OpenBlock, RouterText};
-use rc_lines::Line;
+use rc_lines::{Line, kind_of};
 use rc_openings::{
     Decision, Form, GeneralForm, InterfaceForm, LineError, LineRefusal, Words, judged,
 };
@@ -179,7 +179,7 @@ fn read_in(line: &Line, block: &OpenBlock, file: &RouterText) -> Result<Command,
     ensures takes_no_memory { result ≢ Err LineError.Memory }
     ensures own { IfOk result IsOwn }
 {
-    match block.kind().decided(line.words()) {
+    match kind_of(block).decided(line.words()) {
         Decision::Passed => Ok(Command::Passed),
         Decision::Refused(refusal) => Err(LineError::Refused(refusal)),
         Decision::Form(Form::General(form), behind) => general_answer(form, behind, line, file),

@@ -4,7 +4,7 @@ use Rattle.rc_openings.specs.Reading.{FormRows, SaysBy, said_by}
 use Rattle.rc_openings.specs.declared.form.Form.{Form}
 use Rattle.rc_openings.specs.declared.form.Form.TheVariants.{Ospf}
 use Rattle.rc_openings.specs.declared.reading.LineRefusal.TheVariants.{BadValue}
-use Rattle.rc_config.specs.OpenBlock.{block_at}
+use Rattle.rc_lines.specs.OpenBlock.{block_at}
 use Rattle.rc_config.specs.declared.command.Command.{Command}
 use Rattle.rc_config.specs.declared.command.Command.TheVariants.{Passed}
 use Rattle.rc_config.specs.declared.context.OpenBlock.{OpenBlock}

@@ -8,7 +8,7 @@ ghost use Rattle.rc_gram_ospf.specs.Rows as rows;
 
 use crate::rows::row_answer;
 use rc_config::{Command, Context, OpenBlock, RouterText};
-use rc_lines::Line;
+use rc_lines::{Line, kind_of};
 use rc_openings::{Decision, Form, LineError, LineRefusal, OspfForm, Words};
 
 /// What a line of this form says, by its words behind the opening that decides it.
@@ -36,7 +36,7 @@ fn read_in(line: &Line, block: &OpenBlock, file: &RouterText) -> Result<Command,
     ensures in_range { IfOk result IsInRange }
     ensures fits { IfOk result (FitsFile file.now) }
 {
-    match block.kind().decided(line.words()) {
+    match kind_of(block).decided(line.words()) {
         Decision::Passed => Ok(Command::Passed),
         Decision::Refused(refusal) => Err(LineError::Refused(refusal)),
         Decision::Form(Form::Ospf(form), behind) => read_form(form, behind, line, file),

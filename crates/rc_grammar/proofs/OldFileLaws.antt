@@ -10,7 +10,7 @@ use Rattle.rc_lines.specs.declared.banner.Part.{Part}
 use Rattle.rc_lines.specs.declared.banner.Part.TheVariants as part
 use Rattle.rc_config.specs.Bgp.{with_line as with_bgp_line}
 use Rattle.rc_config.specs.ByNumber.{placed}
-use Rattle.rc_config.specs.OpenBlock.{block_at}
+use Rattle.rc_lines.specs.OpenBlock.{block_at}
 use Rattle.rc_config.specs.Peering.{activity_address, no_peering}
 use Rattle.rc_config.specs.Update.{after}
 use Rattle.rc_config.specs.declared.bgp.BgpLine.{BgpLine}

@@ -29,7 +29,7 @@ use Rattle.rc_openings.specs.declared.reading.LineRefusal.TheVariants.{Unknown, 
 use Rattle.rc_config.specs.DirectionWord.{direction_of}
 use Rattle.rc_config.specs.IfType.{type_of}
 use Rattle.rc_config.specs.Named.{named}
-use Rattle.rc_config.specs.OpenBlock.{block_at}
+use Rattle.rc_lines.specs.OpenBlock.{block_at}
 use Rattle.rc_config.specs.ActionWord.{action_of}
 use Rattle.rc_config.specs.Peering.{no_peering}
 use Rattle.rc_config.specs.declared.access_list.AccessListKind.{AccessListKind}

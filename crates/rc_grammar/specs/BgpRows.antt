@@ -1,5 +1,5 @@
 -- Lines of BGP where they stand, by computation.
-use Rattle.std.specs.Prelude.{◌≡◌, refl, ℕ, true, List, Some, None, Ok, Err, codes}
+use Rattle.std.specs.Prelude.{◌≡◌, refl, true, Some, None, Ok, Err, codes}
 use Rattle.rc_openings.specs.AccessListOpenings.{access_list, access_list_forms, access_list_refused, access_list_ignored}
 use Rattle.rc_openings.specs.BgpOpenings.{bgp, bgp_forms, bgp_refused, bgp_ignored}
 use Rattle.rc_openings.specs.GlobalOpenings.{global, global_forms, global_refused, global_ignored}

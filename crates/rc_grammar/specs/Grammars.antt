@@ -4,7 +4,7 @@ use Rattle.rc_openings.specs.Reading.{FormRows, SaysBy, decided_before, said, sa
 use Rattle.rc_openings.specs.declared.form.Form.{Form}
 use Rattle.rc_openings.specs.declared.form.Form.TheVariants.{General, Interface, AccessList, Policy, MapEntry, Ospf, Bgp}
 use Rattle.rc_openings.specs.declared.reading.LineRefusal.{LineRefusal}
-use Rattle.rc_config.specs.OpenBlock.{block_at}
+use Rattle.rc_lines.specs.OpenBlock.{block_at}
 use Rattle.rc_config.specs.declared.bgp.BgpLine.TheVariants.{Active}
 use Rattle.rc_config.specs.declared.command.Command.{Command}
 use Rattle.rc_config.specs.declared.command.Command.TheVariants.{BgpLine, Passed, Remark}

@@ -9,7 +9,7 @@ use Rattle.rc_openings.specs.OspfOpenings.{ospf, ospf_forms, ospf_refused, ospf_
 use Rattle.rc_openings.specs.Reading.{decided}
 use Rattle.rc_openings.specs.RouteMapOpenings.{route_map, route_map_forms, route_map_refused, route_map_ignored}
 use Rattle.rc_openings.specs.Words.{words_of}
-use Rattle.rc_openings.specs.declared.reading.LineRefusal.TheVariants.{Unknown, Unsupported, OutOfPlace}
+use Rattle.rc_openings.specs.declared.reading.LineRefusal.TheVariants.{Unknown, OutOfPlace}
 use Rattle.rc_config.specs.declared.command.Command.TheVariants.{Passed, OspfOpened, InterfaceLine}
 use Rattle.rc_config.specs.declared.command.Command.TheVariants as command
 use Rattle.rc_config.specs.declared.interface.InterfaceLine.TheVariants as interface_line

@@ -6,7 +6,7 @@ ghost use Rattle.rc_config.specs.Lawful.{FitsFile, HasLawfulLists, IsInRange};
 ghost use Rattle.rc_grammar.specs.Grammars.{answer_of, says};
 
 use rc_config::{Command, Context, OpenBlock, RouterText};
-use rc_lines::Line;
+use rc_lines::{Line, kind_of};
 use rc_openings::{Decision, Form, LineError, Words};
 
 /// What a line of this form says in this block, by its words behind the opening.
@@ -46,7 +46,7 @@ pub(crate) fn read_line(line: &Line, context: Context) -> Result<Command, LineEr
     ensures fits { IfOk result (FitsFile context.entry.file.now) }
 {
     let Context { block, file } = context;
-    match block.kind().decided(line.words()) {
+    match kind_of(&block).decided(line.words()) {
         Decision::Passed => Ok(Command::Passed),
         Decision::Refused(refusal) => Err(LineError::Refused(refusal)),
         Decision::Form(form, behind) => read_form(form, behind, line, &block, file),
