@@ -173,7 +173,7 @@ each-router (m ∷ ms) h = (all-active m.1.bgp h.0, each-router ms h.1)
 models-net : (ms : List Model) (net : Network) → HaveMarks ms → IsNetOfModels (map plain_model ms) (Ok net) → IsNetOfModels ms (Ok net) × All IsActiveRouter net.routers
 models-net ms net h is =
     let routers : IsPermutation (map under_host ms) net.routers = subst (λ (es : List (List ℕ × RouterText)). IsPermutation es net.routers) (same-entries ms h) is.1.same in (
-      (sym (same-refusal ms h) ∙ is.0, record { same = routers; in_order = is.1.in_order }),
+      (sym (same-refusal ms h) ∙ is.0, record { same = routers; in_order = is.1.in_order; uncut = is.1.uncut }),
       All-permutation IsActiveRouter (map under_host ms) net.routers routers (All-from_recursion IsActiveRouter (map under_host ms) (each-router ms h)),
     )
 

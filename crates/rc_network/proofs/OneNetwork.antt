@@ -107,4 +107,5 @@ same_entries xs ys moved up up' =
 pub one_network : HasOneNetwork
 one_network models this that is is' =
     let routers : this.routers ≡ that.routers = same_entries this.routers that.routers (IsPermutation-trans this.routers _ that.routers (IsPermutation-sym _ this.routers is.same) is'.same) is.in_order is'.in_order in
-    λ i. record { routers = routers i }
+    let cuts : this.cuts ≡ that.cuts = is.uncut ∙ sym is'.uncut in
+    λ i. record { routers = routers i; cuts = cuts i }

@@ -55,10 +55,15 @@ first_undefined models = slice_get (filter_map undefined_in models) 0
 abbrev pub first_refusal : List Model → Option NetRefusal
 first_refusal models = option_or (twice models) (first_undefined models)
 
--- the routers of the models under their host names, in byte order of these
-pub record IsNetworkOf (models : List Model) (net : Network) : Type 0 where
-  pub same : IsPermutation (map under_host models) net.routers
+-- a network of these routers, in byte order of their names, that is cut nowhere
+pub record HasRouters (routers : List (List ℕ × RouterText)) (net : Network) : Type 0 where
+  pub same : IsPermutation routers net.routers
   pub in_order : AreNamesInOrder net.routers
+  pub uncut : net.cuts ≡ []
+
+-- the routers of the models under their host names
+abbrev pub IsNetworkOf : List Model → Network → Type 0
+IsNetworkOf models net = HasRouters (map under_host models) net
 
 -- models have one network
 abbrev pub HasOneNetwork : Type 0

@@ -1,5 +1,5 @@
 -- What the lines of a file name (IOS `match`, `redistribute` and `neighbor`), and what of it the file doesn't define.
-use Rattle.std.specs.Prelude.{ℕ, min, Bool, true, false, not, List, [], ◌∷◌, ◌++◌, map, filter, Option, is_some}
+use Rattle.std.specs.Prelude.{ℕ, min, Bool, true, false, not, List, [], ◌∷◌, ◌++◌, map, filter, Option, Some, None, is_some}
 use Rattle.std.specs.List.{flat_map, reduce}
 use Rattle.std.specs.Option.{option_map_or}
 use Rattle.rc_config.specs.Named.{named}
@@ -108,6 +108,16 @@ undefined_lines r things = map (λ n. n.1.line) (filter (λ n. not (defines r n.
 abbrev pub least : List ℕ → Option ℕ
 least numbers = reduce min numbers
 
+-- the lower of two lines, where there are two
+abbrev pub lower : Option ℕ → Option ℕ → Option ℕ
+lower line None = line
+lower None (Some other) = Some other
+lower (Some line) (Some other) = Some (min line other)
+
+-- the least line that names one of these things where the file doesn't define it
+abbrev pub least_line : RouterText → List NamedThing → Option ℕ
+least_line r things = least (undefined_lines r things)
+
 -- the least line of a file that names what the file doesn't define
 abbrev pub undefined_line : RouterText → Option ℕ
-undefined_line r = least (undefined_lines r (named_by r))
+undefined_line r = least_line r (named_by r)

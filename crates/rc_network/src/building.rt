@@ -1,11 +1,11 @@
 //! Models under their host names.
-ghost use Rattle.std.specs.Prelude.{◌≡◌, ◌≤◌, All, IfErr, IfOk, IsSome, None, OnOk, Some, Err, is_some, length};
+ghost use Rattle.std.specs.Prelude.{◌≡◌, ◌≤◌, All, Err, IfErr, IfOk, IsSome, List, [], None, OnOk, Some, is_some, length};
 ghost use Rattle.std.specs.Option.{option_or};
 ghost use Rattle.rc_config.specs.Lawful.{IsLawful, IsLawfulFile};
 ghost use Rattle.rc_config.specs.Named.{named, with_value};
 ghost use Rattle.rc_config.specs.Update.{settled_router};
-ghost use Rattle.rc_network.specs.Build.{host_of, undefined_in, HasOneNetwork, IsBuilt};
-ghost use Rattle.rc_network.specs.Step.{nothing, Adds, GathersAll, IsFinished};
+ghost use Rattle.rc_network.specs.Build.{Model, host_of, undefined_in, HasOneNetwork, IsBuilt};
+ghost use Rattle.rc_network.specs.Step.{gathered_of, Adds, GathersAll, IsFinished};
 ghost use Rattle.rc_network.specs.Twice.{NamesTheFirstTwice};
 
 use crate::undefined::undefined_line;
@@ -74,7 +74,7 @@ fn put_router(
 impl Gathered {
     /// No model yet.
     fn new(alloc: Global) -> Gathered
-        ensures { result ≡ nothing }
+        ensures { result ≡ gathered_of [] }
     {
         Gathered {
             routers: Named::new(alloc),
@@ -101,7 +101,7 @@ impl Gathered {
     /// Puts one more model under its host name.
     fn put_model(&mut self, file: FileName, model: RouterText) -> Result<(), BuildError>
         requires { IsSome model.host }
-        ensures adds { Adds self.old (file, model) self.new result }
+        ensures adds { (models : List Model) → self.old ≡ gathered_of models → Adds models (file, model) self.new result }
         ensures memory { result ≡ Err BuildError.Memory → named self.old.routers (host_of model) ≡ None }
     {
         let host = host_of(&model);
@@ -115,7 +115,7 @@ impl Gathered {
 
     /// Puts all models under their host names, as they come.
     fn put_models(&mut self, models: Vec<(FileName, RouterText)>) -> Result<(), BuildError>
-        requires empty { self.old ≡ nothing }
+        requires empty { self.old ≡ gathered_of [] }
         requires hosts { All (λ m. IsSome m.1.host) models.items }
         ensures { GathersAll models.items self.new result }
     {
@@ -127,7 +127,7 @@ impl Gathered {
     }
 
     /// The network of these models, or the refusal of their first undefined name.
-    fn finished(self) -> Result<Network, BuildError>
+    fn finished(self, alloc: Global) -> Result<Network, BuildError>
         ensures finished { IsFinished self result }
         ensures memory { result ≡ Err BuildError.Memory → self.undefined ≡ None }
     {
@@ -138,14 +138,17 @@ impl Gathered {
         if let Some(refusal) = undefined {
             return Err(BuildError::Refused(refusal));
         }
-        match routers.sort_names() {
-            Ok(()) => Ok(Network { routers }),
-            Err(_) => Err(BuildError::Memory),
-        }
+        let Ok(()) = routers.sort_names() else {
+            return Err(BuildError::Memory);
+        };
+        let Ok(network) = Network::of(alloc, routers) else {
+            return Err(BuildError::Memory);
+        };
+        Ok(network)
     }
 }
 
-/// The network of the models of files, which stand in the byte order of their files' names.
+/// The network of the models of files, which stand in the byte order of their files' names. It is cut nowhere.
 ///
 /// Each BGP neighbour has what holds of it in the end, by its own lines and those of its peer group; there are no groups any
 /// more.
@@ -161,7 +164,7 @@ pub fn build(alloc: Global, models: Vec<(FileName, RouterText)>) -> Result<Netwo
 {
     let mut gathered = Gathered::new(alloc);
     match gathered.put_models(models) {
-        Ok(()) => gathered.finished(),
+        Ok(()) => gathered.finished(alloc),
         Err(error) => Err(error),
     }
 }

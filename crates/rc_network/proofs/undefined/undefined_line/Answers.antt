@@ -4,5 +4,6 @@ use Rattle.rc_network.proofs.undefined.undefined_line.Goals as goal
 
 pub returns : goal.returns
 returns c =
-    both_parts c.args.file.now (named_by_maps c.args.file.now.route_maps) (named_by_processes c.args.file.now) c.least_of_maps-known.result c.least_of_processes.result
-    c.least_of_maps-known.ensures c.least_of_processes.ensures
+    let r = c.args.file.now in
+    both_parts r (named_by_maps r.route_maps) (named_by_processes r) c.least_of_maps.result c.least_of_processes.result c.lower.result
+    c.least_of_maps.ensures c.least_of_processes.ensures c.lower.ensures
