@@ -3,6 +3,7 @@ use Rattle.std.specs.Prelude.{ℕ, ◌+◌, ◌*◌, true, false, List, [], ◌�
 use Rattle.rc_base.specs.Prefix.{Cidr, prefix_at}
 use Rattle.rc_base.specs.declared.origin.Origin.TheVariants.{Igp}
 use Rattle.rc_config.specs.Bgp.{fresh as no_lines_about, no_lines, with_own}
+use Rattle.rc_config.specs.Cuts.{uncut}
 use Rattle.rc_config.specs.Interface.{fresh}
 use Rattle.rc_config.specs.Update.{empty}
 use Rattle.rc_config.specs.declared.bgp.BgpProcess.{BgpProcess}
@@ -51,10 +52,10 @@ abbrev pub router : List (List ℕ × Interface) → BgpProcess → RouterText
 router interfaces p = record empty { interfaces = interfaces; bgp = Some p }
 
 abbrev pub two : RouterText → RouterText → Network
-two a b = record { routers = (codes "R1", a) ∷ (codes "R2", b) ∷ [] }
+two a b = uncut ((codes "R1", a) ∷ (codes "R2", b) ∷ [])
 
 abbrev pub three : RouterText → RouterText → RouterText → Network
-three a b c = record { routers = (codes "R1", a) ∷ (codes "R2", b) ∷ (codes "R3", c) ∷ [] }
+three a b c = uncut ((codes "R1", a) ∷ (codes "R2", b) ∷ (codes "R3", c) ∷ [])
 
 -- a session from address b of router s, whose identifier is that address, to address a of router r
 abbrev pub external : ℕ → ℕ → ℕ → ℕ → Session

@@ -8,7 +8,7 @@ use Rattle.std.proofs.lemmas.Bool.Decides.{nat_tests}
 use Rattle.rc_base.proofs.KeepLaws.{In, any_yes}
 use Rattle.rc_base.specs.Positions.{same_interface}
 use Rattle.rc_base.specs.declared.position.IfId.{IfId}
-use Rattle.rc_topology.specs.Links.{all_ids, are_linked, ids_of, linked, takers, port_at, port_is, ports_at}
+use Rattle.rc_topology.specs.Links.{all_ids, are_linked, ids_of, is_cut, linked, takers, port_at, port_is, ports_at, share_subnet}
 use Rattle.rc_topology.specs.Ports as ports
 use Rattle.rc_topology.specs.Topology.{Topology}
 use Rattle.rc_topology.specs.declared.port.Port.{Port}
@@ -105,7 +105,7 @@ module _ (links : Topology) where
   pub member-linked : (i t : IfId) → list_any (same_interface t) (linked links i) ≡ are_linked links i t
   member-linked i t =
       any-filter same_interface same_interface-Decides (are_linked links i) t (all_ids links)
-      ∙ and_true (list_any (same_interface t) (all_ids links)) (are_linked links i t) (linked_known i t (port_at links i))
+      ∙ and_true (list_any (same_interface t) (all_ids links)) (are_linked links i t) (λ linked. linked_known i t (port_at links i) (and_parts (share_subnet links i t) (not (is_cut links i t)) linked).0)
 
   -- and among the takers of an address where it takes it
   pub member-takers : (i : IfId) (a : ℕ) (t : IfId) → list_any (same_interface t) (takers links i a) ≡ takes links i a t

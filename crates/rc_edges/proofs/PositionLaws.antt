@@ -14,7 +14,7 @@ use Rattle.rc_config.specs.declared.network.Network.{Network}
 use Rattle.rc_config.specs.declared.router_text.RouterText.{RouterText}
 use Rattle.rc_route.specs.declared.route.Hop.{Hop}
 use Rattle.rc_route.specs.declared.route.Hop.TheVariants.{Null, Dev, Via}
-use Rattle.rc_topology.specs.Links.{are_linked, port_at, port_is, ports_at}
+use Rattle.rc_topology.specs.Links.{are_linked, is_cut, port_at, port_is, ports_at, share_subnet}
 use Rattle.rc_topology.specs.Ports.{links_of, port_of, ports_of, share_prefix}
 use Rattle.rc_topology.specs.declared.port.Port.{Port}
 use Rattle.rc_walk.specs.Moves.{DataPlane, moves}
@@ -44,7 +44,7 @@ module _ (net : Network) where
       (inr (map-in Entering i (interface_ids net i.router) (map-in (λ n. record { router = i.router; index = n }) i.index (range_with_len 0 (length (interfaces_of net i.router))) (in-range i.index 0 (length (interfaces_of net i.router)) (omega arith) (omega arith)))))
 
   linked_there : (i t : IfId) → are_linked (links_of net) i t ≡ true → In (Entering t) (positions net)
-  linked_there i t linked = by (port_at (links_of net) i) (and_parts (not (i.router == t.router)) (option_map_or (λ p. port_is (links_of net) (share_prefix p) t) (port_at (links_of net) i) false) linked).1
+  linked_there i t linked = by (port_at (links_of net) i) (and_parts (not (i.router == t.router)) (option_map_or (λ p. port_is (links_of net) (share_prefix p) t) (port_at (links_of net) i) false) (and_parts (share_subnet (links_of net) i t) (not (is_cut (links_of net) i t)) linked).0).1
     where
       by : (o : Option Port) → option_map_or (λ p. port_is (links_of net) (share_prefix p) t) o false ≡ true → In (Entering t) (positions net)
       by None e = absurd (let x : false ≡ true = e in cc)

@@ -27,8 +27,8 @@ use Rattle.rc_route.specs.declared.route.Hop.TheVariants.{Null, Dev, Via}
 use Rattle.rc_sets.proofs.LongestLaws.{in-filter}
 use Rattle.rc_topology.proofs.InterfaceLaws.{some_in_order}
 use Rattle.rc_topology.proofs.OrderLaws.{before_itself, in_order_filter}
-use Rattle.rc_topology.specs.Links.{all_ids, are_linked, linked, port_at, port_is, ports_at, takers}
-use Rattle.rc_topology.specs.Order.{IsInOrder, is_before}
+use Rattle.rc_topology.specs.Links.{all_ids, are_linked, is_cut, linked, port_at, port_is, ports_at, share_subnet, takers}
+use Rattle.rc_topology.specs.Order.{AreInPositionOrder, is_before}
 use Rattle.rc_topology.specs.Ports.{is_loopback, links_of, owns, port_of, ports_of, share_prefix}
 use Rattle.rc_topology.specs.Topology.{Topology}
 use Rattle.rc_topology.specs.declared.port.Port.{Port}
@@ -52,7 +52,7 @@ module _ (net : Network) where
       (one, two)
 
   linked_is : (i t : IfId) → are_linked (links_of net) i t ≡ true → IsPosition net (Entering t)
-  linked_is i t linked = by (port_at (links_of net) i) (and_parts (not (i.router == t.router)) (option_map_or (λ p. port_is (links_of net) (share_prefix p) t) (port_at (links_of net) i) false) linked).1
+  linked_is i t linked = by (port_at (links_of net) i) (and_parts (not (i.router == t.router)) (option_map_or (λ p. port_is (links_of net) (share_prefix p) t) (port_at (links_of net) i) false) (and_parts (share_subnet (links_of net) i t) (not (is_cut (links_of net) i t)) linked).0).1
     where
       by : (o : Option Port) → option_map_or (λ p. port_is (links_of net) (share_prefix p) t) o false ≡ true → IsPosition net (Entering t)
       by None e = absurd (let x : false ≡ true = e in cc)
@@ -89,11 +89,11 @@ module _ (links : Topology) where
   pub target_led : (x : Hop) (ts : List IfId) → ts ≡ hop_targets links x → (j : ℕ) (t : IfId) → t ≡ get_or ts j t → j < length ts → leads_onto links x t ≡ true
   target_led x ts e j t is less = in_led x t (subst (In t) e (subst (λ u. In u ts) (sym is) (in-place ts j t less)))
 
-  in_order_choice : (b : Bool) (ts : List IfId) → IsInOrder ts → IsInOrder (cond b [] ts)
+  in_order_choice : (b : Bool) (ts : List IfId) → AreInPositionOrder ts → AreInPositionOrder (cond b [] ts)
   in_order_choice true ts ordered = tt
   in_order_choice false ts ordered = ordered
 
-  targets_in_order : (x : Hop) → IsInOrder (hop_targets links x)
+  targets_in_order : (x : Hop) → AreInPositionOrder (hop_targets links x)
   targets_in_order Null = tt
   targets_in_order (Dev i) = in_order_choice (port_is links is_loopback i) (linked links i) (some_in_order links (are_linked links i))
   targets_in_order (Via g None) = tt
@@ -111,7 +111,7 @@ module _ (links : Topology) where
   at_place P (x ∷ xs) zero d less all = all.0
   at_place P (x ∷ xs) (suc j) d less all = at_place P xs j d (omega arith) all.1
 
-  stands_once : (ts : List IfId) → IsInOrder ts → (j : ℕ) (d : IfId) → j < length ts → list_any (same_interface (get_or ts j d)) (take j ts) ≡ false
+  stands_once : (ts : List IfId) → AreInPositionOrder ts → (j : ℕ) (d : IfId) → j < length ts → list_any (same_interface (get_or ts j d)) (take j ts) ≡ false
   stands_once [] ordered j d less = absurd (omega arith)
   stands_once (y ∷ ys) ordered zero d less = refl
   stands_once (y ∷ ys) ordered (suc j) d less =
@@ -120,7 +120,7 @@ module _ (links : Topology) where
       (λ n. here n || rest n)
 
   pub target_once : (x : Hop) (ts : List IfId) → ts ≡ hop_targets links x → (j : ℕ) (t : IfId) → t ≡ get_or ts j t → j < length ts → list_any (same_interface t) (take j ts) ≡ false
-  target_once x ts e j t is less = subst (λ u. list_any (same_interface u) (take j ts) ≡ false) (sym is) (stands_once ts (subst IsInOrder (sym e) (targets_in_order x)) j t less)
+  target_once x ts e j t is less = subst (λ u. list_any (same_interface u) (take j ts) ≡ false) (sym is) (stands_once ts (subst AreInPositionOrder (sym e) (targets_in_order x)) j t less)
 
 -- ---- what hops give
 

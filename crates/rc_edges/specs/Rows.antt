@@ -5,6 +5,7 @@ use Rattle.rc_base.specs.declared.position.Pos.TheVariants.{Own, Entering}
 use Rattle.rc_base.specs.Prefix.{prefix_at}
 use Rattle.rc_base.specs.declared.ending.Kind.TheVariants.{DeniedIn}
 use Rattle.rc_config.specs.AccessList.{any_address, standard_line}
+use Rattle.rc_config.specs.Cuts.{uncut}
 use Rattle.rc_config.specs.Interface.{with_group}
 use Rattle.rc_config.specs.Update.{empty as empty_file}
 use Rattle.rc_config.specs.declared.interface.Direction.TheVariants.{In}
@@ -93,7 +94,7 @@ telnet = record everything { sequence = 10; action = Deny; protocol = protocol.I
 -- one router with 10.0.0.1/24, whose list 101 is asked of what enters
 abbrev guarded : DataPlane
 guarded =
-    plane (record { routers = (codes "R1", record empty_file { interfaces = (gi0, with_group (with_address (ip 10 0 0 1) 24) (codes "101") In) ∷ []; lists = record no_lists { access_lists = (codes "101", record { kind = Extended; lines = telnet ∷ everything ∷ [] }) ∷ [] } }) ∷ [] })
+    plane (uncut ((codes "R1", record empty_file { interfaces = (gi0, with_group (with_address (ip 10 0 0 1) 24) (codes "101") In) ∷ []; lists = record no_lists { access_lists = (codes "101", record { kind = Extended; lines = telnet ∷ everything ∷ [] }) ∷ [] } }) ∷ []))
     ((connected 0 (ip 10 0 0 0) 24 0 ∷ []) ∷ [])
 
 pub cubes_of_the_list : cubes (tree (reaching guarded (Entering (port 0 0)) ends)) ≡ 24

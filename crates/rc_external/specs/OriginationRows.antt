@@ -2,6 +2,7 @@
 use Rattle.std.specs.Prelude.{◌≡◌, ℕ, ◌+◌, ◌*◌, true, false, List, [], ◌∷◌, map, Some, None, codes, refl}
 use Rattle.std.specs.List.{fold}
 use Rattle.rc_base.specs.Prefix.{Cidr}
+use Rattle.rc_config.specs.Cuts.{uncut}
 use Rattle.rc_config.specs.Update.{after, empty}
 use Rattle.rc_config.specs.declared.access_list.Action.{Action}
 use Rattle.rc_config.specs.declared.access_list.Action.TheVariants.{Permit, Deny}
@@ -283,7 +284,7 @@ abbrev statics : RouterText
 statics = process (redistribute (all_of source.Static) ∷ [])
 
 abbrev net : Network
-net = record { routers = (codes "a", statics) ∷ (codes "b", file []) ∷ (codes "c", statics) ∷ [] }
+net = uncut ((codes "a", statics) ∷ (codes "b", file []) ∷ (codes "c", statics) ∷ [])
 
 abbrev from : ℕ → Cidr → AsExternal
 from r p = record { boundary = r; prefix = p; metric = 20; metric_type = Type2 }

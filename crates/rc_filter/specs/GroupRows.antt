@@ -4,6 +4,7 @@ use Rattle.rc_base.specs.Fields.{zeros}
 use Rattle.rc_base.specs.declared.header.Header.{Header}
 use Rattle.rc_base.specs.declared.position.IfId.{IfId}
 use Rattle.rc_config.specs.AccessList.{any_address, no_lines, standard_line, with_line}
+use Rattle.rc_config.specs.Cuts.{uncut}
 use Rattle.rc_config.specs.Interface.{fresh, with_group}
 use Rattle.rc_config.specs.Lists.{no_lists}
 use Rattle.rc_config.specs.Update.{empty}
@@ -32,11 +33,9 @@ packet = record zeros { dst = 1; src = 2; proto = 6; sport = 40000; dport = 22 }
 -- Router A's list denies all, and stands inbound at its first interface and outbound at its second; the third one has none. Router
 -- B's list of the same name permits all, and stands both ways at its interface.
 abbrev net : Network
-net = record {
-  routers =
-      (codes "A", router ((codes "Vlan1", with_group fresh name In) ∷ (codes "Vlan2", with_group fresh name Out) ∷ (codes "Vlan3", fresh) ∷ []) ((name, with_line (no_lines Standard) (standard_line 10 Deny any_address)) ∷ []))
-      ∷ (codes "B", router ((codes "Vlan1", with_group (with_group fresh name In) name Out) ∷ []) ((name, with_line (no_lines Standard) (standard_line 10 Permit any_address)) ∷ [])) ∷ [];
-}
+net = uncut (
+    (codes "A", router ((codes "Vlan1", with_group fresh name In) ∷ (codes "Vlan2", with_group fresh name Out) ∷ (codes "Vlan3", fresh) ∷ []) ((name, with_line (no_lines Standard) (standard_line 10 Deny any_address)) ∷ []))
+    ∷ (codes "B", router ((codes "Vlan1", with_group (with_group fresh name In) name Out) ∷ []) ((name, with_line (no_lines Standard) (standard_line 10 Permit any_address)) ∷ [])) ∷ [])
 
 pub denied_in : passes_at net In packet (port 0 0) ≡ false
 unfolding matches same_bits
@@ -74,10 +73,8 @@ no_router = refl
 
 -- one that is down filters like any other
 abbrev shut : Network
-shut = record {
-  routers =
-      (codes "A", router ((codes "Vlan1", record (with_group fresh name In) { shutdown = true }) ∷ []) ((name, with_line (no_lines Standard) (standard_line 10 Deny any_address)) ∷ [])) ∷ [];
-}
+shut = uncut (
+    (codes "A", router ((codes "Vlan1", record (with_group fresh name In) { shutdown = true }) ∷ []) ((name, with_line (no_lines Standard) (standard_line 10 Deny any_address)) ∷ [])) ∷ [])
 
 pub denied_while_down : passes_at shut In packet (port 0 0) ≡ false
 unfolding matches same_bits

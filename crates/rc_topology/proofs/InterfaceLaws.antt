@@ -7,7 +7,7 @@ use Rattle.std.proofs.lemmas.Bool.Decides.{nat_tests}
 use Rattle.rc_base.specs.declared.position.IfId.{IfId}
 use Rattle.rc_base.proofs.KeepLaws.{any_filter}
 use Rattle.rc_topology.specs.Links.{all_ids, ids_of, is_own, owners, port_is, ports_at}
-use Rattle.rc_topology.specs.Order.{is_before, IsInOrder}
+use Rattle.rc_topology.specs.Order.{is_before, AreInPositionOrder}
 use Rattle.rc_topology.specs.Ports.{owns}
 use Rattle.rc_topology.specs.Topology.{Topology}
 use Rattle.rc_topology.specs.declared.port.Port.{Port}
@@ -26,7 +26,7 @@ own_behind : (r low from n : ℕ) → low < from → AllByRecursion (λ j. is_be
 own_behind r low from zero less = tt
 own_behind r low from (suc n) less = (next r low from less, own_behind r low (from + 1) n (omega arith))
 
-own_in_order : (r from n : ℕ) → IsInOrder (map (λ k. record { router = r; index = k }) (range_with_len from n))
+own_in_order : (r from n : ℕ) → AreInPositionOrder (map (λ k. record { router = r; index = k }) (range_with_len from n))
 own_in_order r from zero = tt
 own_in_order r from (suc n) = (own_behind r from (from + 1) n (omega arith), own_in_order r (from + 1) n)
 
@@ -52,16 +52,16 @@ module _ (count : ℕ → ℕ) where
   own_before r from zero from' n' less = tt
   own_before r from (suc n) from' n' less = (all_later (record { router = r; index = from }) from' n' less, own_before r (from + 1) n from' n' less)
 
-  listed_in_order : (from n : ℕ) → IsInOrder (flat_map own (range_with_len from n))
+  listed_in_order : (from n : ℕ) → AreInPositionOrder (flat_map own (range_with_len from n))
   listed_in_order from zero = tt
   listed_in_order from (suc n) =
       in_order_append (own from) (flat_map own (range_with_len (from + 1) n)) (own_in_order from 0 (count from)) (listed_in_order (from + 1) n) (own_before from 0 (count from) (from + 1) n (omega arith))
 
-pub ids_in_order : (links : Topology) → IsInOrder (all_ids links)
+pub ids_in_order : (links : Topology) → AreInPositionOrder (all_ids links)
 ids_in_order links = listed_in_order (λ r. length (ports_at links r)) 0 (length links.ports)
 
 -- those that pass a test are in order too
-pub some_in_order : (links : Topology) (p : IfId → Bool) → IsInOrder (filter p (all_ids links))
+pub some_in_order : (links : Topology) (p : IfId → Bool) → AreInPositionOrder (filter p (all_ids links))
 some_in_order links p = in_order_filter p (all_ids links) (ids_in_order links)
 
 -- ---- a router's own addresses

@@ -1,11 +1,12 @@
 -- What is left of the interfaces that share a link: the first of them, and those behind it.
-use Rattle.std.proofs.Common.{refl, ◌≡◌, ap, sym, ◌∙◌, ℕ, ◌==◌, Bool, true, false, not, cond, ◌&&◌, ◌||◌, List, [], ◌∷◌, Option, Some, None}
+use Rattle.std.proofs.Common.{refl, ◌≡◌, ap, sym, ◌∙◌, ℕ, ◌==◌, Bool, true, false, not, cond, ◌&&◌, ◌||◌, List, [], ◌∷◌, filter, Option, Some, None}
 use Rattle.std.specs.List.{list_any, find, fold}
 use Rattle.std.specs.Option.{option_map_or}
 use Rattle.rc_base.specs.declared.position.IfId.{IfId}
 use Rattle.rc_base.specs.Prefix.{Cidr, same_prefix}
+use Rattle.rc_base.proofs.KeepLaws.{filter_twice}
 use Rattle.rc_topology.specs.Left.{is_next, is_left, left_of, with_prefix}
-use Rattle.rc_topology.specs.Links.{all_ids, are_linked, link_prefixes_at, linked, on_prefix, port_at, port_is}
+use Rattle.rc_topology.specs.Links.{all_ids, is_cut, link_prefixes_at, linked, on_prefix, port_at, port_is, share_subnet}
 use Rattle.rc_topology.specs.Order.{earlier, is_behind}
 use Rattle.rc_topology.specs.Ports.{is_loopback, is_on, link_prefixes, share_prefix, some_is_in}
 use Rattle.rc_topology.specs.Topology.{Topology}
@@ -75,7 +76,7 @@ module _ (links : Topology) (router : ℕ) (last : Option IfId) where
   pub left_none : (prefixes : List Cidr) → find (is_left links router prefixes last) (all_ids links) ≡ None → left_of links router prefixes last ≡ []
   left_none prefixes none = filter_none (Left prefixes) (all_ids links) none
 
--- ---- all that share a link
+-- ---- all that share a subnet, and a link
 
 on_share : (p q : Port) → list_any (λ x. is_on x q) (link_prefixes p) ≡ share_prefix p q
 on_share p q = by (is_loopback p) (is_loopback q)
@@ -85,13 +86,17 @@ on_share p q = by (is_loopback p) (is_loopback q)
     by false true = any_never p.prefixes
     by false false = refl
 
--- from the start all that share a link are left
-pub linked_left : (links : Topology) (i : IfId) → left_of links i.router (link_prefixes_at links i) None ≡ linked links i
-linked_left links i =
-    filter_each (is_left links i.router (link_prefixes_at links i) None) (are_linked links i) (λ j. ap (λ b. not (i.router == j.router) && b) (tests (port_at links i) (port_at links j))) (all_ids links)
+-- from the start all that share a subnet are left
+pub sharing_left : (links : Topology) (i : IfId) → left_of links i.router (link_prefixes_at links i) None ≡ filter (share_subnet links i) (all_ids links)
+sharing_left links i =
+    filter_each (is_left links i.router (link_prefixes_at links i) None) (share_subnet links i) (λ j. ap (λ b. not (i.router == j.router) && b) (tests (port_at links i) (port_at links j))) (all_ids links)
   where
     tests : (o o' : Option Port) → option_map_or (λ q. list_any (λ x. is_on x q) (option_map_or link_prefixes o [])) o' false ≡ option_map_or (λ p. option_map_or (share_prefix p) o' false) o false
     tests None None = refl
     tests None (Some q) = refl
     tests (Some p) None = refl
     tests (Some p) (Some q) = on_share p q
+
+-- those of them between which and the interface the network isn't cut share a link with it
+pub linked_left : (links : Topology) (i : IfId) → filter (λ j. not (is_cut links i j)) (filter (share_subnet links i) (all_ids links)) ≡ linked links i
+linked_left links i = filter_twice (share_subnet links i) (λ j. not (is_cut links i j)) (all_ids links)

@@ -4,4 +4,5 @@ pub mod InterfaceLaws
 pub mod FillingLaws
 pub mod LeftLaws
 pub mod PrefixLaws
+mod PairLaws
 pub mod LinkLaws

@@ -6,7 +6,7 @@ use Rattle.std.specs.List.Sorted.{IsPartitionedBy}
 use Rattle.std.proofs.lemmas.Bool.Decides.{nat_tests}
 use Rattle.rc_base.specs.declared.position.IfId.{IfId}
 use Rattle.rc_base.proofs.OrderedLaws.{all-weaker}
-use Rattle.rc_topology.specs.Order.{is_before, is_behind, earlier, IsInOrder}
+use Rattle.rc_topology.specs.Order.{is_before, is_behind, earlier, AreInPositionOrder}
 use Rattle.rc_topology.proofs.ListLaws.{all_at, all_filter, all_append, filter_agree, find_agree, found_has, none_passes}
 
 -- ---- the order
@@ -42,20 +42,20 @@ behind_trans (Some l) i j h g = before_trans l i j h g
 
 -- ---- lists in order
 
-pub in_order_filter : (p : IfId → Bool) (is : List IfId) → IsInOrder is → IsInOrder (filter p is)
+pub in_order_filter : (p : IfId → Bool) (is : List IfId) → AreInPositionOrder is → AreInPositionOrder (filter p is)
 in_order_filter p [] up = tt
 in_order_filter p (i ∷ is) up = by (p i) (in_order_filter p is up.1)
   where
-    by : (b : Bool) → IsInOrder (filter p is) → IsInOrder (cond b (i ∷ filter p is) (filter p is))
+    by : (b : Bool) → AreInPositionOrder (filter p is) → AreInPositionOrder (cond b (i ∷ filter p is) (filter p is))
     by true rest = (all_filter (λ j. is_before i j ≡ true) p is up.0, rest)
     by false rest = rest
 
-pub in_order_append : (is js : List IfId) → IsInOrder is → IsInOrder js → AllByRecursion (λ i. AllByRecursion (λ j. is_before i j ≡ true) js) is → IsInOrder (is ++ js)
+pub in_order_append : (is js : List IfId) → AreInPositionOrder is → AreInPositionOrder js → AllByRecursion (λ i. AllByRecursion (λ j. is_before i j ≡ true) js) is → AreInPositionOrder (is ++ js)
 in_order_append [] js up up' all = up'
 in_order_append (i ∷ is) js up up' all = (all_append (λ j. is_before i j ≡ true) is js up.0 all.0, in_order_append is js up.1 up' all.1)
 
 -- a test that what stands before passes too turns once
-pub turns_once : (p : IfId → Bool) → ((i j : IfId) → is_before i j ≡ true → p j ≡ true → p i ≡ true) → (is : List IfId) → IsInOrder is → IsPartitionedBy p is
+pub turns_once : (p : IfId → Bool) → ((i j : IfId) → is_before i j ≡ true → p j ≡ true → p i ≡ true) → (is : List IfId) → AreInPositionOrder is → IsPartitionedBy p is
 turns_once p down [] up i j d le less passes = absurd (omega arith)
 turns_once p down (x ∷ is) up zero zero d le less passes = passes
 turns_once p down (x ∷ is) up zero (suc j) d le less passes = down x (get_or is j d) (all_at (λ y. is_before x y ≡ true) is j d up.0 (omega arith)) passes
@@ -65,7 +65,7 @@ turns_once p down (x ∷ is) up (suc i) (suc j) d le less passes = turns_once p 
 -- ---- the first that passes
 
 -- the first that passes one of two tests is the earlier one of the first of each
-pub first_of_two : (p q : IfId → Bool) (is : List IfId) → IsInOrder is → find (λ i. p i || q i) is ≡ earlier (find p is) (find q is)
+pub first_of_two : (p q : IfId → Bool) (is : List IfId) → AreInPositionOrder is → find (λ i. p i || q i) is ≡ earlier (find p is) (find q is)
 first_of_two p q [] up = refl
 first_of_two p q (i ∷ is) up = by (p i) (q i) (first_of_two p q is up.1)
   where
@@ -92,7 +92,7 @@ first_of_two p q (i ∷ is) up = by (p i) (q i) (first_of_two p q is up.1)
     by false false rest = rest
 
 -- the first that passes comes first among those that pass, and the others stand behind it
-pub first_then : (p q : IfId → Bool) (is : List IfId) (j : IfId) → IsInOrder is → find p is ≡ Some j
+pub first_then : (p q : IfId → Bool) (is : List IfId) (j : IfId) → AreInPositionOrder is → find p is ≡ Some j
     → ((i : IfId) → is_before j i ≡ true → p i ≡ q i) → ((i : IfId) → is_before j i ≡ false → q i ≡ false) → filter p is ≡ j ∷ filter q is
 first_then p q [] j up found same none = absurd (cc)
 first_then p q (i ∷ is) j up found same none = by (p i) found (λ there. first_then p q is j up.1 there same none)
@@ -120,7 +120,7 @@ itself : (a : ℕ) → (a == a) ≡ true
 itself a = grind (arith, nat_tests)
 
 -- behind the last one, where the first there is of a router itself, the next of another router is the first of a later one
-pub first_of_later : (last : Option IfId) (router : ℕ) (is : List IfId) (j : IfId) → IsInOrder is → find (is_behind last) is ≡ Some j → router ≡ j.router
+pub first_of_later : (last : Option IfId) (router : ℕ) (is : List IfId) (j : IfId) → AreInPositionOrder is → find (is_behind last) is ≡ Some j → router ≡ j.router
     → find (λ i. nat_lt router i.router) is ≡ find (λ i. is_behind last i && not (router == i.router)) is
 first_of_later last router [] j up found own = refl
 first_of_later last router (i ∷ is) j up found own = by (is_behind last i) refl found (λ there. first_of_later last router is j up.1 there own)
@@ -152,7 +152,7 @@ is_of router None = false
 is_of router (Some j) = j.router == router
 
 -- some interface is of a router exactly where the first that is of no earlier one is
-pub some_of_router : (router : ℕ) (is : List IfId) → IsInOrder is → list_any (λ i. i.router == router) is ≡ is_of router (find (λ i. not (nat_lt i.router router)) is)
+pub some_of_router : (router : ℕ) (is : List IfId) → AreInPositionOrder is → list_any (λ i. i.router == router) is ≡ is_of router (find (λ i. not (nat_lt i.router router)) is)
 some_of_router router [] up = refl
 some_of_router router (i ∷ is) up = by (nat_lt i.router router) refl (some_of_router router is up.1)
   where

@@ -1,13 +1,20 @@
 -- Links between interfaces, and the takers of an address on a link.
-use Rattle.std.specs.Prelude.{ℕ, ◌==◌, Bool, false, not, ◌&&◌, List, [], map, filter, length, Option, slice_get}
+use Rattle.std.specs.Prelude.{ℕ, ◌==◌, Bool, false, not, ◌&&◌, ◌||◌, List, [], map, filter, length, Option, slice_get}
 use Rattle.std.specs.List.{list_any, flat_map, range_with_len}
 use Rattle.std.specs.Option.{option_map_or, option_and_then}
 use Rattle.rc_base.specs.declared.position.IfId.{IfId}
+use Rattle.rc_base.specs.Positions.{same_interface}
 use Rattle.rc_base.specs.Prefix.{Cidr}
+use Rattle.rc_config.specs.declared.network.Pair.{Pair}
 use Rattle.rc_config.specs.declared.if_type.IfType.{IfType}
+use Rattle.rc_topology.specs.Order.{is_before}
 use Rattle.rc_topology.specs.Ports as port
 use Rattle.rc_topology.specs.Topology.{Topology}
 use Rattle.rc_topology.specs.declared.port.Port.{Port}
+
+-- a pair is of these two interfaces
+abbrev pub is_between : IfId → IfId → Pair → Bool
+is_between i j c = (same_interface i c.first && same_interface j c.second) || (same_interface i c.second && same_interface j c.first)
 
 module _ (links : Topology) where
   -- what is kept of the interfaces of a router
@@ -29,13 +36,29 @@ module _ (links : Topology) where
   abbrev pub all_ids : List IfId
   all_ids = flat_map ids_of (range_with_len 0 (length links.ports))
 
-  -- two interfaces share a link: they are of different routers, and share a prefix
+  -- two interfaces of different routers, neither a loopback, some address of each has the same prefix
+  abbrev pub share_subnet : IfId → IfId → Bool
+  share_subnet i j = not (i.router == j.router) && option_map_or (λ p. port_is (port.share_prefix p) j) (port_at i) false
+
+  -- the network is cut between two interfaces, in whichever order the cut names them
+  abbrev pub is_cut : IfId → IfId → Bool
+  is_cut i j = list_any (is_between i j) links.cuts
+
+  -- two interfaces share a link: they share a subnet, and the network isn't cut between them
   abbrev pub are_linked : IfId → IfId → Bool
-  are_linked i j = not (i.router == j.router) && option_map_or (λ p. port_is (port.share_prefix p) j) (port_at i) false
+  are_linked i j = share_subnet i j && not (is_cut i j)
 
   -- the interfaces that share a link with one, in position order
   abbrev pub linked : IfId → List IfId
   linked i = filter (are_linked i) all_ids
+
+  -- the pairs of an interface with those behind it in position order that share a link with it
+  abbrev pub pairs_from : IfId → List Pair
+  pairs_from i = map (λ j. record { first = i; second = j }) (filter (is_before i) (linked i))
+
+  -- all pairs of interfaces that share a link, each once: the one that stands first comes first, and pairs are in that order
+  abbrev pub pairs : List Pair
+  pairs = flat_map pairs_from all_ids
 
   -- the takers of an address on a link of an interface, in position order: those that share a link with it and have the address
   abbrev pub takers : IfId → ℕ → List IfId

@@ -8,9 +8,9 @@ abbrev pub is_before : IfId → IfId → Bool
 is_before i j = nat_lt i.router j.router || (i.router == j.router) && nat_lt i.index j.index
 
 -- each stands before all that come after it
-abbrev pub IsInOrder : List IfId → Type 0
-IsInOrder [] = Unit {0}
-IsInOrder (i ∷ is) = AllByRecursion (λ j. is_before i j ≡ true) is × IsInOrder is
+abbrev pub AreInPositionOrder : List IfId → Type 0
+AreInPositionOrder [] = Unit {0}
+AreInPositionOrder (i ∷ is) = AllByRecursion (λ j. is_before i j ≡ true) is × AreInPositionOrder is
 
 -- j stands behind the last one; all stand behind none
 abbrev pub is_behind : Option IfId → IfId → Bool

@@ -45,9 +45,9 @@ ports_of file = map (port_of file.interfaces) file.interfaces
 unfoldable pub all_ports : Network → List (List Port)
 all_ports net = map (λ e. ports_of e.1) net.routers
 
--- the links of a network: what is kept of each router's interfaces, in the network's order
+-- the links of a network: what is kept of each router's interfaces, in the network's order, and where it is cut
 unfoldable pub links_of : Network → Topology
-links_of net = record { ports = map (λ e. ports_of e.1) net.routers }
+links_of net = record { ports = map (λ e. ports_of e.1) net.routers; cuts = net.cuts }
 
 -- the type of loopbacks
 abbrev pub is_loopback_type : Option IfType → Bool

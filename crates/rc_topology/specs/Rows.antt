@@ -7,6 +7,7 @@ use Rattle.rc_config.specs.declared.command.Command.TheVariants.{Interface, Inte
 use Rattle.rc_config.specs.declared.interface.InterfaceLine.TheVariants as interface_line
 use Rattle.rc_config.specs.declared.if_type.IfType.TheVariants as types
 use Rattle.rc_config.specs.declared.router_text.RouterText.{RouterText}
+use Rattle.rc_config.specs.Cuts.{uncut}
 use Rattle.rc_config.specs.IfType.{type_of}
 use Rattle.rc_config.specs.Update.{after, empty}
 use Rattle.rc_topology.specs.Links.{are_linked, holds, is_own, kind_of, linked, port_is, takers}
@@ -41,10 +42,10 @@ file commands = fold after empty commands
 
 -- the links of two routers, and of three
 abbrev two : List Command → List Command → Topology
-two a b = links_of (record { routers = (codes "a", file a) ∷ (codes "b", file b) ∷ [] })
+two a b = links_of (uncut ((codes "a", file a) ∷ (codes "b", file b) ∷ []))
 
 abbrev three : List Command → List Command → List Command → Topology
-three a b c = links_of (record { routers = (codes "a", file a) ∷ (codes "b", file b) ∷ (codes "c", file c) ∷ [] })
+three a b c = links_of (uncut ((codes "a", file a) ∷ (codes "b", file b) ∷ (codes "c", file c) ∷ []))
 
 abbrev at : ℕ → ℕ → IfId
 at r n = record { router = r; index = n }
@@ -269,7 +270,7 @@ loopbacks_at_sites = refl
 -- ---- 64 routers on one subnet, r00 to r63: each is linked with all others, and an address has its one taker
 
 abbrev crowd : Topology
-crowd = links_of (record { routers = map (λ n. (114 ∷ (48 + n / 10) ∷ (48 + n % 10) ∷ [], file (primary (codes "Vlan1") (256 + n) 16 ∷ []))) (range_with_len 0 64) })
+crowd = links_of (uncut (map (λ n. (114 ∷ (48 + n / 10) ∷ (48 + n % 10) ∷ [], file (primary (codes "Vlan1") (256 + n) 16 ∷ []))) (range_with_len 0 64)))
 
 pub all_others : linked crowd (at 5 0) ≡ map (λ n. at n 0) (filter (λ n. not (n == 5)) (range_with_len 0 64))
 unfolding links_of type_of

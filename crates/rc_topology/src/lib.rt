@@ -8,9 +8,11 @@ mod filling;
 mod linked;
 mod links;
 mod order;
+mod pairs;
 mod port;
 mod ports;
 mod prefix_set;
+mod sharing;
 mod takers;
 
 pub use linked::Linked;

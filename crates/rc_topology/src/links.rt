@@ -1,24 +1,28 @@
 //! Which interfaces share a link, and whose an address is.
-ghost use Rattle.std.specs.Prelude.{◌≡◌, IfOk, None, Some};
+ghost use Rattle.std.specs.Prelude.{◌≡◌, filter, length, IfOk, None, Some};
 ghost use Rattle.std.specs.Option.{option_copied};
 ghost use Rattle.rc_topology.specs.Ports as port;
 ghost use Rattle.rc_topology.specs.Links as spec;
-ghost use Rattle.rc_topology.specs.Order.{IsInOrder};
+ghost use Rattle.rc_topology.specs.Order.{AreInPositionOrder};
 
 use crate::filling::{Indexes, host, indexes_of};
 use crate::order::some_of_router;
+use crate::pairs::pairs_of;
 use crate::ports::all_ports;
+use crate::sharing::Sharing;
 use crate::{Linked, Port, Takers};
 use rc_base::{Addr, IfId, Items, Prefix, RouterId};
-use rc_config::{IfType, Network};
+use rc_config::{IfType, Network, Pair};
 use std::alloc::{AllocError, Global};
 use std::marker::Model;
 
-/// The links of a network, seen as the interfaces of each router, from which links are told.
+/// The links of a network, seen as the interfaces of each router and the pairs between which the network is cut, from which links are
+/// told.
 ///
 /// Beside these it keeps the interfaces of each prefix and the owners of each address, so that no call looks at every pair.
 pub struct Links {
     ports: Items<Items<Port>>,
+    cuts: Items<Pair>,
     indexes: Indexes,
 }
 
@@ -27,6 +31,7 @@ impl Drop for Links {
     fn drop(self) {
         let Links {
             ports: _,
+            cuts: _,
             indexes: _,
         } = self;
     }
@@ -39,9 +44,24 @@ impl Model for Links {
 
     ghost use Rattle.rc_topology.specs.Filling.{IsIndexed};
 
-    ghost view = { λ l. record { ports = l.ports } };
+    ghost view = { λ l. record { ports = l.ports; cuts = l.cuts } };
 
-    ghost invariant = { λ l. IsIndexed (record { ports = l.ports }) l.indexes };
+    ghost invariant = { λ l. IsIndexed (record { ports = l.ports; cuts = l.cuts }) l.indexes };
+}
+
+/// Whether a pair is of these two interfaces.
+fn is_between(one: &IfId, other: &IfId, pair: &Pair) -> bool
+    ensures { result ≡ spec.is_between one.now other.now pair.now }
+{
+    (*one == pair.first && *other == pair.second) || (*one == pair.second && *other == pair.first)
+}
+
+/// The same pairs.
+fn copied(alloc: Global, pairs: &[Pair]) -> Result<Items<Pair>, AllocError>
+    ensures { IfOk result (λ all. all ≡ pairs.now) }
+{
+    let items = Vec::from_slice(alloc, pairs)?;
+    Ok(Items::from_vec(items))
 }
 
 impl Links {
@@ -52,7 +72,19 @@ impl Links {
     {
         let ports = all_ports(alloc, net)?;
         let indexes = indexes_of(alloc, ports.as_slice())?;
-        Ok(Links { ports, indexes })
+        let cuts = copied(alloc, net.cuts.as_slice())?;
+        Ok(Links {
+            ports,
+            cuts,
+            indexes,
+        })
+    }
+
+    /// How many routers the network has.
+    pub(crate) fn routers(&self) -> usize
+        ensures { result ≡ length self.now.ports }
+    {
+        self.ports.len()
     }
 
     /// What is kept of the interfaces of a router, as declared; none where the network has no such router.
@@ -77,7 +109,7 @@ impl Links {
     /// The interfaces that have a prefix and aren't loopbacks, in position order.
     pub(crate) fn on_prefix(&self, prefix: &Prefix) -> &[IfId]
         ensures value { result.now ≡ spec.on_prefix self.now prefix.now }
-        ensures in_order { IsInOrder result.now }
+        ensures in_order { AreInPositionOrder result.now }
     {
         self.indexes.by_prefix.members(prefix)
     }
@@ -85,7 +117,7 @@ impl Links {
     /// The interfaces that have an address, in position order.
     fn owners(&self, addr: Addr) -> &[IfId]
         ensures value { result.now ≡ spec.owners self.now addr }
-        ensures in_order { IsInOrder result.now }
+        ensures in_order { AreInPositionOrder result.now }
     {
         self.indexes.by_addr.members(&host(addr))
     }
@@ -101,18 +133,43 @@ impl Links {
         }
     }
 
-    /// Whether two interfaces share a link: they are of different routers, neither is a loopback, and some address of each
-    /// has the same prefix.
-    pub fn are_linked(&self, one: IfId, other: IfId) -> bool
-        ensures { result ≡ spec.are_linked self.now one other }
+    /// Whether two interfaces are of different routers, neither is a loopback, and some address of each has the same prefix.
+    fn share_subnet(&self, one: &IfId, other: &IfId) -> bool
+        ensures { result ≡ spec.share_subnet self.now one.now other.now }
     {
         if one.router == other.router {
             return false;
         }
-        let (Some(this), Some(that)) = (self.port(one), self.port(other)) else {
+        let (Some(this), Some(that)) = (self.port(*one), self.port(*other)) else {
             return false;
         };
         this.shares_prefix(that)
+    }
+
+    /// Whether the network is cut between two interfaces.
+    pub(crate) fn is_cut(&self, one: &IfId, other: &IfId) -> bool
+        ensures { result ≡ spec.is_cut self.now one.now other.now }
+    {
+        self.cuts
+            .as_slice()
+            .iter()
+            .any(|cut| is_between(one, other, cut))
+    }
+
+    /// Whether two interfaces share a link: they are of different routers, neither is a loopback, some address of each
+    /// has the same prefix, and the network isn't cut between them.
+    pub fn are_linked(&self, one: IfId, other: IfId) -> bool
+        ensures { result ≡ spec.are_linked self.now one other }
+    {
+        self.share_subnet(&one, &other) && !self.is_cut(&one, &other)
+    }
+
+    /// The interfaces that share a subnet with one, in position order.
+    #[tactic(auto, using(crate::proofs::LeftLaws::sharing_left))]
+    fn sharing(&self, interface: &IfId) -> Sharing<'_>
+        ensures { result ≡ filter (spec.share_subnet self.now interface.now) (spec.all_ids self.now) }
+    {
+        Sharing::new(self, interface.router, self.link_prefixes(*interface))
     }
 
     /// The interfaces that share a link with one, in position order.
@@ -120,7 +177,15 @@ impl Links {
     pub fn linked(&self, interface: IfId) -> Linked<'_>
         ensures { result ≡ spec.linked self.now interface }
     {
-        Linked::new(self, interface.router, self.link_prefixes(interface))
+        Linked::new(self, interface, self.sharing(&interface))
+    }
+
+    /// All pairs of interfaces that share a link, each once: the interface that stands first in position order is the first of its pair,
+    /// and pairs are in that order. It errs only where memory runs out.
+    pub fn pairs(&self, alloc: Global) -> Result<Items<Pair>, AllocError>
+        ensures { IfOk result (λ all. all ≡ spec.pairs self.now) }
+    {
+        pairs_of(alloc, self)
     }
 
     /// The takers of an address on a link of an interface: the interfaces that share a link with it and have the address, in

@@ -1,12 +1,12 @@
 //! Interfaces in position order, found by bisection.
 ghost use Rattle.std.specs.Prelude.{◌≡◌, ◌==◌, not, nat_lt, slice_get};
 ghost use Rattle.std.specs.List.{find, list_any};
-ghost use Rattle.rc_topology.specs.Order.{is_before, is_behind, earlier, IsInOrder};
+ghost use Rattle.rc_topology.specs.Order.{is_before, is_behind, earlier, AreInPositionOrder};
 
 use rc_base::{IfId, RouterId};
 
 /// Whether one interface stands before another in position order.
-fn is_before(one: &IfId, other: &IfId) -> bool
+pub(crate) fn is_before(one: &IfId, other: &IfId) -> bool
     ensures { result ≡ is_before one.now other.now }
 {
     let (this, that) = (one.router.index(), other.router.index());
@@ -26,7 +26,7 @@ fn at(interfaces: &[IfId], index: usize) -> Option<IfId>
 
 /// The first interface that stands behind one.
 fn first_past(interfaces: &[IfId], last: &IfId) -> Option<IfId>
-    requires { IsInOrder interfaces.now }
+    requires { AreInPositionOrder interfaces.now }
     ensures { result ≡ find (is_before last.now) interfaces.now }
 {
     let first = interfaces.partition_point(|other| !is_before(last, other));
@@ -35,7 +35,7 @@ fn first_past(interfaces: &[IfId], last: &IfId) -> Option<IfId>
 
 /// The first interface that stands behind one, or the first of all where there is none.
 pub(crate) fn first_behind(interfaces: &[IfId], last: &Option<IfId>) -> Option<IfId>
-    requires { IsInOrder interfaces.now }
+    requires { AreInPositionOrder interfaces.now }
     ensures { result ≡ find (is_behind last.now) interfaces.now }
 {
     match last {
@@ -46,7 +46,7 @@ pub(crate) fn first_behind(interfaces: &[IfId], last: &Option<IfId>) -> Option<I
 
 /// The first interface of a router or of a later one.
 fn first_from_router(interfaces: &[IfId], router: RouterId) -> Option<IfId>
-    requires { IsInOrder interfaces.now }
+    requires { AreInPositionOrder interfaces.now }
     ensures { result ≡ find (λ i. not (nat_lt i.router router)) interfaces.now }
 {
     let first = interfaces.partition_point(|other| other.router.index() < router.index());
@@ -55,7 +55,7 @@ fn first_from_router(interfaces: &[IfId], router: RouterId) -> Option<IfId>
 
 /// Whether some interface is of a router.
 pub(crate) fn some_of_router(interfaces: &[IfId], router: RouterId) -> bool
-    requires { IsInOrder interfaces.now }
+    requires { AreInPositionOrder interfaces.now }
     ensures { result ≡ list_any (λ i. i.router == router) interfaces.now }
 {
     let first = first_from_router(interfaces, router);
@@ -67,7 +67,7 @@ pub(crate) fn some_of_router(interfaces: &[IfId], router: RouterId) -> bool
 
 /// The first interface of a later router.
 pub(crate) fn first_past_router(interfaces: &[IfId], router: RouterId) -> Option<IfId>
-    requires { IsInOrder interfaces.now }
+    requires { AreInPositionOrder interfaces.now }
     ensures { result ≡ find (λ i. nat_lt router i.router) interfaces.now }
 {
     let first = interfaces.partition_point(|other| other.router.index() <= router.index());

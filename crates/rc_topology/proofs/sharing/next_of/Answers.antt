@@ -2,7 +2,7 @@ use Rattle.std.proofs.Common.{◌==◌, not, ap, sym, ◌∙◌}
 use Rattle.rc_topology.specs.Order.{is_behind}
 use Rattle.rc_topology.proofs.ListLaws.{find_and, find_none_and}
 use Rattle.rc_topology.proofs.OrderLaws.{first_of_later, same_number}
-use Rattle.rc_topology.proofs.linked.next_of.Goals as goal
+use Rattle.rc_topology.proofs.sharing.next_of.Goals as goal
 
 -- behind the last one there is none
 pub returns-in-None : goal.returns-in-None

@@ -1,6 +1,6 @@
 use Rattle.std.proofs.Common.{ap, length, sym, ◌∙◌, arith}
 use Rattle.rc_topology.proofs.LeftLaws.{left_then, left_none}
-use Rattle.rc_topology.proofs.linked.LinkedIterator.next.Goals as goal
+use Rattle.rc_topology.proofs.sharing.SharingIterator.next.Goals as goal
 
 -- the first one left comes, and the others are left
 pub returns-in-Some-clause-steps : goal.returns-in-Some-clause-steps
