@@ -13,7 +13,7 @@ use Rattle.rc_route.specs.Hops.{hop_cmp}
 use Rattle.rc_route.specs.Ways.{Way, lower, least_cost, hops_at, best_of}
 use Rattle.rc_route.specs.declared.route.Hop.{Hop}
 use Rattle.rc_route.proofs.WayLaws as way_laws
-use Rattle.rc_ospf.specs.BestOffers.{better_of, better, best_from, HasBest}
+use Rattle.rc_ospf.specs.BestOffers.{better_of, cheaper, best_from, HasBest}
 use Rattle.rc_ospf.specs.ByPrefix.{path_to_offer, way_to_offer, ways_of, cost_to, hops_for}
 use Rattle.rc_ospf.specs.Offered.{Offered}
 use Rattle.rc_ospf.specs.Walks.{LeastWalks, Reach}
@@ -126,7 +126,7 @@ module _ (reach : Reach) (others : Bool) (r : ℕ) (all : List Offered) where
           by true is = after_more (less_if (e.cost + o.cost) b.cost is)
           by false is = by_same (e.cost + o.cost == b.cost) refl (not_less_if (e.cost + o.cost) b.cost is)
 
-    way_taken : (best : Option Best) → Known reach others r all ws best → Known reach others r all (ws ++ way_over (e.cost + o.cost) e ∷ []) (better (Some (e.cost + o.cost)) best i)
+    way_taken : (best : Option Best) → Known reach others r all ws best → Known reach others r all (ws ++ way_over (e.cost + o.cost) e ∷ []) (cheaper (Some (e.cost + o.cost)) best i)
     way_taken None known = after_none known
     way_taken (Some b) known = after_some b known
 
@@ -140,11 +140,11 @@ module _ (reach : Reach) (others : Bool) (r : ℕ) (all : List Offered) where
       by (Some w) rest = ap (λ ws. w ∷ ws) rest
 
   offer_taken : (front : List Offered) (o : Offered) (best : Option Best) (i : ℕ) → i < length all → ((d : Offered) → get_or all i d ≡ o)
-      → Known reach others r all (ways_of reach others r front) best → Known reach others r all (ways_of reach others r (front ++ o ∷ [])) (better (cost_to reach others r o) best i)
-  offer_taken front o best i lt here known = subst (λ ws. Known reach others r all ws (better (cost_to reach others r o) best i)) (sym (ways_more front o)) (by (path_to_offer reach others r o) refl)
+      → Known reach others r all (ways_of reach others r front) best → Known reach others r all (ways_of reach others r (front ++ o ∷ [])) (cheaper (cost_to reach others r o) best i)
+  offer_taken front o best i lt here known = subst (λ ws. Known reach others r all ws (cheaper (cost_to reach others r o) best i)) (sym (ways_more front o)) (by (path_to_offer reach others r o) refl)
     where
       by : (p : Option LeastWalks) → path_to_offer reach others r o ≡ p → Known reach others r all (ways_of reach others r front ++ cons_option (option_map (λ (e : LeastWalks). way_over (e.cost + o.cost) e) p) [])
-          (better (option_map (λ (e : LeastWalks). e.cost + o.cost) p) best i)
+          (cheaper (option_map (λ (e : LeastWalks). e.cost + o.cost) p) best i)
       by None found = subst (λ ws. Known reach others r all ws best) (sym (append-nil (ways_of reach others r front))) known
       by (Some e) found = way_taken (ways_of reach others r front) o e i lt here found best known
 
@@ -155,7 +155,7 @@ module _ (reach : Reach) (others : Bool) (r : ℕ) (all : List Offered) where
       let long : length all ≡ length front + length (o ∷ os) = ap length is ∙ length-append front (o ∷ os) in
       let lt : i < length all = omega (arith, long, at) in
       let here : (d : Offered) → get_or all i d ≡ o = λ d. ap (λ xs. get_or xs i d) is ∙ get_or_at front o os d i (sym at) in
-      rest_taken os (front ++ o ∷ []) (i + 1) (better (cost_to reach others r o) best i) (is ∙ sym (append_assoc front (o ∷ []) os))
+      rest_taken os (front ++ o ∷ []) (i + 1) (cheaper (cost_to reach others r o) best i) (is ∙ sym (append_assoc front (o ∷ []) os))
       (ap (λ n. n + 1) at ∙ sym (length-append front (o ∷ []))) (offer_taken front o best i lt here known)
 
   all_taken : Known reach others r all (ways_of reach others r all) (best_from reach others r None 0 all)

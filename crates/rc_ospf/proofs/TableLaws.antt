@@ -6,7 +6,7 @@ use Rattle.rc_config.specs.declared.network.Network.{Network}
 use Rattle.rc_ospf.specs.Areas.{OspfRouter, without_stubs}
 use Rattle.rc_ospf.specs.Boundaries.{boundary_routers, boundary_path, boundary_paths}
 use Rattle.rc_ospf.specs.BoundaryForms.{target_of, path_of_target}
-use Rattle.rc_ospf.specs.ByPrefix.{destination_of, route_of}
+use Rattle.rc_ospf.specs.ByPrefix.{destination_of, destination_route}
 use Rattle.rc_ospf.specs.Members.{known, AreMembers}
 use Rattle.rc_ospf.specs.Routes.{with_default, offered_rows, internal_route, internal_routes}
 use Rattle.rc_ospf.specs.declared.adjacency.Step.{Step}
@@ -20,12 +20,12 @@ filter_map-map f g [] = refl
 filter_map-map f g (x ∷ xs) = ap (cons_option (f (g x))) (filter_map-map f g xs)
 
 pub routes_are : (routers : List OspfRouter) (adverts : List Advert) (ms : List Member) →
-    map (λ m. filter_map (route_of (known Kept m)) (map (destination_of routers) (with_default (offered_rows adverts)))) ms ≡ map (internal_routes routers adverts) (map (known Kept) ms)
+    map (λ m. filter_map (destination_route (known Kept m)) (map (destination_of routers) (with_default (offered_rows adverts)))) ms ≡ map (internal_routes routers adverts) (map (known Kept) ms)
 unfolding internal_routes
 routes_are routers adverts [] = refl
 routes_are routers adverts (m ∷ ms) =
-    ap (λ t. t ∷ map (λ x. filter_map (route_of (known Kept x)) (map (destination_of routers) (with_default (offered_rows adverts)))) ms)
-    (filter_map-map (route_of (known Kept m)) (destination_of routers) (with_default (offered_rows adverts)))
+    ap (λ t. t ∷ map (λ x. filter_map (destination_route (known Kept x)) (map (destination_of routers) (with_default (offered_rows adverts)))) ms)
+    (filter_map-map (destination_route (known Kept m)) (destination_of routers) (with_default (offered_rows adverts)))
     ∙ ap (λ ts. filter_map (internal_route routers (known Kept m)) (with_default (offered_rows adverts)) ∷ ts) (routes_are routers adverts ms)
 
 -- the paths of one router

@@ -2,6 +2,7 @@
 use Rattle.std.specs.Prelude.{◌≡◌, true, false, ℕ, ◌+◌, List, [], ◌∷◌, ◌++◌, refl}
 use Rattle.std.specs.Option.{option_map}
 use Rattle.rc_base.specs.Prefix.{Cidr}
+use Rattle.rc_config.specs.Cuts.{uncut}
 use Rattle.rc_config.specs.IfType.{type_of}
 use Rattle.rc_config.specs.declared.command.Command.{Command}
 use Rattle.rc_config.specs.declared.network.Network.{Network}
@@ -25,7 +26,7 @@ from_letter letter [] = []
 from_letter letter (f ∷ fs) = (letter ∷ [], f) ∷ from_letter (letter + 1) fs
 
 abbrev pub network_of : List RouterText → Network
-network_of files = record { routers = from_letter 97 files }
+network_of files = uncut (from_letter 97 files)
 
 -- a file with a process that has these stub areas
 abbrev pub with_stubs : List StubArea → RouterText → RouterText

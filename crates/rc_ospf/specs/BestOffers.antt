@@ -14,15 +14,15 @@ better_of b c at =
     else if c == b.cost then record { cost = c; at = b.at; is_alone = false }
     else b
 
-abbrev pub better : Option ℕ → Option Best → ℕ → Option Best
-better None best at = best
-better (Some c) None at = Some (record { cost = c; at = at; is_alone = true })
-better (Some c) (Some b) at = Some (better_of b c at)
+abbrev pub cheaper : Option ℕ → Option Best → ℕ → Option Best
+cheaper None best at = best
+cheaper (Some c) None at = Some (record { cost = c; at = at; is_alone = true })
+cheaper (Some c) (Some b) at = Some (better_of b c at)
 
 -- of the offers from a place on
 abbrev pub best_from : Reach → Bool → ℕ → Option Best → ℕ → List Offered → Option Best
 best_from reach others r best at [] = best
-best_from reach others r best at (o ∷ os) = best_from reach others r (better (cost_to reach others r o) best at) (at + 1) os
+best_from reach others r best at (o ∷ os) = best_from reach others r (cheaper (cost_to reach others r o) best at) (at + 1) os
 
 -- where no other way costs as much, the offer at the place has the hops of all that do
 pub record HasBest (reach : Reach) (others : Bool) (r : ℕ) (offers : List Offered) (b : Best) : Type 0 where

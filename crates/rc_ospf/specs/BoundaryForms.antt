@@ -17,5 +17,5 @@ abbrev pub path_of_target : OspfRouter → Target → Option BoundaryPath
 path_of_target m target = boundary_path_by m target.router target.inside target.summaries
 
 -- the paths of a router to some others
-abbrev pub paths_of : List Target → Member → List BoundaryPath
-paths_of targets m = filter_map (path_of_target (known LeftOut m)) targets
+abbrev pub boundary_paths : List Target → Member → List BoundaryPath
+boundary_paths targets m = filter_map (path_of_target (known LeftOut m)) targets

@@ -50,5 +50,5 @@ summary_offers false s = s.outward
 abbrev pub destination_of : List OspfRouter → Row → Destination
 destination_of routers row = record { prefix = row.prefix; inside = row.offers; summaries = summaries_of routers (is_default row.prefix) row.offers }
 
-abbrev pub route_of : OspfRouter → Destination → Option Route
-route_of m d = internal_route_to m d.prefix d.inside d.summaries
+abbrev pub destination_route : OspfRouter → Destination → Option Route
+destination_route m d = internal_route_to m d.prefix d.inside d.summaries

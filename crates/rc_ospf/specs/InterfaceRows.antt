@@ -3,6 +3,7 @@ use Rattle.std.specs.Prelude.{◌≡◌, ℕ, ◌+◌, ◌-◌, ◌*◌, ◌^◌
 use Rattle.std.specs.List.{fold}
 use Rattle.std.specs.Option.{option_map}
 use Rattle.rc_base.specs.Prefix.{Cidr}
+use Rattle.rc_config.specs.Cuts.{uncut}
 use Rattle.rc_config.specs.IfType.{type_of}
 use Rattle.rc_config.specs.Update.{after, empty}
 use Rattle.rc_config.specs.declared.command.Command.{Command}
@@ -57,10 +58,10 @@ abbrev pub file : List Command → RouterText
 file commands = fold after empty commands
 
 abbrev one : List Command → Network
-one commands = record { routers = (codes "a", file commands) ∷ [] }
+one commands = uncut ((codes "a", file commands) ∷ [])
 
 abbrev pub two : List Command → List Command → Network
-two a b = record { routers = (codes "a", file a) ∷ (codes "b", file b) ∷ [] }
+two a b = uncut ((codes "a", file a) ∷ (codes "b", file b) ∷ [])
 
 abbrev areas : List Command → List ℕ
 areas commands = map (λ (i : OspfInterface). i.area) (ospf_interfaces (one commands))
@@ -321,7 +322,7 @@ abbrev in_area_one : ℕ → RouterText
 in_area_one n = file (primary eth n 24 ∷ everywhere 1)
 
 abbrev between : RouterText → RouterText → List (List ℕ)
-between a b = map told (steps_of (record { routers = (codes "a", a) ∷ (codes "b", b) ∷ [] }) (links_of (record { routers = (codes "a", a) ∷ (codes "b", b) ∷ [] })))
+between a b = map told (steps_of (uncut ((codes "a", a) ∷ (codes "b", b) ∷ [])) (links_of (uncut ((codes "a", a) ∷ (codes "b", b) ∷ []))))
 
 pub other_stub_flag : between (with_stub 1 (in_area_one 1)) (in_area_one 2) ≡ []
 unfolding ospf_interfaces adjacencies links_of type_of

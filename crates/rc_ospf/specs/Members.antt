@@ -4,7 +4,7 @@ use Rattle.std.specs.List.{filter_map}
 use Rattle.rc_config.specs.declared.network.Network.{Network}
 use Rattle.rc_route.specs.declared.route.Route.{Route}
 use Rattle.rc_ospf.specs.Areas.{OspfRouter, summaries_of}
-use Rattle.rc_ospf.specs.ByPrefix.{route_of}
+use Rattle.rc_ospf.specs.ByPrefix.{destination_route}
 use Rattle.rc_ospf.specs.Edges.{IsFitStep, AreAreaGraphs}
 use Rattle.rc_ospf.specs.Offered.{Offered}
 use Rattle.rc_ospf.specs.Paths.{path_in}
@@ -52,7 +52,7 @@ pub record IsRoot (s : LinkStates) (r : ℕ) : Type 0 where
 
 -- the routes of a router to some destinations
 abbrev pub table_of : List Destination → Member → List Route
-table_of destinations m = filter_map (route_of (known Kept m)) destinations
+table_of destinations m = filter_map (destination_route (known Kept m)) destinations
 
 -- some routers give the same summaries as others, of all that is offered
 pub record SummariseAlike (stubs : StubAreas) (those these : List Member) : Type 0 where

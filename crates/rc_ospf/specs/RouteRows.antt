@@ -1,6 +1,7 @@
 -- Worked cases of routes inside areas, each by computation.
 use Rattle.std.specs.Prelude.{◌≡◌, true, ℕ, List, [], ◌∷◌, ◌++◌, Some, codes, refl}
 use Rattle.rc_base.specs.Prefix.{Cidr}
+use Rattle.rc_config.specs.Cuts.{uncut}
 use Rattle.rc_config.specs.IfType.{type_of}
 use Rattle.rc_config.specs.declared.command.Command.{Command}
 use Rattle.rc_config.specs.declared.command.Command.TheVariants.{InterfaceLine}
@@ -44,10 +45,10 @@ abbrev pub via : ℕ → ℕ → ℕ → Hop
 via r n index = Via (ten n) (Some (record { router = r; index = index }))
 
 abbrev three : List Command → List Command → List Command → Network
-three a b c = record { routers = (codes "a", file a) ∷ (codes "b", file b) ∷ (codes "c", file c) ∷ [] }
+three a b c = uncut ((codes "a", file a) ∷ (codes "b", file b) ∷ (codes "c", file c) ∷ [])
 
 abbrev four : List Command → List Command → List Command → List Command → Network
-four a b c d = record { routers = (codes "a", file a) ∷ (codes "b", file b) ∷ (codes "c", file c) ∷ (codes "d", file d) ∷ [] }
+four a b c d = uncut ((codes "a", file a) ∷ (codes "b", file b) ∷ (codes "c", file c) ∷ (codes "d", file d) ∷ [])
 
 -- ---- two serial lines from a to b, whose loopback is 10.0.9.9
 

@@ -182,7 +182,11 @@ fn path_to_node(
 }
 
 /// What is kept of the least walks to each node.
-fn paths_of(alloc: Global, steps: &[Step], tree: &Tree) -> Result<Items<Option<Path>>, AllocError>
+fn paths_over_tree(
+    alloc: Global,
+    steps: &[Step],
+    tree: &Tree,
+) -> Result<Items<Option<Path>>, AllocError>
     requires spans { AreSpans tree.now.spans.items tree.now.firsts.items }
     requires len { length tree.now.costs.items ≡ length tree.now.spans.items }
     requires small { HasSmallCosts tree.now.costs.items }
@@ -222,7 +226,7 @@ impl AreaGraph {
         ensures paths { IfOk result (AreAreaPaths routers steps.now router) }
     {
         let tree = tree_by(alloc, &self.graph, &self.groups, router.index())?;
-        let paths = paths_of(alloc, steps, &tree)?;
+        let paths = paths_over_tree(alloc, steps, &tree)?;
         Ok(AreaPaths {
             area: self.area,
             paths,

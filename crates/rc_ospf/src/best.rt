@@ -52,10 +52,10 @@ fn better_of(known: Best, cost: u32, at: usize) -> Best
 }
 
 /// The best way known, and one to a later offer at this cost, where there is one.
-fn better(cost: Option<u32>, best: Option<Best>, at: usize) -> Option<Best>
+fn cheaper(cost: Option<u32>, best: Option<Best>, at: usize) -> Option<Best>
     requires best { IfSome best (λ b. b.cost < 2 ^ 27) }
     requires cost { IfSome cost (λ c. c < 2 ^ 27) }
-    ensures value { result ≡ spec.better cost best at }
+    ensures value { result ≡ spec.cheaper cost best at }
     ensures small { IfSome result (λ b. b.cost < 2 ^ 27) }
 {
     match cost {
@@ -79,7 +79,7 @@ pub(crate) fn best_way(member: &Member, others: bool, offers: &[Offer]) -> Optio
 {
     let mut best = None;
     for (index, offer) in offers.iter().enumerate() {
-        best = better(cost_to(member, others, offer), best, index);
+        best = cheaper(cost_to(member, others, offer), best, index);
     }
     best
 }

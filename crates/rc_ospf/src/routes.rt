@@ -4,7 +4,7 @@ ghost use Rattle.std.specs.List.{filter_map, list_any};
 ghost use Rattle.std.specs.Option.{option_map};
 ghost use Rattle.std.specs.Ordering.{nat_cmp};
 ghost use Rattle.rc_ospf.specs.Areas.{is_offered_by, inter};
-ghost use Rattle.rc_ospf.specs.ByPrefix.{summary_offers, route_of, ways_of};
+ghost use Rattle.rc_ospf.specs.ByPrefix.{summary_offers, destination_route, ways_of};
 ghost use Rattle.rc_ospf.specs.Members.{reach_of, known};
 ghost use Rattle.rc_ospf.specs.Routes.{internal_route_over, IsShortRoute};
 ghost use Rattle.rc_route.specs.declared.route.Source.TheVariants.{Ospf, OspfIa};
@@ -95,12 +95,12 @@ fn inter_route(
 }
 
 /// The route of a router: inside areas before between areas, and none to a prefix that it advertises itself.
-fn route_of(
+fn destination_route(
     alloc: Global,
     member: &Member,
     destination: &Destination,
 ) -> Result<Option<Route>, AllocError>
-    ensures value { IfOk result (λ route. route ≡ route_of (known Kept member.now) destination.now) }
+    ensures value { IfOk result (λ route. route ≡ destination_route (known Kept member.now) destination.now) }
     ensures short { IfOk result (λ route. IfSome route IsShortRoute) }
 {
     let inside = destination.inside.as_slice();
@@ -120,12 +120,12 @@ pub(crate) fn routes_of(
     member: &Member,
     destinations: &[Destination],
 ) -> Result<Table, AllocError>
-    ensures value { IfOk result (λ routes. routes ≡ filter_map (route_of (known Kept member.now)) destinations.now) }
+    ensures value { IfOk result (λ routes. routes ≡ filter_map (destination_route (known Kept member.now)) destinations.now) }
     ensures short { IfOk result (All IsShortRoute) }
 {
     let mut routes = with_room(alloc, destinations.len())?;
     for destination in destinations {
-        if let Some(route) = route_of(alloc, member, destination)? {
+        if let Some(route) = destination_route(alloc, member, destination)? {
             routes.push(route)?;
         }
     }

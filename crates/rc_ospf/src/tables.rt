@@ -3,7 +3,7 @@ ghost use Rattle.std.specs.Prelude.{◌≡◌, ◌≤◌, IfOk, All, map, length
 ghost use Rattle.rc_config.specs.Lawful.{IsLawful};
 ghost use Rattle.rc_config.specs.Members.{router_ids};
 ghost use Rattle.rc_route.specs.Tables.{IsTable};
-ghost use Rattle.rc_ospf.specs.BoundaryForms.{target_of, paths_of};
+ghost use Rattle.rc_ospf.specs.BoundaryForms.{target_of, boundary_paths};
 ghost use Rattle.rc_ospf.specs.Boundaries.{boundary_routers};
 ghost use Rattle.rc_ospf.specs.ByPrefix.{destination_of};
 ghost use Rattle.rc_ospf.specs.BoundaryPaths.{IsNear};
@@ -117,16 +117,16 @@ impl<'a> Makes for PathsTo<'a> {
     type Made = Items<Boundary>;
 
     ghost use Rattle.std.specs.Prelude.{All};
-    ghost use Rattle.rc_ospf.specs.BoundaryForms.{paths_of};
+    ghost use Rattle.rc_ospf.specs.BoundaryForms.{boundary_paths};
     ghost use Rattle.rc_ospf.specs.BoundaryPaths.{IsNear};
     ghost use Rattle.rc_ospf.specs.Shares.{IsGiven};
 
     ghost fits = { λ s m. Unit {0} };
 
-    ghost made = { λ s m p. IsGiven (paths_of s.targets.now) (All IsNear) m p };
+    ghost made = { λ s m p. IsGiven (boundary_paths s.targets.now) (All IsNear) m p };
 
     fn make(&self, alloc: Global, member: &Member) -> Result<Items<Boundary>, AllocError>
-        ensures { IfOk result (IsGiven (paths_of self.now.targets.now) (All IsNear) member.now) }
+        ensures { IfOk result (IsGiven (boundary_paths self.now.targets.now) (All IsNear) member.now) }
     {
         paths_to(alloc, member, self.targets)
     }
@@ -141,7 +141,7 @@ fn boundaries<R: Threads + Sync>(
     workers: u32,
 ) -> Result<Items<Items<Boundary>>, AllocError>
     ensures near { IfOk result (All (All IsNear)) }
-    ensures value { IfOk result (λ paths. paths ≡ map (paths_of (map (target_of net.now (map (known LeftOut) members.now)) (boundary_routers net.now))) members.now) }
+    ensures value { IfOk result (λ paths. paths ≡ map (boundary_paths (map (target_of net.now (map (known LeftOut) members.now)) (boundary_routers net.now))) members.now) }
 {
     let targets = targets(rt, alloc, net, members, workers)?;
     let paths = PathsTo {

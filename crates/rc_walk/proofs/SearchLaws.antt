@@ -3,7 +3,7 @@ use Rattle.std.proofs.Common.{refl, ◌≡◌, ap, sym, ◌∙◌, subst, ℕ, z
 use Rattle.std.proofs.lemmas.List.Elements.{Contains-append_left, Contains-append_right, Contains-append_cases, Contains-push, Contains-push_cases}
 use Rattle.std.proofs.lemmas.Bool.{cases_lt}
 use Rattle.rc_walk.proofs.OrderLaws.{at_most_before, at_most_trans, before_trans, one_more}
-use Rattle.rc_walk.specs.Search.{PrecedeBack, AreAtMost, Lead, IsEnd, IsFirstEnd, IsFound, all_found, IsInOrder, IsSearch}
+use Rattle.rc_walk.specs.Search.{PrecedeBack, AreAtMost, Lead, IsEnd, IsFirstEnd, IsFound, all_found, AreInSearchOrder, IsSearch}
 
 -- ---- the order of choices
 
@@ -111,7 +111,7 @@ module _ {P : Type 0} (next : P → ℕ → Option P) (ends : P → ℕ → Bool
       parents = s.parents;
     }
 
-  later_order : (es : List Entry) (n : Entry) → IsInOrder next ends start es → ((f : Entry) → Contains es f → PrecedeBack f.1 n.1) → IsInOrder next ends start (es ++ n ∷ [])
+  later_order : (es : List Entry) (n : Entry) → AreInSearchOrder next ends start es → ((f : Entry) → Contains es f → PrecedeBack f.1 n.1) → AreInSearchOrder next ends start (es ++ n ∷ [])
   later_order [] n order before = ((λ f h. absurd (none_of_none f h)), tt)
   later_order (e ∷ es) n order before =
       ((λ f h. ⊎_elim (λ l. order.0 f l) (λ is. subst (λ (x : Entry). PrecedeBack e.1 x.1) is (before e (as_first e es))) (Contains-push_cases es n f h)), later_order es n order.1 (λ f h. before f (as_later e es f h)))

@@ -7,6 +7,7 @@ use Rattle.rc_base.specs.declared.ending.Ends.{Ends}
 use Rattle.rc_base.specs.declared.header.Header.{Header}
 use Rattle.rc_base.specs.declared.position.IfId.{IfId}
 use Rattle.rc_config.specs.AccessList.{any_address, host_address, no_lines, standard_line, with_line}
+use Rattle.rc_config.specs.Cuts.{uncut}
 use Rattle.rc_config.specs.Interface.{fresh}
 use Rattle.rc_config.specs.Lists.{no_lists}
 use Rattle.rc_config.specs.Update.{empty as empty_file}
@@ -57,7 +58,7 @@ lo0 = codes "Loopback0"
 
 -- the network of routers RA, RB and so on with these interfaces
 abbrev pub network : List (List (List ℕ × Interface)) → Network
-network routers = record { routers = map (λ e. (82 ∷ (e.0 + 65) ∷ [], record empty_file { interfaces = e.1 })) (enumerate_from 0 routers) }
+network routers = uncut (map (λ e. (82 ∷ (e.0 + 65) ∷ [], record empty_file { interfaces = e.1 })) (enumerate_from 0 routers))
 
 -- ---- access lists
 
@@ -77,7 +78,7 @@ lists =
 
 -- the network where each router has these lists
 abbrev pub with_lists : Network → Network
-with_lists net = record { routers = map (λ (e : List ℕ × RouterText). (e.0, record e.1 { lists = record no_lists { access_lists = lists } })) net.routers }
+with_lists net = record net { routers = map (λ (e : List ℕ × RouterText). (e.0, record e.1 { lists = record no_lists { access_lists = lists } })) net.routers }
 
 -- ---- tables
 

@@ -42,9 +42,9 @@ module _ {P : Type 0} (next : P → ℕ → Option P) (ends : P → ℕ → Bool
   abbrev pub all_found : List (P × List ℕ) → P × List ℕ → List (P × List ℕ) → List (P × List ℕ)
   all_found done here rest = done ++ here ∷ rest
 
-  abbrev pub IsInOrder : List (P × List ℕ) → Type 0
-  IsInOrder [] = Unit {0}
-  IsInOrder (e ∷ es) = ((f : P × List ℕ) → Contains es f → PrecedeBack e.1 f.1) × IsInOrder es
+  abbrev pub AreInSearchOrder : List (P × List ℕ) → Type 0
+  AreInSearchOrder [] = Unit {0}
+  AreInSearchOrder (e ∷ es) = ((f : P × List ℕ) → Contains es f → PrecedeBack e.1 f.1) × AreInSearchOrder es
 
   -- Some positions are done, one is at hand, of whose choices c were looked at, and the rest waits in order. With each position
   -- stand the choices that led to it.
@@ -56,7 +56,7 @@ module _ {P : Type 0} (next : P → ℕ → Option P) (ends : P → ℕ → Bool
     pub no_end_here : (d : ℕ) → d < c → ends here.0 d ≡ false
     pub closed_here : (d : ℕ) (t : P) → d < c → next here.0 d ≡ Some t → IsFound (all_found done here rest) (d ∷ here.1) t
     pub earlier : (e : P × List ℕ) → Contains done e → PrecedeBack e.1 here.1
-    pub in_order : IsInOrder (here ∷ rest)
+    pub in_order : AreInSearchOrder (here ∷ rest)
     pub bound : (e : P × List ℕ) → Contains (all_found done here rest) e → PrecedeBack e.1 (c ∷ here.1)
     pub once : (e f : P × List ℕ) → Contains (all_found done here rest) e → Contains (all_found done here rest) f → e.0 ≡ f.0 → e ≡ f
     pub parents : (e : P × List ℕ) → Contains rest e → (w : List ℕ) × (d : ℕ) × (e.1 ≡ d ∷ w) × AreAtMost w here.1

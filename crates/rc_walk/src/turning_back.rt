@@ -96,7 +96,7 @@ fn first_of(best: Option<Way>, other: Option<Way>) -> Option<Way>
 }
 
 /// Of the first ways to all positions and back to them the one whose choices come first.
-fn best_of(
+fn best_round(
     alloc: Global,
     plane: &Plane<'_>,
     header: &Header,
@@ -127,7 +127,7 @@ pub fn looping(
     ensures { IfOk result (λ walk. MatchOption walk (NoLoop plane.now header.now position) (IsShortestLoop plane.now header.now position)) }
 {
     let all = everything(alloc, plane, header, &position)?;
-    let best = best_of(alloc, plane, header, &position, &all)?;
+    let best = best_round(alloc, plane, header, &position, &all)?;
     let Some(way) = best else {
         return Ok(None);
     };

@@ -1,6 +1,6 @@
 use Rattle.std.proofs.Common.{rules, ◌≡◌, ◌+◌, ◌++◌, ◌∷◌, [], drop, ap, sym, ◌∙◌, subst, All, IfSome}
 use Rattle.std.proofs.lemmas.List.{drop_more}
-use Rattle.rc_ospf.specs.ByPrefix.{route_of}
+use Rattle.rc_ospf.specs.ByPrefix.{destination_route}
 use Rattle.rc_ospf.specs.Members.{known}
 use Rattle.rc_ospf.specs.Routes.{IsShortRoute}
 use Rattle.rc_ospf.specs.declared.member.StubAreas.TheVariants.{Kept}
@@ -13,7 +13,7 @@ loop-destination-preserved c =
     let all = c.args.destinations.now in
     let i = c.loop-destination.destination-index in
     let x = c.destination-item.result in
-    let f = route_of (known Kept c.args.member.now) in
+    let f = destination_route (known Kept c.args.member.now) in
     let old = c.loop-destination.routes in
     let left = drop (i + 1) all in
     let so_far = c.loop-destination.invariant in

@@ -1,6 +1,6 @@
 use Rattle.std.proofs.Common.{◌≡◌, ◌∙◌, ap, map, List, All}
 use Rattle.std.proofs.lemmas.Result.{IfOk-weaker}
-use Rattle.rc_ospf.specs.BoundaryForms.{target_of, paths_of}
+use Rattle.rc_ospf.specs.BoundaryForms.{target_of, boundary_paths}
 use Rattle.rc_ospf.specs.BoundaryPaths.{IsNear}
 use Rattle.rc_ospf.specs.Boundaries.{boundary_routers}
 use Rattle.rc_ospf.specs.Members.{known}
@@ -13,11 +13,11 @@ pub made_by-requires-clause-fits : goal.made_by-requires-clause-fits
 made_by-requires-clause-fits g c κs within = λ k d lt. tt
 
 pub returns-clause-near : goal.returns-clause-near
-returns-clause-near g c = IfOk-weaker c.made_by.result _ (All (All IsNear)) (λ ps made. all_of_kind (paths_of c.as_slice.result.now) (All IsNear) c.args.members.now ps made) c.made_by.ensures
+returns-clause-near g c = IfOk-weaker c.made_by.result _ (All (All IsNear)) (λ ps made. all_of_kind (boundary_paths c.as_slice.result.now) (All IsNear) c.args.members.now ps made) c.made_by.ensures
 
 pub returns-clause-value : goal.returns-clause-value
 returns-clause-value g c =
     let ms = c.args.members.now in
     let net = c.args.net.now in
-    IfOk-weaker c.made_by.result _ (λ ps. ps ≡ map (paths_of (map (target_of net (map (known LeftOut) ms)) (boundary_routers net))) ms)
-    (λ ps made. all_given (paths_of c.as_slice.result.now) (All IsNear) ms ps made ∙ ap (λ (ts : List Target). map (paths_of ts) ms) (c.as_slice.ensures ∙ c.in_ok-targets.ensures)) c.made_by.ensures
+    IfOk-weaker c.made_by.result _ (λ ps. ps ≡ map (boundary_paths (map (target_of net (map (known LeftOut) ms)) (boundary_routers net))) ms)
+    (λ ps made. all_given (boundary_paths c.as_slice.result.now) (All IsNear) ms ps made ∙ ap (λ (ts : List Target). map (boundary_paths ts) ms) (c.as_slice.ensures ∙ c.in_ok-targets.ensures)) c.made_by.ensures

@@ -9,8 +9,8 @@ tree_by-requires-clause-ends c = fit_ends c.args.routers _ c.args.self.now.area 
 pub tree_by-requires-clause-costs : goal.tree_by-requires-clause-costs
 tree_by-requires-clause-costs c = fit_costs c.args.routers _ c.args.self.now.area c.args.steps.now _ c.requires.graph.nodes c.requires.graph.edges c.requires.steps c.requires.few
 
-pub paths_of-requires-clause-small : goal.paths_of-requires-clause-small
-paths_of-requires-clause-small c = fit_small c.args.routers _ c.args.self.now.area c.args.steps.now _ _ c.requires.graph.nodes c.requires.graph.edges c.requires.steps c.requires.few c.in_ok-tree.ensures.small
+pub paths_over_tree-requires-clause-small : goal.paths_over_tree-requires-clause-small
+paths_over_tree-requires-clause-small c = fit_small c.args.routers _ c.args.self.now.area c.args.steps.now _ _ c.requires.graph.nodes c.requires.graph.edges c.requires.steps c.requires.few c.in_ok-tree.ensures.small
 
 pub returns-clause-paths : goal.returns-clause-paths
 returns-clause-paths c = subst (λ r. AreAreaPaths c.args.routers c.args.steps.now r (record { area = c.args.self.now.area; paths = c.in_ok-paths.paths })) c.index.ensures

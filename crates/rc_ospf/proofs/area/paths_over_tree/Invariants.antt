@@ -1,6 +1,6 @@
 use Rattle.std.proofs.Common.{◌≡◌, length}
 use Rattle.rc_ospf.specs.Edges.{AreKept}
-use Rattle.rc_ospf.proofs.area.paths_of.Given as goal
+use Rattle.rc_ospf.proofs.area.paths_over_tree.Given as goal
 
 abbrev pub invariant-loop-node : goal.invariant-loop-node
 invariant-loop-node l = record {

@@ -1,5 +1,5 @@
 use Rattle.rc_walk.specs.Ways.{IsBest, IsOneOfFirst}
-use Rattle.rc_walk.proofs.turning_back.best_of.Given as goal
+use Rattle.rc_walk.proofs.turning_back.best_round.Given as goal
 
 -- the best of the rounds at the first so many positions
 abbrev pub invariant-loop-place : goal.invariant-loop-place

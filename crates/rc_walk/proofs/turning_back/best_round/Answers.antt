@@ -2,7 +2,7 @@ use Rattle.std.proofs.Common.{◌≡◌, ◌<◌, Some, length, slice_index_or, 
 use Rattle.std.specs.List.{slice_get}
 use Rattle.rc_base.specs.declared.position.Pos.{Pos}
 use Rattle.rc_walk.proofs.SearchState.{get_there}
-use Rattle.rc_walk.proofs.turning_back.best_of.Goals as goal
+use Rattle.rc_walk.proofs.turning_back.best_round.Goals as goal
 
 pub loop-place-init : goal.loop-place-init
 loop-place-init c = record { none = λ others l turns. absurd (let low = turns.low in omega arith) }

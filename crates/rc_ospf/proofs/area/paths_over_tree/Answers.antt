@@ -2,7 +2,7 @@ use Rattle.std.proofs.Common.{rules, ◌≡◌, ◌+◌, ◌++◌, ◌∷◌, []
 use Rattle.std.proofs.lemmas.List.{length-append}
 use Rattle.rc_ospf.specs.Edges.{IsKept, AreKept}
 use Rattle.rc_ospf.proofs.KeptLaws.{kept_more}
-use Rattle.rc_ospf.proofs.area.paths_of.Goals as goal
+use Rattle.rc_ospf.proofs.area.paths_over_tree.Goals as goal
 
 pub loop-node-preserved : goal.loop-node-preserved
 loop-node-preserved c =
