@@ -16,7 +16,7 @@ use Rattle.rc_route.specs.declared.path.BgpPath.{BgpPath}
 use Rattle.rc_route.specs.declared.route.Route.{Route}
 use Rattle.rc_route.specs.declared.state.RouterState.{RouterState}
 use Rattle.rc_topology.proofs.ListLaws.{all_filter, any_append, filter_agree}
-use Rattle.rc_bgp.specs.Candidates.{advertised_best, advertised_default, best_at, best_among, best_of, best_paths, path_heard, own_at, prefixes_of, prefixes_seen, reachable, sender_prefixes}
+use Rattle.rc_bgp.specs.Candidates.{advertised_best, advertised_default, best_at, best_among, best_with_further, best_paths, path_heard, own_at, prefixes_of, prefixes_seen, reachable, sender_prefixes}
 use Rattle.rc_bgp.specs.Changes.{AreChanges, AreUpdated, CoversChange, IsHeardAlike, ReadsAlike, changes_of, updated_paths, changed_at_senders}
 use Rattle.rc_bgp.specs.Maximum.{maximum_of}
 use Rattle.rc_config.specs.declared.bgp.MaximumPaths.{MaximumPaths}
@@ -121,12 +121,12 @@ module _ (net : Network) (old : List RouterState) where
       ∙ ap (λ o. option_and_then (reachable table) (option_and_then (import net s) (option_and_then (export net s) o))) (ap (option_map (λ (b : Best). b.path)) (none_best_for (paths_of old s.sender) p parts.0)))
       ∙ none_heard table ss p other parts.1
 
-  none_best : (most : MaximumPaths) (table : List Route) (own : List (List BgpPath)) (ss : List Session) (p : Cidr) → list_any (same_prefix p) (prefixes_seen old own ss) ≡ false → best_among net old most table own ss p ≡ None
+  pub none_best : (most : MaximumPaths) (table : List Route) (own : List (List BgpPath)) (ss : List Session) (p : Cidr) → list_any (same_prefix p) (prefixes_seen old own ss) ≡ false → best_among net old most table own ss p ≡ None
   none_best most table own ss p none =
       let seen = sym (any-in_order prefix_cmp same_by_prefix_cmp (same_prefix p) (default_prefix ∷ (flat_map prefixes_of own ++ flat_map (sender_prefixes old) ss))) ∙ none in
       let parts = or_parts (same_prefix p default_prefix) (list_any (same_prefix p) (flat_map prefixes_of own ++ flat_map (sender_prefixes old) ss)) seen in
       let others = or_parts (list_any (same_prefix p) (flat_map prefixes_of own)) (list_any (same_prefix p) (flat_map (sender_prefixes old) ss)) (sym (any_append (same_prefix p) (flat_map prefixes_of own) (flat_map (sender_prefixes old) ss)) ∙ parts.1) in
-      ap (best_of most) (λ i. none_own own p others.0 i ++ none_heard table ss p parts.0 others.1 i)
+      ap (best_with_further most) (λ i. none_own own p others.0 i ++ none_heard table ss p parts.0 others.1 i)
 
 module _ (net : Network) (sessions : List (List Session)) (r : ℕ) (changes : List (List Cidr)) (now : List RouterState) where
   keeps : (p : Cidr) (b : Best) → best_at net sessions now r p ≡ Some b → b.path.prefix ≡ p
@@ -189,8 +189,8 @@ module _ (net : Network) (sessions : List (List Session)) (r : ℕ) where
     stays_best : (p : Cidr) → list_any (same_prefix p) (changed_at_senders changes (up_sessions sessions now r)) ≡ false → best_at net sessions old r p ≡ best_at net sessions now r p
     stays_best p none =
         let unsuspected = sym (any-in_order prefix_cmp same_by_prefix_cmp (same_prefix p) (flat_map (λ (s : Session). changes_of changes s.sender) (up_sessions sessions now r))) ∙ none in
-        ap (λ ss. best_of (maximum_of net r) (own_at (own_paths net (table_of old r) r) p ++ filter_map (λ s. path_heard net old (table_of old r) s p) ss)) same_up
-        ∙ (λ i. best_of (maximum_of net r) (own_at (alike.own i) p ++ all_heard p (up_sessions sessions now r) (all_filter (IsHeardAlike r old now) (is_up now) (sessions_of sessions r) alike.heard) unsuspected i))
+        ap (λ ss. best_with_further (maximum_of net r) (own_at (own_paths net (table_of old r) r) p ++ filter_map (λ s. path_heard net old (table_of old r) s p) ss)) same_up
+        ∙ (λ i. best_with_further (maximum_of net r) (own_at (alike.own i) p ++ all_heard p (up_sessions sessions now r) (all_filter (IsHeardAlike r old now) (is_up now) (sessions_of sessions r) alike.heard) unsuspected i))
 
     pub updated_is_best : (paths : List Best) (changed : List Cidr) → paths_of now r ≡ best_paths net sessions old r → AreUpdated net sessions changes now r paths changed → paths ≡ best_paths net sessions now r
     updated_is_best paths changed is updated =

@@ -30,7 +30,7 @@ use Rattle.rc_bgp.specs.Originating.{by_network, by_networks, from_route, is_bgp
 use Rattle.rc_bgp.specs.Redistributing.{med_of, redistributed, redistributed_paths, redistributes}
 use Rattle.rc_bgp_session.specs.Passing.{as_sent, as_received, default_path, exported, export, imported, import, is_withheld, mapped_path, originated_default, passes_list, weight_of, with_med}
 use Rattle.rc_bgp.specs.Reaching.{metric_to}
-use Rattle.rc_bgp.specs.Candidates.{advertised, advertised_best, advertised_default, best_among, best_of, candidates_at, further, path_heard, own_at, prefixes_of, prefixes_seen, reachable, sender_prefixes, with_further}
+use Rattle.rc_bgp.specs.Candidates.{advertised, advertised_best, advertised_default, best_among, best_with_further, candidates_at, further, path_heard, own_at, prefixes_of, prefixes_seen, reachable, sender_prefixes, with_further}
 use Rattle.rc_bgp_session.specs.declared.session.Session.{Session}
 use Rattle.rc_config.specs.declared.bgp.MaximumPaths.{MaximumPaths}
 use Rattle.rc_bgp.proofs.PartLaws.{Has, ask_has, either_has, map_has, mapped_has, none_has, or_has, some_has, then_has}
@@ -44,13 +44,13 @@ at_index P (y ∷ ys) (suc i) x all found = at_index P ys i x all.1 found
 abbrev prefix_of : BgpPath → Cidr
 prefix_of x = x.prefix
 
-exported_has : (p : Cidr) (s : Session) (x : BgpPath) → x.prefix ≡ p → (file : RouterText) (asn : ℕ) (n : Neighbor) → Has prefix_of p (exported file asn n s x)
+pub exported_has : (p : Cidr) (s : Session) (x : BgpPath) → x.prefix ≡ p → (file : RouterText) (asn : ℕ) (n : Neighbor) → Has prefix_of p (exported file asn n s x)
 exported_has p s x is file asn n =
     either_has prefix_of p (is_withheld s x) None _ (none_has prefix_of p)
     (either_has prefix_of p (not (passes_list file n.settings.list_out x.prefix)) None _ (none_has prefix_of p)
     (mapped_has prefix_of p (as_sent asn s n) (λ y. refl) (mapped_path file n.settings.map_out (with_med s x)) (map_has prefix_of (λ x a. refl) p file n.settings.map_out (with_med s x) is)))
 
-imported_has : (p : Cidr) (s : Session) (x : BgpPath) → x.prefix ≡ p → (file : RouterText) (asn : ℕ) (n : Neighbor) → Has prefix_of p (imported file asn n s x)
+pub imported_has : (p : Cidr) (s : Session) (x : BgpPath) → x.prefix ≡ p → (file : RouterText) (asn : ℕ) (n : Neighbor) → Has prefix_of p (imported file asn n s x)
 imported_has p s x is file asn n =
     either_has prefix_of p (list_any (λ a. a == asn) x.as_path) None _ (none_has prefix_of p)
     (either_has prefix_of p (not (passes_list file n.settings.list_in x.prefix)) None _ (none_has prefix_of p)
@@ -83,14 +83,14 @@ module _ (net : Network) (old : List RouterState) where
       by true is = or_has prefix_of p (originated_default net s) (advertised_best net old s p) (default_has p net s (sym (same_is p default_prefix is))) (best_has p s)
       by false is = best_has p s
 
-  reachable_has : (p : Cidr) (table : List Route) (x : BgpPath) → x.prefix ≡ p → Has prefix_of p (reachable table x)
+  pub reachable_has : (p : Cidr) (table : List Route) (x : BgpPath) → x.prefix ≡ p → Has prefix_of p (reachable table x)
   reachable_has p table x is = by (metric_to table x.next_hop)
     where
       by : (o : Option ℕ) → Has prefix_of p (option_map (λ metric. record x { igp_metric = metric }) o)
       by None = none_has prefix_of p
       by (Some metric) = some_has prefix_of p (record x { igp_metric = metric }) is
 
-  heard_has : (p : Cidr) (table : List Route) (s : Session) → Has prefix_of p (path_heard net old table s p)
+  pub heard_has : (p : Cidr) (table : List Route) (s : Session) → Has prefix_of p (path_heard net old table s p)
   heard_has p table s =
       then_has prefix_of p (reachable table) (reachable_has p table) (option_and_then (import net s) (advertised net old s p))
       (then_has prefix_of p (import net s) (λ x is. ask_has prefix_of p net s.receiver s.sender_address (λ file asn n. imported file asn n s x) (imported_has p s x is)) (advertised net old s p) (advertised_has p s))
@@ -181,10 +181,10 @@ pub best_found : (paths : List BgpPath) (i : ℕ) (o : Option BgpPath) → Some 
 best_found paths i o place found = found ∙ ap (option_and_then (slice_get paths)) place ∙ sym (best_path_at_place paths)
 
 -- with the next hops of further paths
-pub best_with : (most : MaximumPaths) (paths : List BgpPath) (x copied : BgpPath) (also : List ℕ) → Some x ≡ best_path paths → also ≡ further (number_for most x.source) paths → copied ≡ x → Some (record { path = copied; also = also }) ≡ best_of most paths
+pub best_with : (most : MaximumPaths) (paths : List BgpPath) (x copied : BgpPath) (also : List ℕ) → Some x ≡ best_path paths → also ≡ further (number_for most x.source) paths → copied ≡ x → Some (record { path = copied; also = also }) ≡ best_with_further most paths
 best_with most paths x copied also found is same = (λ i. Some (record { path = same i; also = is i })) ∙ ap (option_map (with_further most paths)) found
 
-pub none_with : (most : MaximumPaths) (paths : List BgpPath) → None ≡ best_path paths → None ≡ best_of most paths
+pub none_with : (most : MaximumPaths) (paths : List BgpPath) → None ≡ best_path paths → None ≡ best_with_further most paths
 none_with most paths none = ap (option_map (with_further most paths)) none
 
 pub none_found : (paths : List BgpPath) → None ≡ best_place paths → None ≡ best_path paths

@@ -8,10 +8,10 @@ use Rattle.std.specs.BTreeSet.{insert_key}
 use Rattle.rc_base.specs.Lists.{in_order}
 use Rattle.rc_route.specs.declared.best.Best.{Best}
 use Rattle.rc_route.specs.declared.route.Hop.TheVariants.{Via}
-use Rattle.rc_bgp.specs.Learning.{gateway, hops_of}
+use Rattle.rc_bgp.specs.Learning.{gateway, hops_of_best}
 
 -- without further next hops the path's own is the only one
-pub no_further : (b : Best) → b.also ≡ [] → Via b.path.next_hop None ∷ [] ≡ hops_of b
+pub no_further : (b : Best) → b.also ≡ [] → Via b.path.next_hop None ∷ [] ≡ hops_of_best b
 no_further b none = sym (ap (λ also. map gateway (in_order nat_cmp (b.path.next_hop ∷ also))) none)
 
 -- all are put into a set one after another

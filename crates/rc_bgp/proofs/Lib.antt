@@ -10,5 +10,6 @@ mod ChangeLaws
 mod PartLaws
 mod ListedLaws
 mod AlikeLaws
+mod GatheringLaws
 mod UpLaws
 mod InterfaceLaws

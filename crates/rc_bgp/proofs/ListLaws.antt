@@ -7,7 +7,7 @@ use Rattle.std.specs.Option.{option_to_list}
 pub first_left : {X : Type 0} (xs : List X) (i : ℕ) (x : X) → i < length xs → x ≡ get_or xs i x → drop i xs ≡ x ∷ drop (i + 1) xs
 first_left xs i x lt is = drop-cons xs i x lt ∙ ap (λ y. y ∷ drop (suc i) xs) (sym is) ∙ ap (λ k. x ∷ drop k xs) (sym (add-one i))
 
-in_front : {P : Type 0} (o : Option P) (rest : List P) → option_to_list o ++ rest ≡ cons_option o rest
+pub in_front : {P : Type 0} (o : Option P) (rest : List P) → option_to_list o ++ rest ≡ cons_option o rest
 in_front None rest = refl
 in_front (Some y) rest = refl
 
@@ -21,3 +21,11 @@ one_made f xs i x all all' done o lt is made pushed kept =
 -- what a pattern leaves of a list behind its first element
 pub behind_front : {X : Type 0} (xs : List X) → take (length xs - 1) (drop 1 xs) ≡ drop 1 xs
 behind_front xs = take_rest xs 1
+
+-- one row more, of an iterator that gives them
+pub one_row : {R P : Type 0} (f : R → Option P) (row : R) (left rest : List R) (all more done : List P) (o : Option P) → left ≡ row ∷ rest → o ≡ f row → more ≡ all ++ option_to_list o
+    → all ++ filter_map f left ≡ done → more ++ filter_map f rest ≡ done
+one_row f row left rest all more done o steps made pushed kept =
+    ap (λ t. t ++ filter_map f rest) pushed ∙ append_assoc all (option_to_list o) (filter_map f rest)
+    ∙ ap (λ t. all ++ t) (in_front o (filter_map f rest) ∙ ap (λ q. cons_option q (filter_map f rest)) made ∙ ap (filter_map f) (sym steps))
+    ∙ kept

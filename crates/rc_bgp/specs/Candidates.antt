@@ -51,8 +51,8 @@ further n paths = next_hops_at paths (drop 1 (multi_places n paths))
 abbrev pub with_further : MaximumPaths → List BgpPath → BgpPath → Best
 with_further most paths x = record { path = x; also = further (number_for most x.source) paths }
 
-abbrev pub best_of : MaximumPaths → List BgpPath → Option Best
-best_of most paths = option_map (with_further most paths) (best_path paths)
+abbrev pub best_with_further : MaximumPaths → List BgpPath → Option Best
+best_with_further most paths = option_map (with_further most paths) (best_path paths)
 
 module _ (net : Network) (old : List RouterState) where
   -- what the sender's best path of a prefix becomes on a session
@@ -81,7 +81,7 @@ module _ (net : Network) (old : List RouterState) where
 
   -- the best path for a prefix, with what goes with it
   abbrev pub best_among : MaximumPaths → List Route → List (List BgpPath) → List Session → Cidr → Option Best
-  best_among most table own sessions p = best_of most (candidates_at table own sessions p)
+  best_among most table own sessions p = best_with_further most (candidates_at table own sessions p)
 
   -- the best path of each prefix that has one, by address, then length
   abbrev pub all_best : MaximumPaths → List Route → List (List BgpPath) → List Session → List Best

@@ -11,7 +11,7 @@ use Rattle.rc_route.specs.declared.path.PathSource.{PathSource}
 use Rattle.rc_route.specs.declared.path.PathSource.TheVariants.{Network as ByNetwork, External, Internal}
 use Rattle.rc_route.specs.declared.route.Hop.TheVariants.{Via}
 use Rattle.rc_route.specs.declared.route.Source.TheVariants.{Ebgp, Ibgp}
-use Rattle.rc_bgp.specs.Candidates.{advertised_best, best_of}
+use Rattle.rc_bgp.specs.Candidates.{advertised_best, best_with_further}
 use Rattle.rc_bgp.specs.Learning.{learned_route}
 use Rattle.rc_config.specs.declared.bgp.MaximumPaths.{MaximumPaths}
 
@@ -29,52 +29,52 @@ four source = over source 1 8 ∷ over source 4 5 ∷ over source 3 6 ∷ over s
 abbrev with : BgpPath → List ℕ → Option Best
 with x also = Some (record { path = x; also = also })
 
-pub none_of_none : best_of (up_to 4 4) [] ≡ None
+pub none_of_none : best_with_further (up_to 4 4) [] ≡ None
 unfolding multi_places
 none_of_none = refl
 
 -- one path, two, as many as there are, and more; those beside the best one in their turn
-pub up_to_one : best_of (up_to 1 1) (four External) ≡ with (over External 1 8) []
+pub up_to_one : best_with_further (up_to 1 1) (four External) ≡ with (over External 1 8) []
 unfolding multi_places
 up_to_one = refl
 
-pub up_to_two : best_of (up_to 2 1) (four External) ≡ with (over External 1 8) (ip 12 7 ∷ [])
+pub up_to_two : best_with_further (up_to 2 1) (four External) ≡ with (over External 1 8) (ip 12 7 ∷ [])
 unfolding multi_places
 up_to_two = refl
 
-pub up_to_four : best_of (up_to 4 1) (four External) ≡ with (over External 1 8) (ip 12 7 ∷ ip 12 6 ∷ ip 12 5 ∷ [])
+pub up_to_four : best_with_further (up_to 4 1) (four External) ≡ with (over External 1 8) (ip 12 7 ∷ ip 12 6 ∷ ip 12 5 ∷ [])
 unfolding multi_places
 up_to_four = refl
 
-pub up_to_many : best_of (up_to 32 1) (four External) ≡ with (over External 1 8) (ip 12 7 ∷ ip 12 6 ∷ ip 12 5 ∷ [])
+pub up_to_many : best_with_further (up_to 32 1) (four External) ≡ with (over External 1 8) (ip 12 7 ∷ ip 12 6 ∷ ip 12 5 ∷ [])
 unfolding multi_places
 up_to_many = refl
 
 -- the number for the other kind doesn't count
-pub internal_number : best_of (up_to 1 4) (four External) ≡ with (over External 1 8) []
+pub internal_number : best_with_further (up_to 1 4) (four External) ≡ with (over External 1 8) []
 unfolding multi_places
 internal_number = refl
 
-pub external_number : best_of (up_to 4 1) (four Internal) ≡ with (over Internal 1 8) []
+pub external_number : best_with_further (up_to 4 1) (four Internal) ≡ with (over Internal 1 8) []
 unfolding multi_places
 external_number = refl
 
-pub internal_paths : best_of (up_to 1 3) (four Internal) ≡ with (over Internal 1 8) (ip 12 7 ∷ ip 12 6 ∷ [])
+pub internal_paths : best_with_further (up_to 1 3) (four Internal) ≡ with (over Internal 1 8) (ip 12 7 ∷ ip 12 6 ∷ [])
 unfolding multi_places
 internal_paths = refl
 
 -- what the router originates stands alone
-pub originated : best_of (up_to 4 4) (ninth 0 ByNetwork ∷ four External) ≡ with (ninth 0 ByNetwork) []
+pub originated : best_with_further (up_to 4 4) (ninth 0 ByNetwork ∷ four External) ≡ with (ninth 0 ByNetwork) []
 unfolding multi_places
 originated = refl
 
 -- the route goes over all of them, by address
-pub route_over_three : option_and_then learned_route (best_of (up_to 3 1) (four External))
+pub route_over_three : option_and_then learned_route (best_with_further (up_to 3 1) (four External))
     ≡ Some (record { prefix = subnet 9; source = Ebgp; distance = 20; metric = 0; hops = Via (ip 12 6) None ∷ Via (ip 12 7) None ∷ Via (ip 12 8) None ∷ [] })
 unfolding multi_places
 route_over_three = refl
 
-pub internal_route_over_two : option_and_then learned_route (best_of (up_to 1 2) (four Internal))
+pub internal_route_over_two : option_and_then learned_route (best_with_further (up_to 1 2) (four Internal))
     ≡ Some (record { prefix = subnet 9; source = Ibgp; distance = 200; metric = 0; hops = Via (ip 12 7) None ∷ Via (ip 12 8) None ∷ [] })
 unfolding multi_places
 internal_route_over_two = refl

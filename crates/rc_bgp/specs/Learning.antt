@@ -15,12 +15,12 @@ abbrev pub gateway : ℕ → Hop
 gateway a = Via a None
 
 -- the next hop of the path and those beside it, by address
-abbrev pub hops_of : Best → List Hop
-hops_of b = map gateway (in_order nat_cmp (b.path.next_hop ∷ b.also))
+abbrev pub hops_of_best : Best → List Hop
+hops_of_best b = map gateway (in_order nat_cmp (b.path.next_hop ∷ b.also))
 
 -- over these hops; the metric is the MED
 abbrev pub route_by : Best → Source → ℕ → Route
-route_by b source distance = record { prefix = b.path.prefix; source = source; distance = distance; metric = b.path.med; hops = hops_of b }
+route_by b source distance = record { prefix = b.path.prefix; source = source; distance = distance; metric = b.path.med; hops = hops_of_best b }
 
 -- a path from another AS has the distance 20, one from the own AS 200, and what the router originates gives no route
 abbrev pub learned_by : Best → PathSource → Option Route

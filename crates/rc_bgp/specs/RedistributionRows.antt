@@ -3,6 +3,7 @@ use Rattle.std.specs.Prelude.{◌≡◌, ℕ, true, false, List, [], ◌∷◌, 
 use Rattle.rc_base.specs.Prefix.{prefix_at}
 use Rattle.rc_base.specs.declared.origin.Origin.TheVariants.{Incomplete}
 use Rattle.rc_config.specs.Bgp.{no_lines}
+use Rattle.rc_config.specs.Cuts.{uncut}
 use Rattle.rc_config.specs.Ospf.{no_lines as no_ospf_lines}
 use Rattle.rc_config.specs.RouteMap.{fresh_entry}
 use Rattle.rc_config.specs.Sets.{no_sets}
@@ -84,16 +85,14 @@ map_rejects = refl
 -- ---- a router of AS 65001 with an OSPF process 1 on 10.0.1.1/24 and a loopback 10.0.9.1/24
 
 abbrev with_process : ℕ → Network
-with_process number = record {
-  routers = (
-    codes "R1",
-    record empty {
-      interfaces = (gigabit, on 1 1 24) ∷ (loopback, on 9 1 24) ∷ [];
-      ospf = Some (record (no_ospf_lines 1) { networks = record { address = 0; wildcard = 4294967295; area = 0 } ∷ [] });
-      bgp = Some (record (no_lines 65001) { redistributions = record { connected = None; static_routes = None; ospf = record { process = number; kinds = kinds; redistribution = plain } ∷ [] } });
-    },
-  ) ∷ [];
-}
+with_process number = uncut ((
+  codes "R1",
+  record empty {
+    interfaces = (gigabit, on 1 1 24) ∷ (loopback, on 9 1 24) ∷ [];
+    ospf = Some (record (no_ospf_lines 1) { networks = record { address = 0; wildcard = 4294967295; area = 0 } ∷ [] });
+    bgp = Some (record (no_lines 65001) { redistributions = record { connected = None; static_routes = None; ospf = record { process = number; kinds = kinds; redistribution = plain } ∷ [] } });
+  },
+) ∷ [])
 
 abbrev own_table : List Route
 own_table = record (from source.Connected 1) { metric = 0 } ∷ from source.Ospf 4 ∷ record (from source.Connected 9) { metric = 0 } ∷ []

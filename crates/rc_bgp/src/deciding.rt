@@ -10,6 +10,7 @@ ghost use Rattle.rc_bgp.specs.Candidates as spec;
 
 use crate::all_originated::own_paths;
 use crate::further::further;
+use crate::gathering::candidates_by_prefix;
 use crate::hearing::candidates_at;
 use crate::maximum::{maximum_of, number_for};
 use crate::originating::{insert, listed};
@@ -23,7 +24,7 @@ use rc_bgp_decide::best;
 use rc_config::{MaximumPaths, Network};
 use rc_route::{Best, BgpPath, State};
 use std::alloc::{AllocError, Global};
-use std::collections::BTreeSet;
+use std::collections::{BTreeMap, BTreeSet};
 
 /// The path at an index.
 fn at_path(paths: &[BgpPath], index: usize) -> Option<&BgpPath>
@@ -46,8 +47,12 @@ fn best_path(paths: &[BgpPath]) -> Option<&BgpPath>
 
 /// The best of some paths again, with the next hops of further ones.
 #[tactic(auto, using(crate::proofs::BestLaws::best_with, crate::proofs::BestLaws::none_with))]
-fn best_of(alloc: Global, most: MaximumPaths, paths: &[BgpPath]) -> Result<Option<Best>, AllocError>
-    ensures { IfOk result (λ best. best ≡ spec.best_of most paths.now) }
+fn best_with_further(
+    alloc: Global,
+    most: MaximumPaths,
+    paths: &[BgpPath],
+) -> Result<Option<Best>, AllocError>
+    ensures { IfOk result (λ best. best ≡ spec.best_with_further most paths.now) }
 {
     let found = best_path(paths);
     match found {
@@ -77,7 +82,7 @@ pub(crate) fn best_among(
     ensures same { OnOk result (resolver.new ≡ resolver.old) }
 {
     let paths = candidates_at(alloc, net, state, resolver, own, sessions, prefix)?;
-    best_of(alloc, most, paths.as_slice())
+    best_with_further(alloc, most, paths.as_slice())
 }
 
 /// Puts the prefixes of paths into a set.
@@ -191,8 +196,24 @@ pub(crate) fn push_some(paths: &mut Items<Best>, best: Option<Best>) -> Result<(
     Ok(())
 }
 
-/// The best path of each of some prefixes.
-fn best_for(
+/// The best of the candidates of each prefix.
+fn best_of_each(
+    alloc: Global,
+    most: MaximumPaths,
+    rows: BTreeMap<Prefix, Items<BgpPath>>,
+) -> Result<Items<Best>, AllocError>
+    ensures { IfOk result (λ paths. paths ≡ filter_map (λ row. spec.best_with_further most row.1) rows.entries) }
+{
+    let mut paths = Items::new(alloc);
+    for (_, candidates) in rows {
+        let best = best_with_further(alloc, most, candidates.as_slice())?;
+        push_some(&mut paths, best)?;
+    }
+    Ok(paths)
+}
+
+/// The best path of each prefix that has a candidate.
+fn all_best(
     alloc: Global,
     net: &Network,
     state: &State,
@@ -200,23 +221,18 @@ fn best_for(
     resolver: &mut Resolver<'_>,
     own: &[Items<BgpPath>],
     sessions: &[Session],
-    prefixes: &[Prefix],
 ) -> Result<Items<Best>, AllocError>
     requires state { All IsRouterState state.now }
     requires own { All IsPathList own.now }
-    ensures { IfOk result (λ paths. paths ≡ filter_map (spec.best_among net.now state.now most resolver.old own.now sessions.now) prefixes.now) }
+    ensures { IfOk result (λ paths. paths ≡ spec.all_best net.now state.now most resolver.old own.now sessions.now) }
 {
-    let mut paths = Items::new(alloc);
-    for prefix in prefixes {
-        let best = best_among(alloc, net, state, most, resolver, own, sessions, prefix)?;
-        push_some(&mut paths, best)?;
-    }
-    Ok(paths)
+    let rows = candidates_by_prefix(alloc, net, state, resolver, own, sessions)?;
+    best_of_each(alloc, most, rows.into_rows())
 }
 
 /// The best paths of a router after a state: for each prefix that has a candidate the best of them (RFC 4271 s.9.1), by address,
 /// then length. It errs only where memory runs out.
-#[tactic(auto, using(crate::proofs::BestLaws::best_in_order), unfolding(crate::specs::Candidates::best_paths))]
+#[tactic(auto, unfolding(crate::specs::Candidates::best_paths))]
 pub(crate) fn best_paths(
     alloc: Global,
     net: &Network,
@@ -231,9 +247,8 @@ pub(crate) fn best_paths(
     let table = table_of(previous, router);
     let own = own_paths(alloc, net, table, router)?;
     let up = up_sessions(alloc, sessions, previous, router)?;
-    let prefixes = prefixes_seen(alloc, previous, own.as_slice(), up.as_slice())?;
     let mut resolver = Resolver::new(alloc, table);
-    best_for(
+    all_best(
         alloc,
         net,
         previous,
@@ -241,7 +256,6 @@ pub(crate) fn best_paths(
         &mut resolver,
         own.as_slice(),
         up.as_slice(),
-        prefixes.as_slice(),
     )
 }
 

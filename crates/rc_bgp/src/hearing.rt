@@ -90,7 +90,7 @@ fn reachable(
 }
 
 /// What the receiver makes of an advertised path.
-fn heard_path(
+pub(crate) fn heard_path(
     alloc: Global,
     net: &Network,
     resolver: &mut Resolver<'_>,
@@ -108,7 +108,7 @@ fn heard_path(
 }
 
 /// What a router with this table hears over a session for a prefix.
-fn path_heard(
+pub(crate) fn path_heard(
     alloc: Global,
     net: &Network,
     state: &State,

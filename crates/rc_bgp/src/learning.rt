@@ -42,7 +42,7 @@ fn gateways(alloc: Global, set: BTreeSet<Addr>) -> Result<Hops, AllocError>
 /// The next hop of a best path and those beside it, of which there are some.
 #[tactic(auto, using(crate::proofs::LearningLaws::hops_in_parts))]
 fn all_hops(alloc: Global, best: &Best) -> Result<Hops, AllocError>
-    ensures { IfOk result (λ hops. hops ≡ spec.hops_of best.now) }
+    ensures { IfOk result (λ hops. hops ≡ spec.hops_of_best best.now) }
 {
     let mut set = BTreeSet::new(alloc);
     insert(&mut set, best.path.next_hop)?;
@@ -53,8 +53,8 @@ fn all_hops(alloc: Global, best: &Best) -> Result<Hops, AllocError>
 /// The next hop of a best path and those beside it. It errs only where there are some.
 #[inline(always)]
 #[tactic(auto, using(crate::proofs::LearningLaws::no_further, crate::proofs::LearningLaws::some_further))]
-fn hops_of(alloc: Global, best: &Best) -> Result<Hops, AllocError>
-    ensures value { IfOk result (λ hops. hops ≡ spec.hops_of best.now) }
+fn hops_of_best(alloc: Global, best: &Best) -> Result<Hops, AllocError>
+    ensures value { IfOk result (λ hops. hops ≡ spec.hops_of_best best.now) }
     ensures err { IfErr result (λ error. best.now.also ≢ []) }
 {
     if best.also.is_empty() {
@@ -75,7 +75,7 @@ fn route_by(
     ensures value { IfOk result (λ route. route ≡ Some (spec.route_by best.now source distance)) }
     ensures err { IfErr result (λ error. best.now.also ≢ []) }
 {
-    let hops = hops_of(alloc, best)?;
+    let hops = hops_of_best(alloc, best)?;
     Ok(Some(Route {
         prefix: best.path.prefix,
         source,

@@ -1,0 +1,10 @@
+use Rattle.std.proofs.Common.{◌≡◌, drop}
+use Rattle.std.specs.List.{filter_map}
+use Rattle.rc_bgp.specs.Gathering.{told_of, with_paths}
+use Rattle.rc_bgp.proofs.gathering.add_all_told.Given as goal
+
+abbrev pub invariant-loop-best : goal.invariant-loop-best
+invariant-loop-best l = record {
+  kept : with_paths l.rows (filter_map (told_of l.net l.initial.resolver l.session) (drop l.best-index l.paths)) ≡ with_paths l.initial.rows (filter_map (told_of l.net l.initial.resolver l.session) l.paths);
+  same : l.resolver ≡ l.initial.resolver;
+}
