@@ -9,6 +9,7 @@ use Rattle.rc_base.specs.declared.field.Field.TheVariants.{Proto, IcmpType, Icmp
 use Rattle.rc_base.specs.declared.ending.Kind.TheVariants.{Delivered}
 use Rattle.rc_base.specs.declared.position.Pos.TheVariants.{Own}
 use Rattle.rc_config.specs.declared.network.Network.{Network}
+use Rattle.rc_config.specs.Cuts.{uncut}
 use Rattle.rc_cubes.specs.declared.cube.Cube.{Cube}
 use Rattle.rc_cubes.specs.Cubes.{all, cubes, with_test}
 use Rattle.rc_report.specs.CubeText.{test_of, value_of, fields_text, cube_line, cubes_text, example_line, example_text, shown}
@@ -91,7 +92,7 @@ an_example_of_echo_of_code_0 = refl
 -- ---- cubes with examples
 
 abbrev net : Network
-net = record { routers = [] }
+net = uncut []
 
 abbrev walk : Walk
 walk = record { positions = Own 0 ∷ []; stop = At Delivered }

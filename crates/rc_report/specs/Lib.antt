@@ -8,3 +8,5 @@ pub mod OutcomeText
 pub mod StateText
 pub mod IdleText
 pub mod IdleRows
+pub mod FailureText
+pub mod FailureRows

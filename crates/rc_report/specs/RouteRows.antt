@@ -7,6 +7,7 @@ use Rattle.rc_base.specs.Prefix.{prefix_at, prefix_text}
 use Rattle.rc_base.specs.declared.ending.Kind.TheVariants.{DeniedIn, Accepted, NoRoute, NullRouted, DeniedOut, Unreachable, Exits, Delivered}
 use Rattle.rc_base.specs.declared.position.IfId.{IfId}
 use Rattle.rc_base.specs.declared.position.Pos.TheVariants.{Own, Entering}
+use Rattle.rc_config.specs.Cuts.{uncut}
 use Rattle.rc_config.specs.Interface.{fresh}
 use Rattle.rc_config.specs.Update.{empty}
 use Rattle.rc_config.specs.declared.network.Network.{Network}
@@ -24,7 +25,7 @@ use Rattle.rc_walk.specs.declared.walk.Stop.TheVariants.{At, Loop}
 
 -- the router R1 with two interfaces
 abbrev net : Network
-net = record { routers = (codes "R1", record empty { interfaces = (codes "Ethernet0", fresh) ∷ (codes "Loopback0", fresh) ∷ [] }) ∷ [] }
+net = uncut ((codes "R1", record empty { interfaces = (codes "Ethernet0", fresh) ∷ (codes "Loopback0", fresh) ∷ [] }) ∷ [])
 
 abbrev port : ℕ → IfId
 port n = record { router = 0; index = n }

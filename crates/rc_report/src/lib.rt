@@ -1,4 +1,4 @@
-//! Texts to a sink: lines out of parts, the route table of a router, the walk of a packet, and the cubes of a set of headers.
+//! Texts to a sink: lines out of parts, the route table of a router, the walk of a packet, the cubes of a set of headers, and what becomes of a packet without each link.
 //!
 //! It stands on sinks, addresses, networks, routes, walks, and the node table with its cubes. The layer above knows a text as what is appended to the sink, or a
 //! front of it where the sink fails, and joins texts by `Puts`. A line of any length goes in pieces of 512 bytes; only `Buffer::new` takes memory.
@@ -7,6 +7,7 @@
 mod behind;
 mod buffer;
 mod cubes;
+mod failures;
 mod idle;
 mod names;
 mod outcomes;
@@ -20,6 +21,7 @@ mod walks;
 pub use behind::{CubeLines, WalkLines};
 pub use buffer::Buffer;
 pub use cubes::put_cubes;
+pub use failures::{FailRow, FailureLines, put_failures};
 pub use idle::{IdleLines, ListIdle, RouterIdle, put_idle};
 pub use outcomes::OutcomeLine;
 pub use part::Part;

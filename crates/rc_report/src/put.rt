@@ -121,6 +121,17 @@ pub fn put_line<S: Sink>(out: &mut S, line: &mut Buffer, parts: &[Part]) -> Resu
     ensures { IsPut S.Sink out.old out.new result (flat_map part_text parts.now) }
 {
     line.clear();
+    end_with(out, line, parts)
+}
+
+/// Ends a line by parts.
+pub(crate) fn end_with<S: Sink>(
+    out: &mut S,
+    line: &mut Buffer,
+    parts: &[Part],
+) -> Result<(), SinkFault>
+    ensures { IsPut S.Sink out.old out.new result (line.old ++ flat_map part_text parts.now) }
+{
     put_parts(out, line, parts)?;
     end_line(out, line)
 }
@@ -129,6 +140,5 @@ pub fn put_line<S: Sink>(out: &mut S, line: &mut Buffer, parts: &[Part]) -> Resu
 pub(crate) fn close_line<S: Sink>(out: &mut S, line: &mut Buffer) -> Result<(), SinkFault>
     ensures { IsPut S.Sink out.old out.new result (line.old ++ codes "\n") }
 {
-    put_parts(out, line, &[Part::Text(b"\n")])?;
-    end_line(out, line)
+    end_with(out, line, &[Part::Text(b"\n")])
 }

@@ -4,8 +4,8 @@ use Rattle.clap.specs.Simple.{Shape, names_of, entered, rows_at}
 use Rattle.clap.specs.Walk.{Held, Names, Row, Rule, Text, Walk, walked, walk, nothing_held}
 use Rattle.clap.specs.Words.{subcommand_of}
 use Rattle.rc_words.specs.App.{netcheck_app}
-use Rattle.rc_words.specs.Plain.{CommandName, routes, trace, reach, loops, uneven, lines, sample, command_word}
-use Rattle.rc_words.proofs.Commands.{IsCommand, whole, gone, dir_rule, count_rule, routes_shape, routes_is, trace_shape, trace_is, reach_shape, reach_is, loops_shape, loops_is, uneven_shape, uneven_is, lines_shape, lines_is, sample_shape, sample_is}
+use Rattle.rc_words.specs.Plain.{CommandName, routes, trace, reach, loops, uneven, lines, failures, sample, command_word}
+use Rattle.rc_words.proofs.Commands.{IsCommand, whole, gone, dir_rule, count_rule, routes_shape, routes_is, trace_shape, trace_is, reach_shape, reach_is, loops_shape, loops_is, uneven_shape, uneven_is, lines_shape, lines_is, failures_shape, failures_is, sample_shape, sample_is}
 
 all_texts : (ts : List Text) → ts ++ [] ≡ ts
 all_texts [] = refl
@@ -32,4 +32,5 @@ rows_of_command reach = rows_of_shape reach dir_rule reach_shape reach_is
 rows_of_command loops = rows_of_shape loops dir_rule loops_shape loops_is
 rows_of_command uneven = rows_of_shape uneven dir_rule uneven_shape uneven_is
 rows_of_command lines = rows_of_shape lines dir_rule lines_shape lines_is
+rows_of_command failures = rows_of_shape failures dir_rule failures_shape failures_is
 rows_of_command sample = rows_of_shape sample count_rule sample_shape sample_is

@@ -22,7 +22,7 @@ use Rattle.rc_base.specs.declared.field.Field.{Field}
 use Rattle.rc_base.specs.declared.field.Field.TheVariants.{Dst}
 use Rattle.rc_base.proofs.FieldLaws.{is_new, is_there, same-is}
 use Rattle.rc_words.specs.App.{netcheck_app}
-use Rattle.rc_words.specs.Plain.{CommandName, routes, trace, reach, loops, uneven, lines, sample, command_word, OptionName, router, from, field, end, examples, rounds, workers, nodes, option_name, same_option, ValueKind, number, text, kind_of, default, options_of, required_of}
+use Rattle.rc_words.specs.Plain.{CommandName, routes, trace, reach, loops, uneven, lines, failures, sample, command_word, OptionName, router, from, field, end, examples, rounds, workers, nodes, option_name, same_option, ValueKind, number, text, kind_of, default, options_of, required_of}
 use Rattle.rc_words.proofs.Defaults.{IsDefaulted, defaults_by, looked, or_default}
 use Rattle.rc_words.proofs.KeptValues.{IsOwn, AreOwn}
 use Rattle.rc_words.proofs.PlainWalk.{IsFirst}
@@ -488,6 +488,50 @@ lines_is = record {
   required = tt;
   defaults = lines_defaults;
   defaults_pass = lines_defaults_pass;
+  check = λ rows. refl;
+}
+
+-- ---- failures
+
+abbrev pub failures_shape : Shape
+failures_shape = shape_at (codes "failures")
+
+failures_enters : walked whole.top.rules (names_of whole) (walk_from nothing_held) (codes "failures") ≡ gone nothing_held (codes "failures") []
+unfolding clap_on_literals
+failures_enters = refl
+
+failures_enters_well : turn_fault whole.top (names_of whole) (walk_from nothing_held) (codes "failures") ≡ []
+unfolding clap_on_literals
+failures_enters_well = refl
+
+failures_own : AllOf (IsOwn failures_shape.rules) failures_shape.rules
+failures_own = own_computed failures_shape.rules refl refl refl refl
+
+failures_options : AllOf (IsOption failures_shape.rules) (options_of failures)
+failures_options = options_computed failures_shape.rules (options_of failures) refl refl refl
+
+failures_defaults : AllOf IsDefaulted failures_shape.rules
+failures_defaults = defaulted_computed failures_shape.rules refl
+
+failures_defaults_pass : AllOf (λ a. given_default_fault a a.defaults ≡ []) failures_shape.rules
+failures_defaults_pass = all_same (λ (a : Rule). given_default_fault a a.defaults) (λ a. []) failures_shape.rules refl
+
+pub failures_is : IsCommand failures dir_rule failures_shape
+failures_is = record {
+  found = refl;
+  name = refl;
+  enters = failures_enters;
+  enters_well = failures_enters_well;
+  once = refl;
+  own = own_by failures_shape.rules failures_own (λ x. refl);
+  first = λ v e. record { single = record { here = refl; set = refl; least = refl; most = refl; passes = e }; place = refl; one = refl; several = refl; trailing = refl };
+  after = λ found. refl;
+  no_default = refl;
+  apart = λ o. (named o).not_dir;
+  options = failures_options;
+  required = (failures_options.0, (failures_options.1.1.0, tt));
+  defaults = failures_defaults;
+  defaults_pass = failures_defaults_pass;
   check = λ rows. refl;
 }
 

@@ -1,5 +1,5 @@
 -- Words that are taken begin with the name of a command.
-use Rattle.std.proofs.Common.{ap, sym, ◌≡◌, ◌∙◌, ◌⊎◌, inl, inr, ℕ, zero, suc, Bool, true, false, List, [], ◌∷◌, refl, Option, Some, None, codes, fold, length, is_some, slice_get, true≢false}
+use Rattle.std.proofs.Common.{ap, sym, ◌≡◌, ◌∙◌, ◌⊎◌, inl, inr, ℕ, zero, suc, Bool, true, false, List, [], ◌∷◌, refl, Option, Some, None, fold, length, is_some, slice_get, true≢false}
 use Rattle.std.specs.Str.{bytes_eq, chars}
 use Rattle.std.proofs.lemmas.Slice.Eq.{bytes_eq-Decides}
 use Rattle.clap.specs.Faults.{turn_fault, walk_fault, step_fault, flag_word_fault, fault_of}
@@ -8,7 +8,7 @@ use Rattle.clap.specs.Lexer.{long_of, short_of}
 use Rattle.clap.specs.Simple.{names_of, entered}
 use Rattle.clap.specs.Walk.{Held, Text, Walk, idle, value, Step, plain, after_flag, bundle_met, bundle_step, short_or_plain, long_or_other, nothing_held, walk_from, walked, subcommand_met}
 use Rattle.rc_words.specs.App.{netcheck_app}
-use Rattle.rc_words.specs.Plain.{CommandName, routes, trace, reach, loops, uneven, lines, sample, command_word}
+use Rattle.rc_words.specs.Plain.{CommandName, routes, trace, reach, loops, uneven, lines, failures, sample, command_word}
 use Rattle.rc_words.proofs.Commands.{whole}
 use Rattle.rc_words.proofs.KeptValues.{first_none, second_none}
 use Rattle.rc_words.proofs.Matched.{stop_at, top_parts}
@@ -44,7 +44,7 @@ abbrev IsNamed : Text → Type 0
 IsNamed w = (k : CommandName) × (w ≡ command_word k)
 
 abbrev commands : List CommandName
-commands = routes ∷ trace ∷ reach ∷ loops ∷ uneven ∷ lines ∷ sample ∷ []
+commands = routes ∷ trace ∷ reach ∷ loops ∷ uneven ∷ lines ∷ failures ∷ sample ∷ []
 
 -- the word names one of some commands, or none of them
 one_or_none : (ks : List CommandName) (w : Text) → IsNamed w ⊎ AllOf (λ k. bytes_eq (command_word k) w ≡ false) ks
@@ -59,7 +59,7 @@ one_or_none (k ∷ ks) w = go (bytes_eq (command_word k) w) refl (one_or_none ks
 command_or_other : (w : Text) → IsNamed w ⊎ IsOther w
 command_or_other w = elim (one_or_none commands w) [
   | inl named ↦ inl named
-  | inr none ↦ inr (rw (none.0, none.1.0, none.1.1.0, none.1.1.1.0, none.1.1.1.1.0, none.1.1.1.1.1.0, none.1.1.1.1.1.1.0))
+  | inr none ↦ inr (rw (none.0, none.1.0, none.1.1.0, none.1.1.1.0, none.1.1.1.1.0, none.1.1.1.1.1.0, none.1.1.1.1.1.1.0, none.1.1.1.1.1.1.1.0))
 ]
 
 top_word : (w : Text) → IsOther w → bytes_eq w (45 ∷ 45 ∷ []) ≡ false → turn_fault whole.top (names_of whole) (walk_from nothing_held) w ≡ [] → ⊥

@@ -22,15 +22,15 @@ use Rattle.rc_words.specs.App.{netcheck_app}
 use Rattle.rc_base.specs.Endings.{kind_named}
 use Rattle.rc_words.specs.Endings.{endings_of, only}
 use Rattle.rc_words.specs.HeaderOptions.{greatest}
-use Rattle.rc_words.specs.Plain.{CommandName, routes, trace, reach, loops, uneven, lines, sample, command_word, from, field, examples, rounds, workers, nodes, limit_options}
-use Rattle.rc_words.specs.Request.{address_at, place_of, place_at, field_at, header_at, ends_at, trace_at, reach_at, packets_at, ask_at, number_at, source_at, limits_at, request_at, is_read, texts_are_read, AreInRange, IsSourceInRange, IsAskInRange}
-use Rattle.rc_words.specs.declared.request.Ask.TheVariants.{Routes, Trace, Reach, Loops, Uneven, Lines, Summary}
+use Rattle.rc_words.specs.Plain.{CommandName, routes, trace, reach, loops, uneven, lines, failures, sample, command_word, from, field, examples, rounds, workers, nodes, limit_options}
+use Rattle.rc_words.specs.Request.{address_at, place_of, place_at, field_at, header_at, ends_at, trace_at, reach_at, packets_at, failures_at, ask_at, source_at, limits_at, request_at, is_read, texts_are_read, AreInRange, IsSourceInRange, IsAskInRange}
+use Rattle.rc_words.specs.declared.request.Ask.TheVariants.{Routes, Trace, Reach, Loops, Uneven, Lines, Failures, Summary}
 use Rattle.rc_words.specs.declared.request.Ask.{Ask}
 use Rattle.rc_words.specs.declared.request.Limits.{Limits}
 use Rattle.rc_words.specs.declared.request.PlaceName.{PlaceName}
 use Rattle.rc_words.specs.declared.request.Request.{Request}
 use Rattle.rc_words.specs.declared.request.Source.TheVariants.{Folder, Made}
-use Rattle.rc_words.proofs.Commands.{IsCommand, IsOption, whole, wanted_ids, dir_rule, count_rule, rule_for, routes_shape, routes_is, trace_shape, trace_is, reach_shape, reach_is, loops_shape, loops_is, uneven_shape, uneven_is, lines_shape, lines_is, sample_shape, sample_is}
+use Rattle.rc_words.proofs.Commands.{IsCommand, IsOption, whole, wanted_ids, dir_rule, count_rule, rule_for, routes_shape, routes_is, trace_shape, trace_is, reach_shape, reach_is, loops_shape, loops_is, uneven_shape, uneven_is, lines_shape, lines_is, failures_shape, failures_is, sample_shape, sample_is}
 use Rattle.rc_words.proofs.Defaults.{IsDefaulted, look, look_all}
 use Rattle.rc_words.proofs.KeptValues.{RowsPass, all_pass, settled_passes, first_none, second_none}
 use Rattle.rc_words.proofs.HeaderRead.{IsNumbered, address_fits, header_read, zeros_fit}
@@ -70,19 +70,17 @@ numbers_asked c rows (f ∷ fs) d h (is, are) (o, i) =
     let (n, n_is, n_low, n_high) = number_in 32 c (field f) 0 (greatest f) (codes "0") rows d o h is.kind is.absent is.accepted is.small in
     ((n, is.found (after c rows) ∙ ap (at_most (greatest f)) n_is ∙ within (greatest f) n n_high, lt_of_le_of_lt n_high (greatest_fits f)), numbers_asked c rows fs d h are i)
 
-header_asked : (s : Shape) (f : IsCommand trace dir_rule s) (rows : List Row) → RowsPass s.rules rows → is_given (codes "dst") (after s.rules rows) ≡ true
-    → is_read address_of (first_of (codes "dst") (after s.rules rows)) ≡ true → is_read address_of (first_of (codes "src") (after s.rules rows)) ≡ true
-    → (h : Header) × (header_at (after s.rules rows) ≡ Some h) × IsHeader h
-header_asked s f rows h given to_read by_read =
-    let d = f.defaults in
-    let i : AllOf (IsOption s.rules) (map field fields) = all_front (IsOption s.rules) (map field fields) limit_options f.options.1 in
-    let (to_text, to_is) = given_text s.rules (codes "dst") (rule_for (field Dst)) rows (look_option s.rules (field Dst) rows d i.0) refl h given in
-    let (to, to_at) = read_text address_of (first_of (codes "dst") (after s.rules rows)) to_text to_is to_read in
-    let to_fits = read_fits (first_of (codes "dst") (after s.rules rows)) to to_at in
-    let (by_text, by_is) = default_text s.rules (field Src) (codes "0.0.0.0") rows d i.1.0 h refl in
-    let (by, by_at) = read_text address_of (first_of (codes "src") (after s.rules rows)) by_text by_is by_read in
-    let by_fits = read_fits (first_of (codes "src") (after s.rules rows)) by by_at in
-    header_read (field_at (after s.rules rows)) fields zeros zeros_fit ((to, to_at, to_fits), ((by, by_at, by_fits), numbers_asked s.rules rows number_fields d h are_numbers i.1.1))
+header_asked : (c : List Rule) (rows : List Row) → AllOf IsDefaulted c → AllOf (IsOption c) (map field fields) → RowsPass c rows → is_given (codes "dst") (after c rows) ≡ true
+    → is_read address_of (first_of (codes "dst") (after c rows)) ≡ true → is_read address_of (first_of (codes "src") (after c rows)) ≡ true
+    → (h : Header) × (header_at (after c rows) ≡ Some h) × IsHeader h
+header_asked c rows d i h given to_read by_read =
+    let (to_text, to_is) = given_text c (codes "dst") (rule_for (field Dst)) rows (look_option c (field Dst) rows d i.0) refl h given in
+    let (to, to_at) = read_text address_of (first_of (codes "dst") (after c rows)) to_text to_is to_read in
+    let to_fits = read_fits (first_of (codes "dst") (after c rows)) to to_at in
+    let (by_text, by_is) = default_text c (field Src) (codes "0.0.0.0") rows d i.1.0 h refl in
+    let (by, by_at) = read_text address_of (first_of (codes "src") (after c rows)) by_text by_is by_read in
+    let by_fits = read_fits (first_of (codes "src") (after c rows)) by by_at in
+    header_read (field_at (after c rows)) fields zeros zeros_fit ((to, to_at, to_fits), ((by, by_at, by_fits), numbers_asked c rows number_fields d h are_numbers i.1.1))
 
 -- ---- a command
 
@@ -176,7 +174,7 @@ trace_told rows h given =
           let outer = both _ _ (both _ _ e).0 in
           let inner = both _ _ outer.0 in
           let (place, place_at_is) = read_text place_of (first_of (codes "from") (after trace_shape.rules rows)) place_text place_is inner.0 in
-          let (header, header_is, header_in) = header_asked trace_shape trace_is rows h given.1.1.0 inner.1 outer.1 in
+          let (header, header_is, header_in) = header_asked trace_shape.rules rows d (all_front (IsOption trace_shape.rules) (map field fields) limit_options trace_is.options.1) h given.1.1.0 inner.1 outer.1 in
           (record { source = Folder dir; ask = Trace place header; limits = l }, rw (dir_is, place_at_is, header_is, l_is), l_in, tt, header_in);
       unread = λ e. without_ask (source_at (codes "trace") (after trace_shape.rules rows)) (trace_at (after trace_shape.rules rows)) (limits_at (after trace_shape.rules rows)) (trace_unread (after trace_shape.rules rows) no_end e);
     }
@@ -285,6 +283,46 @@ lines_told rows h given =
       unread = λ e. let bad : true ≡ false = rw (no_from, no_dst, no_src, no_end) at e in absurd (true≢false bad);
     }
 
+-- without the endings, a header or a place nothing is asked
+no_place_to_fail : (rows : List Row) → place_at (codes "from") rows ≡ None → failures_at rows ≡ None
+no_place_to_fail rows e = rw e
+
+no_header_to_fail : (rows : List Row) → header_at rows ≡ None → failures_at rows ≡ None
+no_header_to_fail rows e = rw e (then_none _ (place_at (codes "from") rows) (λ x. refl))
+
+no_ends_to_fail : (rows : List Row) → ends_at rows ≡ None → failures_at rows ≡ None
+no_ends_to_fail rows e = rw e (then_none _ (place_at (codes "from") rows) (λ x. then_none _ (header_at rows) (λ y. refl)))
+
+failures_unread : (rows : List Row) → texts_are_read (Some (codes "failures", rows)) ≡ false → failures_at rows ≡ None
+failures_unread rows e = elim (and_split (is_read place_of (first_of (codes "from") rows) && is_read address_of (first_of (codes "dst") rows) && is_read address_of (first_of (codes "src") rows)) (is_read kind_named (first_of (codes "end") rows)) e) [
+  | inl three_unread ↦ elim (and_split (is_read place_of (first_of (codes "from") rows) && is_read address_of (first_of (codes "dst") rows)) (is_read address_of (first_of (codes "src") rows)) three_unread) [
+    | inl both_unread ↦ elim (and_split (is_read place_of (first_of (codes "from") rows)) (is_read address_of (first_of (codes "dst") rows)) both_unread) [
+      | inl place_unread ↦ no_place_to_fail rows (unread_none place_of (first_of (codes "from") rows) place_unread)
+      | inr dst_unread ↦ no_header_to_fail rows (no_dst rows (unread_none address_of (first_of (codes "dst") rows) dst_unread))
+    ]
+    | inr src_unread ↦ no_header_to_fail rows (no_src rows (unread_none address_of (first_of (codes "src") rows) src_unread))
+  ]
+  | inr end_unread ↦ no_ends_to_fail rows (ends_unread (first_of (codes "end") rows) end_unread)
+]
+
+failures_told : (rows : List Row) → RowsPass failures_shape.rules rows → AreGiven (wanted_ids dir_rule failures) (after failures_shape.rules rows) → IsTold (Some (codes "failures", after failures_shape.rules rows))
+failures_told rows h given =
+    let d = failures_is.defaults in
+    let (dir, dir_is) = argument_asked failures dir_rule failures_shape failures_is rows h given.0 in
+    let (place_text, place_is) = given_text failures_shape.rules (codes "from") (rule_for from) rows (look_option failures_shape.rules from rows d failures_is.options.0) refl h given.1.0 in
+    let (l, l_is, l_in) = limits_asked failures_shape.rules rows d (all_behind (IsOption failures_shape.rules) (map field fields) limit_options failures_is.options.1.1) h in
+    record {
+      read = λ e.
+          let whole_read = both _ _ e in
+          let outer = both _ _ whole_read.0 in
+          let inner = both _ _ outer.0 in
+          let (place, place_at_is) = read_text place_of (first_of (codes "from") (after failures_shape.rules rows)) place_text place_is inner.0 in
+          let (header, header_is, header_in) = header_asked failures_shape.rules rows d (all_front (IsOption failures_shape.rules) (map field fields) limit_options failures_is.options.1.1) h given.1.1.0 inner.1 outer.1 in
+          let (ends, ends_is) = ends_read (first_of (codes "end") (after failures_shape.rules rows)) whole_read.1 in
+          (record { source = Folder dir; ask = Failures place header ends; limits = l }, rw (dir_is, place_at_is, header_is, ends_is, l_is), l_in, tt, header_in);
+      unread = λ e. without_ask (source_at (codes "failures") (after failures_shape.rules rows)) (failures_at (after failures_shape.rules rows)) (limits_at (after failures_shape.rules rows)) (failures_unread (after failures_shape.rules rows) e);
+    }
+
 -- ---- the command that the words name
 
 any_false : (ids : List Text) (rows : List Row) → list_any (λ id. not (is_given id rows)) ids ≡ false → AreGiven ids rows
@@ -316,7 +354,7 @@ abbrev Tells : Shape → Type 0
 Tells s = (ws : List Text) → level_fault s [] nothing_held ws false [] ≡ [] → IsTold (Some (rows_at s ws))
 
 all_tell : AllOf Tells whole.subs
-all_tell = (level_told routes dir_rule routes_shape routes_is routes_told, (level_told trace dir_rule trace_shape trace_is trace_told, (level_told reach dir_rule reach_shape reach_is reach_told, (level_told loops dir_rule loops_shape loops_is loops_told, (level_told uneven dir_rule uneven_shape uneven_is uneven_told, (level_told lines dir_rule lines_shape lines_is lines_told, (level_told sample count_rule sample_shape sample_is sample_told, tt)))))))
+all_tell = (level_told routes dir_rule routes_shape routes_is routes_told, (level_told trace dir_rule trace_shape trace_is trace_told, (level_told reach dir_rule reach_shape reach_is reach_told, (level_told loops dir_rule loops_shape loops_is loops_told, (level_told uneven dir_rule uneven_shape uneven_is uneven_told, (level_told lines dir_rule lines_shape lines_is lines_told, (level_told failures dir_rule failures_shape failures_is failures_told, (level_told sample count_rule sample_shape sample_is sample_told, tt))))))))
 
 stop_told : (stop : Option (Text × List Text)) → entered_fault whole stop ≡ [] → is_some (entered whole stop) ≡ true → IsTold (entered whole stop)
 stop_told None e there = absurd (true≢false (sym there))

@@ -5,10 +5,10 @@ use Rattle.clap.specs.Words.{Row, Text, first_of}
 use Rattle.rc_base.specs.declared.ending.Ends.{Ends}
 use Rattle.rc_base.specs.declared.header.Header.{Header}
 use Rattle.rc_words.specs.Laws.{is_sample}
-use Rattle.rc_words.specs.Plain.{CommandName, routes, trace, reach, loops, uneven, lines, sample, command_word}
+use Rattle.rc_words.specs.Plain.{CommandName, routes, trace, reach, loops, uneven, lines, failures, sample, command_word}
 use Rattle.rc_words.specs.Request.{source_at, ask_at, limits_at, request_at, number_at, header_at, place_at, ends_at, is_made, is_summary}
 use Rattle.rc_words.specs.declared.request.Ask.{Ask}
-use Rattle.rc_words.specs.declared.request.Ask.TheVariants.{Routes, Trace, Reach, Loops, Uneven, Lines, Summary}
+use Rattle.rc_words.specs.declared.request.Ask.TheVariants.{Routes, Trace, Reach, Loops, Uneven, Lines, Failures, Summary}
 use Rattle.rc_words.specs.declared.request.Limits.{Limits}
 use Rattle.rc_words.specs.declared.request.PlaceName.{PlaceName}
 use Rattle.rc_words.specs.declared.request.Request.{Request}
@@ -59,6 +59,7 @@ source_found reach rows = folder_found _
 source_found loops rows = folder_found _
 source_found uneven rows = folder_found _
 source_found lines rows = folder_found _
+source_found failures rows = folder_found _
 source_found sample rows = count_found _
 
 other_ask : (this ask : Ask) → is_summary this ≡ false → Some this ≡ Some ask → is_summary ask ≡ false
@@ -81,6 +82,12 @@ packets_found make other None examples ask e = absurd (cc)
 packets_found make other (Some p) None ask e = absurd (cc)
 packets_found make other (Some p) (Some n) ask e = other_ask (make p n) ask (other p n) e
 
+failures_found : (place : Option PlaceName) (header : Option Header) (ends : Option Ends) (ask : Ask) → option_and_then (λ p. option_and_then (λ h. option_map (λ e. Failures p h e) ends) header) place ≡ Some ask → is_summary ask ≡ false
+failures_found None header ends ask e = absurd (cc)
+failures_found (Some p) None ends ask e = absurd (cc)
+failures_found (Some p) (Some h) None ask e = absurd (cc)
+failures_found (Some p) (Some h) (Some k) ask e = other_ask (Failures p h k) ask refl e
+
 ask_found : (k : CommandName) (rows : List Row) (ask : Ask) → ask_at (command_word k) rows ≡ Some ask → is_summary ask ≡ is_sample k
 ask_found routes rows ask e = other_ask (Routes (first_of (codes "router") rows)) ask refl e
 ask_found trace rows ask e = trace_found (place_at (codes "from") rows) (header_at rows) ask e
@@ -88,6 +95,7 @@ ask_found reach rows ask e = reach_found (place_at (codes "from") rows) (ends_at
 ask_found loops rows ask e = packets_found Loops (λ p n. refl) (place_at (codes "from") rows) (number_at 32 (codes "examples") rows) ask e
 ask_found uneven rows ask e = packets_found Uneven (λ p n. refl) (place_at (codes "from") rows) (number_at 32 (codes "examples") rows) ask e
 ask_found lines rows ask e = other_ask (Lines (first_of (codes "router") rows)) ask refl e
+ask_found failures rows ask e = failures_found (place_at (codes "from") rows) (header_at rows) (ends_at rows) ask e
 ask_found sample rows ask e = let is : Summary ≡ ask = cc in ap is_summary (sym is)
 
 pub made_found : (k : CommandName) (rows : List Row) (r : Request) → request_at (Some (command_word k, rows)) ≡ Some r → (is_made r.source ≡ is_sample k) × (is_summary r.ask ≡ is_sample k)

@@ -22,19 +22,19 @@ use Rattle.rc_base.specs.declared.field.Field.{Field}
 use Rattle.rc_base.specs.declared.field.Field.TheVariants.{Dst, Src}
 use Rattle.rc_base.specs.declared.header.Header.{Header}
 use Rattle.rc_openings.specs.Values.{address_of, at_most}
-use Rattle.rc_words.specs.Plain.{CommandName, routes, trace, reach, loops, uneven, lines, sample, command_word, OptionName, router, from, field, end, examples, rounds, workers, nodes, option_name, same_option, ValueKind, number, text, kind_of, default, limit_options, options_of, required_of, argument_of, has_option, Use, IsPlainNumber, IsPlainValue, is_plain_text, is_given, ArePlainUses, ArePlain, option_words, plain_words, text_for, number_for, plain_limits, plain_field, plain_request}
+use Rattle.rc_words.specs.Plain.{CommandName, routes, trace, reach, loops, uneven, lines, failures, sample, command_word, OptionName, router, from, field, end, examples, rounds, workers, nodes, option_name, same_option, ValueKind, number, text, kind_of, default, limit_options, options_of, required_of, argument_of, has_option, Use, IsPlainNumber, IsPlainValue, is_plain_text, is_given, ArePlainUses, ArePlain, option_words, plain_words, text_for, number_for, plain_limits, plain_field, plain_request}
 use Rattle.rc_words.specs.Endings.{endings_of}
 use Rattle.rc_words.specs.HeaderOptions.{greatest, header_of}
 use Rattle.rc_words.specs.Request.{number_read, number_at, address_at, place_of, place_at, limits_at, field_at, header_at, ends_at, packets_at, ask_at, source_at, request_at, request_of}
 use Rattle.rc_words.specs.declared.request.Ask.{Ask}
-use Rattle.rc_words.specs.declared.request.Ask.TheVariants.{Trace, Reach, Loops, Uneven, Summary}
+use Rattle.rc_words.specs.declared.request.Ask.TheVariants.{Trace, Reach, Loops, Uneven, Failures, Summary}
 use Rattle.rc_words.specs.declared.request.Limits.{Limits}
 use Rattle.rc_words.specs.declared.request.PlaceName.{PlaceName}
 use Rattle.rc_words.specs.declared.request.Source.TheVariants.{Folder, Made}
 use Rattle.rc_words.proofs.HeaderRead.{same_header}
 use Rattle.rc_words.proofs.NumberFields.{IsNumberField, are_numbers, number_fields}
 use Rattle.rc_words.proofs.Numbers.{IsDigits, digits_are, digits_read, digits_accepted, within}
-use Rattle.rc_words.proofs.Commands.{IsCommand, IsOption, IsSmall, named, same_is, rule_for, dir_rule, count_rule, parser_by, wanted_ids, routes_shape, routes_is, trace_shape, trace_is, reach_shape, reach_is, loops_shape, loops_is, uneven_shape, uneven_is, lines_shape, lines_is, sample_shape, sample_is}
+use Rattle.rc_words.proofs.Commands.{IsCommand, IsOption, IsSmall, named, same_is, rule_for, dir_rule, count_rule, parser_by, wanted_ids, routes_shape, routes_is, trace_shape, trace_is, reach_shape, reach_is, loops_shape, loops_is, uneven_shape, uneven_is, lines_shape, lines_is, failures_shape, failures_is, sample_shape, sample_is}
 use Rattle.rc_words.proofs.Defaults.{look, look_all, or_default, default_row, defaults_by}
 use Rattle.rc_words.proofs.PlainWalk.{IsSingle, IsOptionWord, IsPlainText, OptionUse, words_of, given, AreUsed, row_for, same_text_eq}
 use Rattle.rc_words.proofs.PlainTaken.{plain_well, plain_rows}
@@ -276,24 +276,23 @@ trace_from rows d None header l dir_is place_is header_is l_is = rw (dir_is, pla
 trace_from rows d (Some p) None l dir_is place_is header_is l_is = rw (dir_is, place_is, header_is)
 trace_from rows d (Some p) (Some h) l dir_is place_is header_is l_is = rw (dir_is, place_is, header_is, l_is)
 
-trace_header : (d : Text) (uses : List Use) → ArePlainUses trace uses → header_at (after trace_shape.rules (plain_found dir_rule d uses)) ≡ header_of (plain_field uses)
-trace_header d uses p = same_header (field_at (after trace_shape.rules (plain_found dir_rule d uses))) (plain_field uses) fields zeros (address (field Dst) fields_in.0, (address (field Src) fields_in.1.0, numbers number_fields are_numbers fields_in.1.1))
-  where
-    fields_in : AllOf (IsOption trace_shape.rules) (map field fields)
-    fields_in = all_front (IsOption trace_shape.rules) (map field fields) limit_options trace_is.options.1
+-- a command whose options are the fields of a header among others
+module _ (k : CommandName) (s : Shape) (f : IsCommand k dir_rule s) (options : AllOf (IsOption s.rules) (map field fields)) (d : Text) (uses : List Use) (p : ArePlainUses k uses) where
+  address_found : (o : OptionName) → IsOption s.rules o → address_at (option_name o) (after s.rules (plain_found dir_rule d uses)) ≡ option_and_then address_of (text_for o uses)
+  address_found o i = ap (option_and_then address_of) (text_found k dir_rule s f d refl uses o i)
 
-    address : (o : OptionName) → IsOption trace_shape.rules o → address_at (option_name o) (after trace_shape.rules (plain_found dir_rule d uses)) ≡ option_and_then address_of (text_for o uses)
-    address o i = ap (option_and_then address_of) (text_found trace dir_rule trace_shape trace_is d refl uses o i)
+  field_found : (o : OptionName) (high : ℕ) → IsOption s.rules o → kind_of o ≡ number 0 high → default o ≡ Some (codes "0") → high < 2 ^ 32
+      → at_most high (number_at 32 (option_name o) (after s.rules (plain_found dir_rule d uses))) ≡ Some (number_for o uses)
+  field_found o high i kind is small =
+      ap (at_most high) (value_found k dir_rule s f d refl uses 32 o 0 high (codes "0") i kind small is refl p)
+      ∙ within high (number_for o uses) (number_most k o 0 high (codes "0") uses kind is (let e : 0 ≤ high = omega arith in e) p)
 
-    field_found : (o : OptionName) (high : ℕ) → IsOption trace_shape.rules o → kind_of o ≡ number 0 high → default o ≡ Some (codes "0") → high < 2 ^ 32
-        → at_most high (number_at 32 (option_name o) (after trace_shape.rules (plain_found dir_rule d uses))) ≡ Some (number_for o uses)
-    field_found o high i kind is small =
-        ap (at_most high) (value_found trace dir_rule trace_shape trace_is d refl uses 32 o 0 high (codes "0") i kind small is refl p)
-        ∙ within high (number_for o uses) (number_most trace o 0 high (codes "0") uses kind is (let e : 0 ≤ high = omega arith in e) p)
+  numbers_found : (fs : List Field) → AllOf IsNumberField fs → AllOf (IsOption s.rules) (map field fs) → AllOf (λ f. field_at (after s.rules (plain_found dir_rule d uses)) f ≡ plain_field uses f) fs
+  numbers_found [] are i = tt
+  numbers_found (f ∷ fs) (is, are) (o, i) = (is.found (after s.rules (plain_found dir_rule d uses)) ∙ field_found (field f) (greatest f) o is.kind is.absent is.small ∙ sym (is.plain uses), numbers_found fs are i)
 
-    numbers : (fs : List Field) → AllOf IsNumberField fs → AllOf (IsOption trace_shape.rules) (map field fs) → AllOf (λ f. field_at (after trace_shape.rules (plain_found dir_rule d uses)) f ≡ plain_field uses f) fs
-    numbers [] are i = tt
-    numbers (f ∷ fs) (is, are) (o, i) = (is.found (after trace_shape.rules (plain_found dir_rule d uses)) ∙ field_found (field f) (greatest f) o is.kind is.absent is.small ∙ sym (is.plain uses), numbers fs are i)
+  header_found : header_at (after s.rules (plain_found dir_rule d uses)) ≡ header_of (plain_field uses)
+  header_found = same_header (field_at (after s.rules (plain_found dir_rule d uses))) (plain_field uses) fields zeros (address_found (field Dst) options.0, (address_found (field Src) options.1.0, numbers_found number_fields are_numbers options.1.1))
 
 trace_taken : (d : Text) (uses : List Use) → ArePlain trace d uses → request_of (plain_words trace d uses) ≡ plain_request trace d uses
 trace_taken d uses h =
@@ -301,7 +300,7 @@ trace_taken d uses h =
     ∙ trace_from (after trace_shape.rules (plain_found dir_rule d uses)) d (option_and_then place_of (text_for from uses)) (header_of (plain_field uses)) (plain_limits uses)
     (ap first_in (argument_found trace dir_rule trace_shape trace_is d refl uses))
     (ap (option_and_then place_of) (text_found trace dir_rule trace_shape trace_is d refl uses from trace_is.options.0))
-    (trace_header d uses h.options)
+    (header_found trace trace_shape trace_is (all_front (IsOption trace_shape.rules) (map field fields) limit_options trace_is.options.1) d uses h.options)
     (limits_found trace dir_rule trace_shape trace_is d refl uses (all_behind (IsOption trace_shape.rules) (map field fields) limit_options trace_is.options.1) h.options)
 
 -- ---- reach
@@ -359,6 +358,26 @@ lines_taken d uses h =
     let limits = limits_found lines dir_rule lines_shape lines_is d refl uses lines_is.options.1 h.options in
     words_ask lines dir_rule lines_shape lines_is d refl uses (text_plain d h.argument) h ∙ rw (dir, one, limits)
 
+-- ---- failures
+
+failures_from : (rows : List Row) (d : Text) (place : Option PlaceName) (header : Option Header) (ends : Option Ends) (l : Limits) → first_of (codes "DIR") rows ≡ Some d → place_at (codes "from") rows ≡ place → header_at rows ≡ header
+    → ends_at rows ≡ ends → limits_at rows ≡ Some l
+    → request_at (Some (codes "failures", rows)) ≡ option_map (λ ask. record { source = Folder d; ask = ask; limits = l }) (option_and_then (λ p. option_and_then (λ h. option_map (λ e. Failures p h e) ends) header) place)
+failures_from rows d None header ends l dir_is place_is header_is ends_is l_is = rw (dir_is, place_is)
+failures_from rows d (Some p) None ends l dir_is place_is header_is ends_is l_is = rw (dir_is, place_is, header_is)
+failures_from rows d (Some p) (Some h) None l dir_is place_is header_is ends_is l_is = rw (dir_is, place_is, header_is, ends_is)
+failures_from rows d (Some p) (Some h) (Some e) l dir_is place_is header_is ends_is l_is = rw (dir_is, place_is, header_is, ends_is, l_is)
+
+failures_taken : (d : Text) (uses : List Use) → ArePlain failures d uses → request_of (plain_words failures d uses) ≡ plain_request failures d uses
+failures_taken d uses h =
+    words_ask failures dir_rule failures_shape failures_is d refl uses (text_plain d h.argument) h
+    ∙ failures_from (after failures_shape.rules (plain_found dir_rule d uses)) d (option_and_then place_of (text_for from uses)) (header_of (plain_field uses)) (endings_of (text_for end uses)) (plain_limits uses)
+    (ap first_in (argument_found failures dir_rule failures_shape failures_is d refl uses))
+    (ap (option_and_then place_of) (text_found failures dir_rule failures_shape failures_is d refl uses from failures_is.options.0))
+    (header_found failures failures_shape failures_is (all_front (IsOption failures_shape.rules) (map field fields) limit_options failures_is.options.1.1) d uses h.options)
+    (ap endings_of (text_found failures dir_rule failures_shape failures_is d refl uses end failures_is.options.1.0))
+    (limits_found failures dir_rule failures_shape failures_is d refl uses (all_behind (IsOption failures_shape.rules) (map field fields) limit_options failures_is.options.1.1) h.options)
+
 -- ---- sample
 
 sample_from : (rows : List Row) (n : ℕ) (l : Limits) → number_at 32 (codes "N") rows ≡ Some n → limits_at rows ≡ Some l → request_at (Some (codes "sample", rows)) ≡ Some (record { source = Made n; ask = Summary; limits = l })
@@ -381,4 +400,5 @@ plain_taken reach = reach_taken
 plain_taken loops = packets_taken loops loops_shape loops_is Loops (λ rows. refl) (λ rows. refl) (λ d uses. refl) (λ d p. text_plain d p) loops_is.options
 plain_taken uneven = packets_taken uneven uneven_shape uneven_is Uneven (λ rows. refl) (λ rows. refl) (λ d uses. refl) (λ d p. text_plain d p) uneven_is.options
 plain_taken lines = lines_taken
+plain_taken failures = failures_taken
 plain_taken sample = sample_taken

@@ -87,6 +87,10 @@ uneven_app = with_limits (with_examples (on_packets (codes "uneven")))
 abbrev pub lines_app : App
 lines_app = with_limits (on_routers (codes "lines"))
 
+-- failures DIR --from PLACE --dst A [--end KIND] [--src A] [--proto N] [--sport N] [--dport N] [--type N] [--code N] [--ack N] [--rst N]
+abbrev pub failures_app : App
+failures_app = with_limits (with_header (with_rule (on_packets (codes "failures")) (text_option (codes "end"))))
+
 -- sample N
 abbrev pub sample_app : App
 sample_app = with_limits (with_rule (new_app (codes "sample")) count_argument)
@@ -104,4 +108,4 @@ abbrev pub sets_app : App
 sets_app = with_subcommand (with_subcommand (with_subcommand tables_app reach_app.top) loops_app.top) uneven_app.top
 
 abbrev pub netcheck_app : App
-netcheck_app = with_subcommand (with_subcommand sets_app lines_app.top) sample_app.top
+netcheck_app = with_subcommand (with_subcommand (with_subcommand sets_app lines_app.top) failures_app.top) sample_app.top

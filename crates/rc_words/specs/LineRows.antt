@@ -6,9 +6,10 @@ use Rattle.clap.specs.Faults.{defaults_fault, flags_fault, walk_fault}
 use Rattle.clap.specs.Walk.{bundle_met, walked}
 use Rattle.rc_base.specs.Fields.{zeros}
 use Rattle.rc_base.specs.declared.header.Header.{Header}
+use Rattle.rc_words.specs.Endings.{no_endings}
 use Rattle.rc_words.specs.Request.{request_of}
 use Rattle.rc_words.specs.declared.request.Ask.{Ask}
-use Rattle.rc_words.specs.declared.request.Ask.TheVariants.{Routes, Trace, Loops, Uneven, Lines, Summary}
+use Rattle.rc_words.specs.declared.request.Ask.TheVariants.{Routes, Trace, Loops, Uneven, Lines, Failures, Summary}
 use Rattle.rc_words.specs.declared.request.PlaceName.{PlaceName}
 use Rattle.rc_words.specs.declared.request.Request.{Request}
 use Rattle.rc_words.specs.declared.request.Source.TheVariants.{Folder, Made}
@@ -232,6 +233,35 @@ pub lines_of_one : asked (codes "lines d --nodes 16 --router R1") ≡ asks (Line
 unfolding request_of walk_fault flags_fault defaults_fault walked bundle_met chars
 lines_of_one = refl
 
+-- ---- a packet without each link
+
+-- without options the endings are `accepted` and `delivered`, and the header is that of a walk
+pub plain_failures : asked (codes "failures d --from R1 --dst 10.0.0.1") ≡ asks (Failures (at_router (codes "R1")) (header 167772161 0 0 0 0) (record no_endings { accepted = true; delivered = true })) 1000 4 1048576
+unfolding request_of walk_fault flags_fault defaults_fault walked bundle_met chars
+plain_failures = refl
+
+-- one ending by its name, before the place or behind it
+pub failures_to_an_ending : asked (codes "failures d --from R1:Gi0/0 --dst 10.0.0.1 --end exits") ≡ asks (Failures (at_interface (codes "R1") (codes "Gi0/0")) (header 167772161 0 0 0 0) (record no_endings { exits = true })) 1000 4 1048576
+unfolding request_of walk_fault flags_fault defaults_fault walked bundle_met chars
+failures_to_an_ending = refl
+
+pub failures_to_be_denied : asked (codes "failures --end=denied-in --workers 64 --dst=10.0.0.1 d --from=R1 --rounds 7 --nodes 16") ≡ asks (Failures (at_router (codes "R1")) (header 167772161 0 0 0 0) (record no_endings { denied_in = true })) 7 64 16
+unfolding request_of walk_fault flags_fault defaults_fault walked bundle_met chars
+failures_to_be_denied = refl
+
+-- each field of the header by its option
+pub failures_of_a_header : asked (codes "failures d --from R1 --dst 255.255.255.255 --src 0.0.1.0 --proto 6 --sport 1 --dport 2 --ack 1") ≡ asks (Failures (at_router (codes "R1")) (record zeros { dst = 4294967295; src = 256; proto = 6; sport = 1; dport = 2; ack = true }) (record no_endings { accepted = true; delivered = true })) 1000 4 1048576
+unfolding request_of walk_fault flags_fault defaults_fault walked bundle_met chars
+failures_of_a_header = refl
+
+pub failures_of_an_echo : asked (codes "failures d --rst 1 --code 4 --type 8 --proto 1 --end accepted --dst 10.0.0.1 --from R1") ≡ asks (Failures (at_router (codes "R1")) (record zeros { dst = 167772161; proto = 1; icmp_type = 8; icmp_code = 4; rst = true }) (record no_endings { accepted = true })) 1000 4 1048576
+unfolding request_of walk_fault flags_fault defaults_fault walked bundle_met chars
+failures_of_an_echo = refl
+
+pub failures_of_greatest_fields : asked (codes "failures d --from R1 --dst 10.0.0.1 --dport 65535 --sport 65534 --proto 255 --type 255 --code 254 --ack 0 --rst 0") ≡ asks (Failures (at_router (codes "R1")) (record zeros { dst = 167772161; proto = 255; sport = 65534; dport = 65535; icmp_type = 255; icmp_code = 254 }) (record no_endings { accepted = true; delivered = true })) 1000 4 1048576
+unfolding request_of walk_fault flags_fault defaults_fault walked bundle_met chars
+failures_of_greatest_fields = refl
+
 -- ---- made networks
 
 -- what asks for the summary of a made network
@@ -272,6 +302,7 @@ pub no_command : refused (
     ∷ codes "route d"
     ∷ codes "loop d --from R1"
     ∷ codes "line d"
+    ∷ codes "failure d --from R1 --dst 10.0.0.1"
     ∷ codes "sample 3"
     ∷ codes "Trace d --from R1 --dst 10.0.0.1"
     ∷ []) ≡ true
@@ -289,6 +320,8 @@ pub no_folder : refused (
     ∷ codes "trace"
     ∷ codes "trace d e --from R1 --dst 10.0.0.1"
     ∷ codes "trace --from R1 --dst 10.0.0.1"
+    ∷ codes "failures"
+    ∷ codes "failures --from R1 --dst 10.0.0.1"
     ∷ []) ≡ true
 unfolding request_of walk_fault flags_fault defaults_fault walked bundle_met chars
 no_folder = refl
@@ -305,6 +338,9 @@ pub no_such_option : refused (
     ∷ codes "lines d --examples 1"
     ∷ codes "routes d --round 5"
     ∷ codes "trace d --from R1 --dst 10.0.0.1 --router R1"
+    ∷ codes "trace d --from R1 --dst 10.0.0.1 --end exits"
+    ∷ codes "failures d --from R1 --dst 10.0.0.1 --examples 1"
+    ∷ codes "failures d --from R1 --dst 10.0.0.1 --router R1"
     ∷ []) ≡ true
 unfolding request_of walk_fault flags_fault defaults_fault walked bundle_met chars
 no_such_option = refl
@@ -320,6 +356,8 @@ pub no_value : refused (
     ∷ codes "trace d --from R1 --dst"
     ∷ codes "trace d --from R1 --dst 10.0.0.1 --sport"
     ∷ codes "trace d --from R1 --dst 10.0.0.1 --ack"
+    ∷ codes "failures d --from R1 --dst 10.0.0.1 --end"
+    ∷ codes "failures d --from R1 --end exits --dst"
     ∷ []) ≡ true
 unfolding request_of walk_fault flags_fault defaults_fault walked bundle_met chars
 no_value = refl
@@ -337,6 +375,8 @@ pub given_twice : refused (
     ∷ codes "trace d --from R1 --dst 10.0.0.1 --code 1 --code=1"
     ∷ codes "trace d --from R1 --dst 10.0.0.1 --ack 1 --ack 1"
     ∷ codes "trace d --from R1 --dst 10.0.0.1 --rst 0 --rst 0"
+    ∷ codes "failures d --from R1 --dst 10.0.0.1 --end exits --end exits"
+    ∷ codes "failures d --from R1 --dst 10.0.0.1 --dst 10.0.0.1"
     ∷ []) ≡ true
 unfolding request_of walk_fault flags_fault defaults_fault walked bundle_met chars
 given_twice = refl
@@ -382,6 +422,10 @@ pub no_field : refused (
     ∷ codes "trace d --from R1 --dst 10.0.0.1 --ack -1"
     ∷ codes "trace d --from R1 --dst 10.0.0.1 --rst 2"
     ∷ codes "trace d --from R1 --dst 10.0.0.1 --rst true"
+    ∷ codes "failures d --from R1 --dst 10.0.0.1 --proto 256"
+    ∷ codes "failures d --from R1 --dst 10.0.0.1 --sport 65536"
+    ∷ codes "failures d --from R1 --dst 10.0.0.1 --ack 2"
+    ∷ codes "failures d --from R1 --dst 10.0.0.1 --workers 65"
     ∷ []) ≡ true
 unfolding request_of walk_fault flags_fault defaults_fault walked bundle_met chars
 no_field = refl
@@ -397,6 +441,8 @@ pub no_address : refused (
     ∷ codes "trace d --from R1 --dst 10.0.0.1 --src 10.0.0"
     ∷ codes "trace d --from R1 --dst 10.0.0.1 --src "
     ∷ codes "trace d --from R1 --dst 10.0.0.1 --src 256.0.0.0"
+    ∷ codes "failures d --from R1 --dst 10.0.0"
+    ∷ codes "failures d --from R1 --dst 10.0.0.1 --src 10.0.0.256"
     ∷ []) ≡ true
 unfolding request_of walk_fault flags_fault defaults_fault walked bundle_met chars
 no_address = refl
@@ -416,6 +462,13 @@ pub no_place : refused (
     ∷ codes "loops d --from R1:"
     ∷ codes "uneven d --examples 1"
     ∷ codes "uneven d --from :"
+    ∷ codes "failures d --from R1"
+    ∷ codes "failures d --from R1 --end exits"
+    ∷ codes "failures d --dst 10.0.0.1"
+    ∷ codes "failures d --from R1: --dst 10.0.0.1"
+    ∷ codes "failures d --from R1 --dst 10.0.0.1 --end nowhere"
+    ∷ codes "failures d --from R1 --dst 10.0.0.1 --end Exits"
+    ∷ codes "failures d --from R1 --dst 10.0.0.1 --end "
     ∷ []) ≡ true
 unfolding request_of walk_fault flags_fault defaults_fault walked bundle_met chars
 no_place = refl

@@ -12,7 +12,7 @@ use Rattle.rc_words.specs.Endings.{endings_of}
 use Rattle.rc_words.specs.HeaderOptions.{greatest, header_of}
 use Rattle.rc_words.specs.Request.{place_of}
 use Rattle.rc_words.specs.declared.request.Ask.{Ask}
-use Rattle.rc_words.specs.declared.request.Ask.TheVariants.{Routes, Trace, Reach, Loops, Uneven, Lines, Summary}
+use Rattle.rc_words.specs.declared.request.Ask.TheVariants.{Routes, Trace, Reach, Loops, Uneven, Lines, Failures, Summary}
 use Rattle.rc_words.specs.declared.request.Limits.{Limits}
 use Rattle.rc_words.specs.declared.request.Request.{Request}
 use Rattle.rc_words.specs.declared.request.Source.{Source}
@@ -28,6 +28,7 @@ pub data CommandName : Type 0 where
   loops : CommandName
   uneven : CommandName
   lines : CommandName
+  failures : CommandName
   sample : CommandName
 
 -- the word that names a command
@@ -38,6 +39,7 @@ command_word reach = codes "reach"
 command_word loops = codes "loops"
 command_word uneven = codes "uneven"
 command_word lines = codes "lines"
+command_word failures = codes "failures"
 command_word sample = codes "sample"
 
 pub data OptionName : Type 0 where
@@ -113,6 +115,7 @@ options_of reach = from ∷ end ∷ examples ∷ limit_options
 options_of loops = from ∷ examples ∷ limit_options
 options_of uneven = from ∷ examples ∷ limit_options
 options_of lines = router ∷ limit_options
+options_of failures = from ∷ end ∷ map field fields ++ limit_options
 options_of sample = limit_options
 
 -- those that have to be given
@@ -123,6 +126,7 @@ required_of reach = from ∷ []
 required_of loops = from ∷ []
 required_of uneven = from ∷ []
 required_of lines = []
+required_of failures = from ∷ field Dst ∷ []
 required_of sample = []
 
 -- what the word behind the command is: a folder, or for `sample` a number of routers
@@ -211,6 +215,7 @@ plain_ask reach uses = option_and_then (λ place. option_map (λ ends. Reach pla
 plain_ask loops uses = option_map (λ place. Loops place (number_for examples uses)) (option_and_then place_of (text_for from uses))
 plain_ask uneven uses = option_map (λ place. Uneven place (number_for examples uses)) (option_and_then place_of (text_for from uses))
 plain_ask lines uses = Some (Lines (text_for router uses))
+plain_ask failures uses = option_and_then (λ place. option_and_then (λ header. option_map (λ ends. Failures place header ends) (endings_of (text_for end uses))) (header_of (plain_field uses))) (option_and_then place_of (text_for from uses))
 plain_ask sample uses = Some Summary
 
 -- what plain words ask for, and nothing where the text of a place, an address or an ending isn't read

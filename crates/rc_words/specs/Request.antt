@@ -19,7 +19,7 @@ use Rattle.rc_base.specs.Endings.{kind_named}
 use Rattle.rc_words.specs.Endings.{endings_of}
 use Rattle.rc_words.specs.HeaderOptions.{greatest, header_of}
 use Rattle.rc_words.specs.declared.request.Ask.{Ask}
-use Rattle.rc_words.specs.declared.request.Ask.TheVariants.{Routes, Trace, Reach, Loops, Uneven, Lines, Summary}
+use Rattle.rc_words.specs.declared.request.Ask.TheVariants.{Routes, Trace, Reach, Loops, Uneven, Lines, Failures, Summary}
 use Rattle.rc_words.specs.declared.request.Limits.{Limits}
 use Rattle.rc_words.specs.declared.request.PlaceName.{PlaceName}
 use Rattle.rc_words.specs.declared.request.Request.{Request}
@@ -89,6 +89,11 @@ reach_at rows = option_and_then (λ place. option_and_then (λ ends. option_map 
 abbrev pub packets_at : (PlaceName → ℕ → Ask) → List Row → Option Ask
 packets_at ask rows = option_and_then (λ place. option_map (λ examples. ask place examples) (number_at 32 (codes "examples") rows)) (place_at (codes "from") rows)
 
+-- what is asked by `failures`
+abbrev pub failures_at : List Row → Option Ask
+failures_at rows = option_and_then (λ place. option_and_then (λ header. option_map (λ ends. Failures place header ends)
+    (ends_at rows)) (header_at rows)) (place_at (codes "from") rows)
+
 -- what is asked by the command of this name: of routers, of packets, or of a made network
 abbrev pub ask_at : Text → List Row → Option Ask
 ask_at name rows =
@@ -98,6 +103,7 @@ ask_at name rows =
     else if bytes_eq name (codes "reach") then reach_at rows
     else if bytes_eq name (codes "loops") then packets_at Loops rows
     else if bytes_eq name (codes "uneven") then packets_at Uneven rows
+    else if bytes_eq name (codes "failures") then failures_at rows
     else if bytes_eq name (codes "sample") then Some Summary
     else None
 
@@ -150,6 +156,7 @@ IsAskInRange (Reach place ends examples) = examples ≤ 1000
 IsAskInRange (Loops place examples) = examples ≤ 1000
 IsAskInRange (Uneven place examples) = examples ≤ 1000
 IsAskInRange (Lines router) = Unit {0}
+IsAskInRange (Failures place header ends) = IsHeader header
 IsAskInRange Summary = Unit {0}
 
 -- whether the network is a made one

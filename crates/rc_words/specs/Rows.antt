@@ -4,9 +4,10 @@ use Rattle.std.specs.List.{list_all}
 use Rattle.std.proofs.Common.{lit<, lit≤}
 use Rattle.rc_base.specs.Fields.{fields, zeros}
 use Rattle.rc_base.specs.declared.field.Field.TheVariants.{Dst, Src, Proto, Sport, Dport, IcmpType, IcmpCode, Ack, Rst}
-use Rattle.rc_words.specs.Plain.{routes, trace, router, from, field, rounds, workers, nodes, number, text, kind_of, required_of, has_option, options_of, Use, is_given, is_plain_text, IsPlainValue, ArePlain, plain_words, plain_request}
+use Rattle.rc_words.specs.Endings.{no_endings}
+use Rattle.rc_words.specs.Plain.{routes, trace, failures, router, from, field, end, rounds, workers, nodes, number, text, kind_of, required_of, has_option, options_of, Use, is_given, is_plain_text, IsPlainValue, ArePlain, plain_words, plain_request}
 use Rattle.rc_words.specs.Request.{number_read, place_of}
-use Rattle.rc_words.specs.declared.request.Ask.TheVariants.{Routes, Trace}
+use Rattle.rc_words.specs.declared.request.Ask.TheVariants.{Routes, Trace, Failures}
 use Rattle.rc_words.specs.declared.request.Source.TheVariants.{Folder}
 
 -- ---- numbers
@@ -113,6 +114,9 @@ some_trace = record { argument = refl; options = (refl, refl, refl, (refl, refl,
 pub numbers_of_trace : list_all (λ o. has_option o (options_of trace)) (map field fields ++ rounds ∷ workers ∷ nodes ∷ []) ≡ true
 numbers_of_trace = refl
 
+pub options_of_failures : list_all (λ o. has_option o (options_of failures)) (from ∷ end ∷ map field fields ++ rounds ∷ workers ∷ nodes ∷ []) ≡ true
+options_of_failures = refl
+
 pub other_command : has_option from (options_of routes) ≡ false
 other_command = refl
 
@@ -124,6 +128,12 @@ from_wanted = refl
 
 pub dst_wanted : list_all (λ o. is_given o (record { option = from; value = codes "R1" } ∷ [])) (required_of trace) ≡ false
 dst_wanted = refl
+
+pub no_end_in_trace : has_option end (options_of trace) ≡ false
+no_end_in_trace = refl
+
+pub both_wanted_of_failures : map (λ uses. list_all (λ o. is_given o uses) (required_of failures)) ((record { option = from; value = codes "R1" } ∷ []) ∷ (record { option = field Dst; value = codes "0.0.0.9" } ∷ []) ∷ []) ≡ false ∷ false ∷ []
+both_wanted_of_failures = refl
 
 pub no_dash_first : is_plain_text (codes "-d") ≡ false
 no_dash_first = refl
@@ -178,3 +188,27 @@ unread_address = refl
 
 pub unread_source : plain_request trace (codes "d") (record { option = field Dst; value = codes "10.0.0.1" } ∷ record { option = from; value = codes "R1" } ∷ record { option = field Src; value = codes "me" } ∷ []) ≡ None
 unread_source = refl
+
+-- a packet without each link, with and without an ending
+pub least_failures : plain_request failures (codes "d") (record { option = field Dst; value = codes "10.0.0.1" } ∷ record { option = from; value = codes "R1" } ∷ [])
+    ≡ Some (record {
+      source = Folder (codes "d");
+      ask = Failures (record { router = codes "R1"; interface = None }) (record zeros { dst = 167772161 }) (record no_endings { accepted = true; delivered = true });
+      limits = record { rounds = 1000; workers = 4; nodes = 1048576 };
+    })
+least_failures = refl
+
+pub failures_to_an_ending : plain_request failures (codes "d") (record { option = end; value = codes "no-route" } ∷ record { option = field Dst; value = codes "0.0.0.9" } ∷ record { option = field Rst; value = codes "1" }
+    ∷ record { option = from; value = codes "R1:e0" } ∷ record { option = workers; value = codes "2" } ∷ [])
+    ≡ Some (record {
+      source = Folder (codes "d");
+      ask = Failures (record { router = codes "R1"; interface = Some (codes "e0") }) (record zeros { dst = 9; rst = true }) (record no_endings { no_route = true });
+      limits = record { rounds = 1000; workers = 2; nodes = 1048576 };
+    })
+failures_to_an_ending = refl
+
+pub unread_ending : plain_request failures (codes "d") (record { option = end; value = codes "nowhere" } ∷ record { option = field Dst; value = codes "0.0.0.9" } ∷ record { option = from; value = codes "R1" } ∷ []) ≡ None
+unread_ending = refl
+
+pub unread_destination : plain_request failures (codes "d") (record { option = field Dst; value = codes "10.0.0" } ∷ record { option = from; value = codes "R1" } ∷ []) ≡ None
+unread_destination = refl

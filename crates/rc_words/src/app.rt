@@ -1,11 +1,12 @@
 //! The command that the words are read by, as clap is told it.
 //!
-//! Each command is a list of arguments, and one loop tells clap of them. A step takes what the one before it gave, want of
-//! memory too, so no function above the loop and the joining of two commands has a way on of its own.
+//! Each command is a list of arguments, and one loop tells clap of them; the fields of a packet's header are one list, which
+//! the commands about one packet share. Joining takes two commands as they were made, want of memory too, so no function
+//! above it has a way on of its own.
 ghost use Rattle.std.specs.Prelude.{◌≡◌, false, codes, fold, map, IfOk};
 ghost use Rattle.rc_base.specs.Fields.{name};
 ghost use Rattle.clap.specs.Words.{App, rule_of, new_app, with_rule, with_subcommand};
-ghost use Rattle.rc_words.specs.App.{number_option, text_option, wanted_option, default_option, dir_argument, count_argument, routes_app, trace_app, reach_app, loops_app, uneven_app, lines_app, sample_app, with_settings, netcheck_app};
+ghost use Rattle.rc_words.specs.App.{number_option, text_option, wanted_option, default_option, dir_argument, count_argument, routes_app, trace_app, reach_app, loops_app, uneven_app, lines_app, failures_app, sample_app, with_header, with_limits, with_settings, netcheck_app};
 ghost use Rattle.rc_words.specs.Arguments.{IsTold, rule_told};
 ghost use Rattle.rc_words.specs.HeaderOptions.{greatest};
 
@@ -133,6 +134,20 @@ fn told<'a>(alloc: Global, argument: &Argument) -> Arg<'a>
     }
 }
 
+// A command with these arguments behind those that it has.
+fn with_arguments<'a>(
+    alloc: Global,
+    mut command: Command<'a>,
+    arguments: &[Argument],
+) -> Result<Command<'a>, AllocError>
+    ensures { (a : App) → IsTold command.entry a → IfOk result (λ c. IsTold c (fold with_rule a (map rule_told arguments.now))) }
+{
+    for argument in arguments {
+        command = command.arg(told(alloc, argument))?;
+    }
+    Ok(command)
+}
+
 // A command with these arguments.
 fn command_of<'a>(
     alloc: Global,
@@ -141,11 +156,7 @@ fn command_of<'a>(
 ) -> Result<Command<'a>, AllocError>
     ensures { IfOk result (λ c. IsTold c (fold with_rule (new_app name.now) (map rule_told arguments.now))) }
 {
-    let mut command = Command::new(alloc, name);
-    for argument in arguments {
-        command = command.arg(told(alloc, argument))?;
-    }
-    Ok(command)
+    with_arguments(alloc, Command::new(alloc, name), arguments)
 }
 
 const PROTO: Argument = Argument::Number {
@@ -241,15 +252,19 @@ fn routes_command<'a>(alloc: Global) -> Result<Command<'a>, AllocError>
     )
 }
 
-fn trace_command<'a>(alloc: Global) -> Result<Command<'a>, AllocError>
-    ensures { IfOk result (λ c. IsTold c trace_app) }
+// A command about one packet: behind its own arguments come the fields of the packet's header, and the limits.
+fn packet_command<'a>(
+    alloc: Global,
+    name: &'static str,
+    own: &[Argument],
+) -> Result<Command<'a>, AllocError>
+    ensures { IfOk result (λ c. IsTold c (with_limits (with_header (fold with_rule (new_app name.now) (map rule_told own.now))))) }
 {
-    command_of(
+    let command = command_of(alloc, name, own)?;
+    with_arguments(
         alloc,
-        "trace",
+        command,
         &[
-            Argument::Folder,
-            Argument::Wanted("from"),
             Argument::Wanted("dst"),
             Argument::Source,
             PROTO,
@@ -263,6 +278,16 @@ fn trace_command<'a>(alloc: Global) -> Result<Command<'a>, AllocError>
             WORKERS,
             NODES,
         ],
+    )
+}
+
+fn trace_command<'a>(alloc: Global) -> Result<Command<'a>, AllocError>
+    ensures { IfOk result (λ c. IsTold c trace_app) }
+{
+    packet_command(
+        alloc,
+        "trace",
+        &[Argument::Folder, Argument::Wanted("from")],
     )
 }
 
@@ -334,6 +359,20 @@ fn lines_command<'a>(alloc: Global) -> Result<Command<'a>, AllocError>
     )
 }
 
+fn failures_command<'a>(alloc: Global) -> Result<Command<'a>, AllocError>
+    ensures { IfOk result (λ c. IsTold c failures_app) }
+{
+    packet_command(
+        alloc,
+        "failures",
+        &[
+            Argument::Folder,
+            Argument::Wanted("from"),
+            Argument::Text("end"),
+        ],
+    )
+}
+
 fn sample_command<'a>(alloc: Global) -> Result<Command<'a>, AllocError>
     ensures { IfOk result (λ c. IsTold c sample_app) }
 {
@@ -377,5 +416,6 @@ pub(crate) fn netcheck_command<'a>(alloc: Global) -> Result<Command<'a>, AllocEr
     let command = with_command(command, loops_command(alloc));
     let command = with_command(command, uneven_command(alloc));
     let command = with_command(command, lines_command(alloc));
+    let command = with_command(command, failures_command(alloc));
     with_command(command, sample_command(alloc))
 }

@@ -6,7 +6,7 @@ ghost use Rattle.rc_base.specs.Fields.{width};
 ghost use Rattle.rc_openings.specs.Values.{at_most};
 ghost use Rattle.rc_words.specs.App.{netcheck_app};
 ghost use Rattle.rc_words.specs.Faults.{fault_by};
-ghost use Rattle.rc_words.specs.Request.{place_cut, place_of, number_at, address_at, place_at, limits_at, field_at, header_at, ends_at, trace_at, reach_at, packets_at, source_at, ask_at, request_at, request_of, AreInRange, IsSourceInRange, IsAskInRange, is_made, is_summary};
+ghost use Rattle.rc_words.specs.Request.{place_cut, place_of, number_at, address_at, place_at, limits_at, field_at, header_at, ends_at, trace_at, reach_at, packets_at, failures_at, source_at, ask_at, request_at, request_of, AreInRange, IsSourceInRange, IsAskInRange, is_made, is_summary};
 
 use crate::app::{greatest_of, netcheck_command, word_of};
 use crate::endings::endings_in;
@@ -220,6 +220,19 @@ fn uneven_given(found: &ArgMatches) -> Option<Ask>
     Some(Ask::Uneven { place, examples })
 }
 
+fn failures_given(found: &ArgMatches) -> Option<Ask>
+    ensures { result ≡ failures_at (rows_of (found_of found.now)) }
+{
+    let place = place_given(found, "from")?;
+    let header = header_given(found)?;
+    let ends = ends_given(found)?;
+    Some(Ask::Failures {
+        place,
+        header,
+        ends,
+    })
+}
+
 // What the command of this name asks.
 fn ask_given(alloc: Global, name: &str, found: &ArgMatches) -> Result<Ask, WordsFault>
     ensures taken { IfOk result (λ ask. ask_at name.now (rows_of (found_of found.now)) ≡ Some ask) }
@@ -241,6 +254,8 @@ fn ask_given(alloc: Global, name: &str, found: &ArgMatches) -> Result<Ask, Words
         loops_given(found)
     } else if name == "uneven" {
         uneven_given(found)
+    } else if name == "failures" {
+        failures_given(found)
     } else if name == "sample" {
         Some(Ask::Summary)
     } else {

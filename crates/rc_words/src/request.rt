@@ -109,6 +109,15 @@ pub enum Ask {
         /// The router that is asked about, as it was typed; every router where nothing is said.
         router: Option<WordText>,
     },
+    /// Whether a packet gets from a place to an ending without each of the links, one at a time.
+    Failures {
+        /// Where the packet starts.
+        place: PlaceName,
+        /// What the packet's header says.
+        header: Header,
+        /// The endings that are asked for.
+        ends: Ends,
+    },
     /// How many routes there are, and the first of the packets that get from outside to a router or a host: what
     /// `sample` asks of a made network.
     Summary,
