@@ -15,4 +15,4 @@ mod shares;
 mod silent;
 
 pub use rc_route::Outcome;
-pub use rounds::{one_outcome, run_rounds};
+pub use rounds::{one_outcome, rounds_of, run_rounds};

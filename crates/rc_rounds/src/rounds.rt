@@ -40,18 +40,30 @@ pub fn run_rounds<R: Threads + Sync + AllocGlobal, G: Gate>(
     ensures outcome { IfOk result (IsOutcome net.now limit) }
     ensures in_order { IfOk result (IsInOrder (length net.now.routers)) }
 {
-    let internal = internal_of(rt, rt.alloc(), net, workers)?;
-    let sessions = configured_sessions(rt.alloc(), net, &internal.links)?;
-    rounds_within(
-        rt,
-        rt.alloc(),
-        net,
-        &internal,
-        &sessions,
-        limit,
-        workers,
-        gate,
-    )
+    rounds_of(rt, rt.alloc(), net, limit, workers, gate)
+}
+
+/// The same, with memory from `alloc`: who shares networks among workers of its own, each of whom makes the rounds of one, can't have what
+/// gives memory among what its workers hand on.
+pub fn rounds_of<R: Threads + Sync, G: Gate>(
+    rt: &R,
+    alloc: Global,
+    net: &Network,
+    limit: u32,
+    workers: u32,
+    gate: &G,
+) -> Result<Outcome, AllocError>
+    requires lawful { IsLawful net.now }
+    requires some_rounds { 1 ≤ limit }
+    requires few_rounds { limit ≤ 100000 }
+    requires some_workers { 1 ≤ workers }
+    requires few_workers { workers ≤ 64 }
+    ensures outcome { IfOk result (IsOutcome net.now limit) }
+    ensures in_order { IfOk result (IsInOrder (length net.now.routers)) }
+{
+    let internal = internal_of(rt, alloc, net, workers)?;
+    let sessions = configured_sessions(alloc, net, &internal.links)?;
+    rounds_within(rt, alloc, net, &internal, &sessions, limit, workers, gate)
 }
 
 /// What OSPF gives without a state, which the workers share.

@@ -43,9 +43,7 @@ pub(crate) fn links_asked(alloc: Global, net: &Network) -> Result<Links, AllocEr
     ensures { IfOk result (λ links. AreAsked net.now links) }
 {
     if are_silent(net) {
-        let nobody = Network {
-            routers: Named::new(alloc),
-        };
+        let nobody = Network::of(alloc, Named::new(alloc))?;
         return Links::of(alloc, &nobody);
     }
     Links::of(alloc, net)

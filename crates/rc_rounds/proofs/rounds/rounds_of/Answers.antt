@@ -2,7 +2,7 @@ use Rattle.std.proofs.lemmas.Result.{IfOk-weaker}
 use Rattle.rc_rounds.specs.Rounds.{IsOutcome}
 use Rattle.rc_rounds.proofs.SettingLaws.{own_in_order}
 use Rattle.rc_rounds.proofs.SilentLaws.{outcome_over}
-use Rattle.rc_rounds.proofs.rounds.run_rounds.Goals as goal
+use Rattle.rc_rounds.proofs.rounds.rounds_of.Goals as goal
 
 pub returns-clause-outcome : goal.returns-clause-outcome
 returns-clause-outcome g c =

@@ -1,0 +1,3 @@
+mod ArrivalLaws
+mod RowLaws
+pub mod OneList

@@ -1,0 +1,17 @@
+use Rattle.std.proofs.Common.{sym, subst, MatchOption}
+use Rattle.std.specs.Bool.{Decides}
+use Rattle.rc_walk.specs.Moves.{plane_of}
+use Rattle.rc_walk.specs.ShortestWalks.{IsShortestWalk, NoWalkEnds}
+use Rattle.rc_failures.specs.Failures.{Arrives}
+use Rattle.rc_failures.proofs.ArrivalLaws.{arrives_where_found}
+use Rattle.rc_failures.proofs.analysing.arrives_in.Goals as goal
+
+pub returns : goal.returns
+returns c =
+    let plane = plane_of c.args.net.now c.args.state in
+    let place = c.args.packet.now.place in
+    let h = c.args.packet.now.header in
+    let ends = c.args.packet.now.ends in
+    let found = c.in_ok-walk.walk in
+    let is = subst (λ p. MatchOption found (NoWalkEnds p h ends place) (IsShortestWalk p h ends place)) c.in_ok-plane.ensures c.in_ok-walk.ensures in
+    subst (λ b. Decides b (Arrives plane place h ends)) (sym c.is_some.ensures) (arrives_where_found plane place h ends found is)
