@@ -1,10 +1,10 @@
 -- How the program ends, by its words.
 use Rattle.std.specs.Prelude.{◌≡◌, ℕ, List, Option, Some, None, Result, Ok, Err, IfSome, IfNone, IsNone}
 use Rattle.rc_words.specs.Request.{request_of}
-use Rattle.rc_answers.specs.Texts.{usage_text}
-use Rattle.rc_answers.specs.Written.{IsWrittenOrMemory}
-use Rattle.rc_answers.specs.declared.status.Status.{Status}
-use Rattle.rc_answers.specs.declared.status.Status.TheVariants.{Usage}
+use Rattle.rc_writing.specs.Texts.{usage_text}
+use Rattle.rc_writing.specs.Written.{IsWrittenOrMemory}
+use Rattle.rc_writing.specs.declared.status.Status.{Status}
+use Rattle.rc_writing.specs.declared.status.Status.TheVariants.{Usage}
 use Rattle.rc_analyse.specs.Answer.{files_asked, IsAnswer}
 
 -- A run over a folder and a stream of the system, which tell nothing of what they hold: words that make no request end as usage does,

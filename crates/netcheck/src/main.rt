@@ -9,7 +9,7 @@ ghost use Rattle.std.specs.Prelude.{◌≡◌, ◌≢◌, [], drop, map, string_
 ghost use Rattle.std.specs.IoError.{error_kind};
 ghost use Rattle.std.specs.Process.{exit_status};
 ghost use Rattle.std.specs.Vec.Iter.{into_iter_items};
-ghost use Rattle.rc_answers.specs.Codes.{status_code};
+ghost use Rattle.rc_writing.specs.Codes.{status_code};
 ghost use Rattle.netcheck.specs.Ends.{EndsBy};
 
 use rc_analyse::{Status, run};

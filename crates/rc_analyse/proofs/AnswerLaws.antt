@@ -7,13 +7,14 @@ use Rattle.rc_words.specs.Request.{request_of}
 use Rattle.rc_words.specs.declared.request.Request.{Request}
 use Rattle.rc_words.specs.declared.request.WordsFault.{WordsFault}
 use Rattle.rc_words.specs.declared.request.WordsFault.TheVariants as words
-use Rattle.rc_answers.specs.Texts.{usage_text}
-use Rattle.rc_answers.specs.Written.{IsLackingFor, IsPutOf, IsWritten, IsWrittenOrMemory, status_of}
+use Rattle.rc_writing.specs.Texts.{usage_text}
+use Rattle.rc_writing.specs.Written.{IsWritten, IsWrittenOrMemory}
+use Rattle.rc_writing.specs.declared.status.Status.TheVariants.{Done, Refused, Usage, Repeats, Limit, Nodes, Source, Sink, Memory, NoPlace}
+use Rattle.rc_writing.specs.declared.status.Status.{Status}
+use Rattle.rc_answers.specs.Written.{IsLackingFor, IsPutOf, status_of}
 use Rattle.rc_analyse.specs.Answer.{AreFound, MayAsk, files_asked, IsLacking, IsAnswer, IsComplete, IsCompleteWithout, IsTakenWhenPlain}
 use Rattle.rc_answers.specs.Given.{Given, refused, no_place, idle, ended}
 use Rattle.rc_answers.specs.declared.findings.Findings.{Findings}
-use Rattle.rc_answers.specs.declared.status.Status.{Status}
-use Rattle.rc_answers.specs.declared.status.Status.TheVariants.{Done, Refused, Usage, Repeats, Limit, Nodes, Source, Sink, Memory, NoPlace}
 
 -- what was found lacks what the run lacks
 lacks : (files : List File) (r : Request) (f : Findings) (answer : Status) → AreFound files r f → IsLackingFor r.limits.nodes f answer → IsLacking files r answer

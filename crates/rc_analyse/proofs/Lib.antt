@@ -1,6 +1,3 @@
-mod Listed
-mod FileFronts
-mod ReadLaws
 mod AnswerLaws
 mod OneAnswer
 mod FoundLaws

@@ -1,54 +1,41 @@
--- The files of a folder have one network, and give one answer.
-use Rattle.std.proofs.Common.{refl, ◌≡◌, ◌∙◌, sym, ap, subst, ℕ, Bool, true, false, List, length, nat_lt, filter, Some, None, Result, Ok, Err}
-use Rattle.std.specs.Option.{unwrap_or}
-use Rattle.std.proofs.lemmas.Option.{none-some}
-use Rattle.rc_base.proofs.SortedLaws.{one_sorted_list}
-use Rattle.rc_outside.specs.Folder.{names_in, is_config}
+-- The files of a folder give one answer.
+use Rattle.std.proofs.Common.{◌≡◌, ◌∙◌, sym, ap, subst, List}
 use Rattle.rc_config.specs.declared.network.Network.{Network}
-use Rattle.rc_network.proofs.OneNetwork.{one_network}
-use Rattle.rc_network.specs.Build.{Model}
-use Rattle.rc_network.specs.declared.refusal.NetRefusal.{NetRefusal}
+use Rattle.rc_failures.proofs.OneList.{one_list}
+use Rattle.rc_loading.proofs.OneNet.{one_net}
+use Rattle.rc_report.specs.declared.failures.FailRow.{FailRow}
 use Rattle.rc_rounds.proofs.OutcomeLaws.{one_outcome}
+use Rattle.rc_route.specs.Outcomes.{end_of}
+use Rattle.rc_route.specs.declared.outcome.RoundsEnd.{RoundsEnd}
+use Rattle.rc_route.specs.declared.outcome.RoundsEnd.TheVariants.{Fixed, Repeats, Limit}
 use Rattle.rc_words.specs.declared.request.Limits.{Limits}
-use Rattle.rc_words.specs.declared.request.Request.{Request}
-use Rattle.rc_analyse.specs.Net.{bytes_in, IsNet, HasOneNet}
-use Rattle.rc_network.specs.Files.{most_files, models_of, IsNetOfModels, IsNetOf, IsNetOfFew, IsNetOfConfigs}
 use Rattle.rc_answers.proofs.OneShown.{given_by}
 use Rattle.rc_answers.specs.Written.{IsGivenBy}
 use Rattle.rc_analyse.specs.Answer.{HasOneAnswer, HasOneFinding, dir_of}
-use Rattle.rc_analyse.specs.Sound.{IsFoundAs}
+use Rattle.rc_analyse.specs.Sound.{AreRowsAfter, HasEnd, IsFoundAs}
 use Rattle.rc_answers.specs.Subject.{before_rounds}
 use Rattle.rc_answers.specs.declared.findings.BeforeRounds.{BeforeRounds}
 use Rattle.rc_answers.specs.declared.findings.BeforeRounds.TheVariants as before
 use Rattle.rc_answers.specs.declared.findings.Findings.{Findings}
-use Rattle.rc_answers.specs.declared.findings.Findings.TheVariants.{Ended}
+use Rattle.rc_answers.specs.declared.findings.Findings.TheVariants.{Ended, Failures}
+use Rattle.rc_answers.specs.declared.subject.Arrival.{Arrival}
 
-net_of_models : (models : List Model) (this that : Result Network NetRefusal) → IsNetOfModels models this → IsNetOfModels models that → this ≡ that
-net_of_models models (Ok m) (Ok n) h g = ap Ok (one_network models m n h.1 g.1)
-net_of_models models (Ok m) (Err r) h g = absurd (none-some r (sym h.0 ∙ g))
-net_of_models models (Err r) (Ok n) h g = absurd (none-some r (sym g.0 ∙ h))
-net_of_models models (Err r) (Err s) h g = ap (λ o. Err (unwrap_or o r)) (sym h ∙ g)
+one_end : (net : Network) (limits : Limits) (this that : RoundsEnd) → HasEnd net limits this → HasEnd net limits that → this ≡ that
+one_end net limits this that (o, is, ended) (p, is_too, ended_too) = is ∙ ap end_of (one_outcome net limits.rounds o p ended ended_too) ∙ sym is_too
 
-net_of : (models : Result (List Model) NetRefusal) (this that : Result Network NetRefusal) → IsNetOf models this → IsNetOf models that → this ≡ that
-net_of (Ok models) this that h g = net_of_models models this that h g
-net_of (Err refusal) this that h g = h ∙ sym g
-
-net_of_few : (many : Bool) (models : Result (List Model) NetRefusal) (this that : Result Network NetRefusal) → IsNetOfFew many models this → IsNetOfFew many models that → this ≡ that
-net_of_few true models this that h g = h ∙ sym g
-net_of_few false models this that h g = net_of models this that h g
-
-pub one_net : HasOneNet
-one_net dir files this that h g =
-    let names : h.names ≡ g.names = one_sorted_list (names_in dir files) h.names g.names h.in_order.same h.in_order.sorted g.in_order.same g.in_order.sorted in
-    let here : IsNetOfConfigs (bytes_in dir files) (filter is_config g.names) this = subst (λ ns. IsNetOfConfigs (bytes_in dir files) (filter is_config ns) this) names h.is in
-    net_of_few (nat_lt most_files (length (filter is_config g.names))) (models_of (bytes_in dir files) (filter is_config g.names)) this that here g.is
-
--- ---- what is found, and what it gives
+one_row_list : (net : Network) (limits : Limits) (arrival : Arrival) (end : RoundsEnd) (these those : List FailRow) → AreRowsAfter net limits arrival end these → AreRowsAfter net limits arrival end those → these ≡ those
+one_row_list net limits arrival (Fixed k) these those h g = one_list net limits.rounds arrival.place arrival.header arrival.ends these those h g
+one_row_list net limits arrival (Repeats i k) these those h g = h ∙ sym g
+one_row_list net limits arrival (Limit n) these those h g = h ∙ sym g
 
 found_as : (limits : Limits) (known : BeforeRounds) (this that : Findings) → IsFoundAs limits known this → IsFoundAs limits known that → this ≡ that
 found_as limits (before.OfFiles found) this that h g = h ∙ sym g
 found_as limits (before.OfRounds net subject) this that (o, is, ended) (p, is_too, ended_too) =
     is ∙ ap (λ x. Ended net x subject) (one_outcome net limits.rounds o p ended ended_too) ∙ sym is_too
+found_as limits (before.OfFailures net arrival) this that (end, rows, is, ended, are) (other, others, is_too, ended_too, are_too) =
+    let ends : end ≡ other = one_end net limits end other ended ended_too in
+    let same : rows ≡ others = one_row_list net limits arrival other rows others (subst (λ e. AreRowsAfter net limits arrival e rows) ends are) are_too in
+    is ∙ (λ i. Failures net (ends i) (same i)) ∙ sym is_too
 
 pub one_finding : HasOneFinding
 one_finding files r this that (net, is, found) (other, is_too, found_too) =

@@ -10,15 +10,16 @@ use Rattle.rc_words.specs.Request.{request_of}
 use Rattle.rc_words.specs.declared.request.Request.{Request}
 use Rattle.rc_words.specs.declared.request.Source.{Source}
 use Rattle.rc_words.specs.declared.request.Source.TheVariants.{Folder, Made}
-use Rattle.rc_analyse.specs.Net.{IsNet}
+use Rattle.rc_loading.specs.Net.{IsNet}
+use Rattle.rc_writing.specs.Written.{IsWritten}
+use Rattle.rc_writing.specs.declared.status.Status.TheVariants as status
+use Rattle.rc_writing.specs.declared.status.Status.{Status}
 use Rattle.rc_analyse.specs.Sound.{IsFoundAs}
 use Rattle.rc_answers.specs.Given.{Given}
 use Rattle.rc_answers.specs.Subject.{before_rounds}
 use Rattle.rc_answers.specs.Texts.{text_of}
-use Rattle.rc_answers.specs.Written.{IsGivenBy, IsWritten, NeedsMoreNodes, status_of}
+use Rattle.rc_answers.specs.Written.{IsGivenBy, NeedsMoreNodes, status_of}
 use Rattle.rc_answers.specs.declared.findings.Findings.{Findings}
-use Rattle.rc_answers.specs.declared.status.Status.{Status}
-use Rattle.rc_answers.specs.declared.status.Status.TheVariants as status
 
 -- Where the words are plain (a command, its DIR, and options with their values), they ask for what they say, and for the defaults; and
 -- for nothing where a place, an address or an ending isn't read.

@@ -1,4 +1,2 @@
-pub mod Net
-pub mod Causes
 pub mod Answer
 pub mod Sound

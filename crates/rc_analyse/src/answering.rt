@@ -5,9 +5,10 @@ ghost use Rattle.rc_words.specs.Request.{AreInRange, IsSourceInRange};
 ghost use Rattle.rc_analyse.specs.Answer.{IsAnswer, IsCompleteWithout, IsSilent, MayAsk, files_asked};
 
 use crate::findings::analyse_folder;
-use rc_answers::{Status, answer_findings};
+use rc_answers::answer_findings;
 use rc_outside::{Folder, Gate, Sink, SourceError};
 use rc_words::Request;
+use rc_writing::Status;
 use std::alloc::AllocGlobal;
 use std::thread::Threads;
 

@@ -5,18 +5,22 @@ ghost use Rattle.rc_generate.specs.Files.{files};
 ghost use Rattle.rc_outside.specs.Causes.{HasCause};
 ghost use Rattle.rc_words.specs.Request.{AreInRange, IsSourceInRange};
 ghost use Rattle.rc_analyse.specs.Answer.{AreFound, HasOneAnswer, HasOneFinding, MayAsk, dir_of, files_asked};
-ghost use Rattle.rc_analyse.specs.Net.{IsNet};
-ghost use Rattle.rc_analyse.specs.Sound.{IfOfFiles, IsEndedAs, IsFoundAs, IsSoundBefore};
+ghost use Rattle.rc_loading.specs.Net.{IsNet};
+ghost use Rattle.rc_analyse.specs.Sound.{AreRowsAfter, HasEnd, IfOfFiles, IsEndedAs, IsFailuresAs, IsFoundAs, IsSoundBefore};
 ghost use Rattle.rc_answers.specs.Sound.{IsSound, StartsIn};
 ghost use Rattle.rc_answers.specs.Subject.{before_rounds};
 
-use crate::loading::read_network;
-use rc_answers::{BeforeRounds, Findings, Subject, before_rounds};
+use rc_answers::{Arrival, BeforeRounds, Findings, Subject, before_rounds};
+use rc_base::Items;
 use rc_config::Network;
+use rc_failures::failures;
 use rc_generate::Sample;
+use rc_loading::read_network;
 use rc_network::NetRefusal;
 use rc_outside::{Folder, Gate, SourceError};
+use rc_report::FailRow;
 use rc_rounds::run_rounds;
+use rc_route::RoundsEnd;
 use rc_words::{Limits, Request, Source};
 use std::alloc::{AllocError, AllocGlobal, Global};
 use std::thread::Threads;
@@ -69,6 +73,68 @@ fn ended<R: Threads + Sync + AllocGlobal, G: Gate>(
     Ok(Findings::Ended(net, outcome, subject))
 }
 
+/// How the rounds of a network end, apart from the state of a fixed point, which is dropped.
+fn end_alone<R: Threads + Sync + AllocGlobal, G: Gate>(
+    rt: &R,
+    net: &Network,
+    limits: &Limits,
+    gate: &G,
+) -> Result<RoundsEnd, AllocError>
+    requires lawful { IsLawful net.now }
+    requires limits { AreInRange limits.now }
+    ensures { IfOk result (HasEnd net.now limits.now) }
+{
+    let outcome = run_rounds(rt, net, limits.rounds, limits.workers, gate)?;
+    Ok(outcome.end())
+}
+
+/// What each single link's failure does, where the rounds of the whole network end at a fixed point.
+fn rows_after<R: Threads + Sync + AllocGlobal, G: Gate>(
+    rt: &R,
+    net: &Network,
+    end: RoundsEnd,
+    limits: &Limits,
+    arrival: &Arrival,
+    gate: &G,
+) -> Result<Items<FailRow>, AllocError>
+    requires lawful { IsLawful net.now }
+    requires limits { AreInRange limits.now }
+    ensures { IfOk result (AreRowsAfter net.now limits.now arrival.now end) }
+{
+    match end {
+        RoundsEnd::Fixed(_) => failures(
+            rt,
+            net,
+            limits.rounds,
+            limits.workers,
+            arrival.place,
+            &arrival.header,
+            arrival.ends,
+            gate,
+        ),
+        RoundsEnd::Repeats(_, _) => Ok(Items::new(rt.alloc())),
+        RoundsEnd::Limit(_) => Ok(Items::new(rt.alloc())),
+    }
+}
+
+/// How the rounds of a network end, and what each single link's failure does.
+fn failed<R: Threads + Sync + AllocGlobal, G: Gate>(
+    rt: &R,
+    net: Network,
+    limits: &Limits,
+    arrival: &Arrival,
+    gate: &G,
+) -> Result<Findings, AllocError>
+    requires lawful { IsLawful net }
+    requires limits { AreInRange limits.now }
+    ensures failures { IfOk result (λ f. IsFailuresAs net limits.now arrival.now f) }
+    ensures sound { IfOk result IsSound }
+{
+    let end = end_alone(rt, &net, limits, gate)?;
+    let rows = rows_after(rt, &net, end, limits, arrival, gate)?;
+    Ok(Findings::Failures(net, end, rows))
+}
+
 /// What is found of what is asked. Only what is asked of a network once its rounds have ended needs memory.
 fn findings_of<R: Threads + Sync + AllocGlobal, G: Gate>(
     rt: &R,
@@ -85,6 +151,7 @@ fn findings_of<R: Threads + Sync + AllocGlobal, G: Gate>(
     match known {
         BeforeRounds::OfFiles(found) => Ok(Findings::OfFiles(found)),
         BeforeRounds::OfRounds(net, subject) => ended(rt, net, limits, subject, gate),
+        BeforeRounds::OfFailures(net, arrival) => failed(rt, net, limits, &arrival, gate),
     }
 }
 

@@ -6,16 +6,15 @@
 
 mod answering;
 mod findings;
-mod listing;
-mod loading;
 mod runs;
 
 pub use findings::one_answer;
-pub use listing::one_listing;
-pub use rc_answers::{FileFindings, Findings, Status, Subject};
+pub use rc_answers::{FileFindings, Findings, Subject};
+pub use rc_loading::one_listing;
 pub use rc_words::{
     Ask, Limits, PlaceName, Request, Source, WordText, WordsFault, first_word_is_a_command,
     made_by_sample, numbers_are_in_range, plain_words_are_taken, refused_as_by_clap,
     request_of_words,
 };
+pub use rc_writing::Status;
 pub use runs::run;

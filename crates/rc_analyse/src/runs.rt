@@ -2,14 +2,14 @@
 ghost use Rattle.std.specs.Prelude.{◌≡◌, ◌≢◌, ◌<◌, map, IsNone, IfOk, IfErr, IfSome, IfNone};
 ghost use Rattle.rc_outside.specs.Causes.{Rose};
 ghost use Rattle.rc_words.specs.Request.{AreInRange, IsSourceInRange, request_of};
-ghost use Rattle.rc_answers.specs.Texts.{usage_text};
-ghost use Rattle.rc_answers.specs.Written.{IsWritten, IsWrittenOrMemory};
+ghost use Rattle.rc_writing.specs.Texts.{usage_text};
+ghost use Rattle.rc_writing.specs.Written.{IsWritten, IsWrittenOrMemory};
 ghost use Rattle.rc_analyse.specs.Answer.{MayAsk, files_asked, IsAnswer, IsSilent, IsCompleteWithout, IsTakenWhenPlain};
 
 use crate::answering::answer_folder;
-use rc_answers::{Status, answer_usage};
 use rc_outside::{Folder, Gate, Sink};
 use rc_words::{Request, WordsFault, plain_words_are_taken, request_of_words};
+use rc_writing::{Status, answer_usage};
 use std::alloc::AllocGlobal;
 use std::thread::Threads;
 
@@ -86,8 +86,8 @@ pub fn run<R: Threads + Sync + AllocGlobal, F: Folder, S: Sink, G: Gate>(
     ensures plain { IsTakenWhenPlain (map (λ w. w.now) words.now) }
 
     // Where the files are told, the text and the status are those of the first refusal, or of the place that isn't there, or of the lines of
-    // access lists that never decide, or of the rounds' outcome with the routes, the walk or the cubes that are asked for; or of that text a
-    // front, where the sink failed.
+    // access lists that never decide, or of the rounds' outcome with the routes, the walk, the cubes or the failures of single links that are
+    // asked for; or of that text a front, where the sink failed.
     ensures answer { IfSome (request_of (map (λ w. w.now) words.now)) (λ r. IfSome (files_asked r.source (F.told folder.old)) (λ files. IsAnswer files r result (S.told out.old) (S.told out.new))) }
 
     // Where reading or memory failed, or the table of nodes is too small, nothing is written.

@@ -1,5 +1,4 @@
 mod PutLaws
 mod ExampleLaws
-mod ListLaws
 pub mod SubjectLaws
 pub mod OneShown

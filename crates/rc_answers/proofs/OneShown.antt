@@ -1,13 +1,13 @@
 -- What is shown of findings is one.
 use Rattle.std.proofs.Common.{refl, ◌≡◌, ◌∙◌, sym, ap, subst, ℕ, List, [], ◌∷◌, ◌++◌, take, Option, Some, None}
 use Rattle.std.specs.Prelude.{MatchOption, option_to_list}
-use Rattle.rc_config.specs.declared.access_list.AccessList.{AccessList}
 use Rattle.rc_config.specs.declared.network.Network.{Network}
 use Rattle.rc_base.specs.declared.ending.Ends.{Ends}
 use Rattle.rc_base.specs.declared.header.Header.{Header}
 use Rattle.rc_base.specs.declared.position.Pos.{Pos}
 use Rattle.rc_cubes.specs.Cubes.{cubes}
 use Rattle.rc_cubes.specs.declared.cube.Cube.{Cube}
+use Rattle.rc_idle.proofs.OneTold.{one_telling}
 use Rattle.rc_route.specs.declared.state.RouterState.{RouterState}
 use Rattle.rc_route.specs.declared.outcome.Outcome.{Outcome}
 use Rattle.rc_route.specs.declared.outcome.Outcome.TheVariants as outcome
@@ -22,11 +22,7 @@ use Rattle.rc_walk.specs.Moves.{DataPlane, plane_of}
 use Rattle.rc_walk.specs.declared.walk.Walk.{Walk}
 use Rattle.rc_route.specs.Outcomes.{end_of}
 use Rattle.rc_report.specs.StateText.{route_count}
-use Rattle.rc_report.specs.declared.idle.ListIdle.{ListIdle}
-use Rattle.rc_report.specs.declared.idle.RouterIdle.{RouterIdle}
-use Rattle.rc_sets.proofs.IdleLaws.{one_idle}
-use Rattle.rc_sets.specs.LinesQuery.{access_lists_at, asked_routers}
-use Rattle.rc_answers.specs.Written.{AreExamples, AreExamplesOf, AreTold, AreShortest, AreShortestBack, AreWalksOf, IsDetail, IsGivenBy, IsListTold, IsRouterTold, IsShown, IsShownAtFixed}
+use Rattle.rc_answers.specs.Written.{AreExamples, AreExamplesOf, AreShortest, AreShortestBack, AreWalksOf, IsDetail, IsGivenBy, IsShown, IsShownAtFixed}
 use Rattle.rc_answers.specs.Given.{Given, idle, ended, Shown, walk_of, cubes_of, first_cube_of}
 use Rattle.rc_answers.specs.declared.findings.FileFindings.TheVariants as file
 use Rattle.rc_answers.specs.declared.findings.Findings.{Findings}
@@ -87,35 +83,12 @@ module _ (net : Network) where
   shown_after (outcome.Repeats i k) subject this that h g = h ∙ sym g
   shown_after (outcome.Limit n) subject this that h g = h ∙ sym g
 
--- access lists have one telling
-one_told : {A B : Type 0} (IsTold : A → B → Type 0) → ((x : A) (y z : B) → IsTold x y → IsTold x z → y ≡ z) → (xs : List A) (these those : List B) → AreTold IsTold xs these → AreTold IsTold xs those → these ≡ those
-one_told IsTold one [] [] [] h g = refl
-one_told IsTold one [] [] (z ∷ those) h g = absurd g
-one_told IsTold one [] (y ∷ these) those h g = absurd h
-one_told IsTold one (x ∷ xs) [] those h g = absurd h
-one_told IsTold one (x ∷ xs) (y ∷ these) [] h g = absurd g
-one_told IsTold one (x ∷ xs) (y ∷ these) (z ∷ those) (h, hs) (g, gs) =
-    let first : y ≡ z = one x y z h g in
-    let rest : these ≡ those = one_told IsTold one xs these those hs gs in
-    λ i. first i ∷ rest i
-
-one_list : (entry : List ℕ × AccessList) (this that : ListIdle) → IsListTold entry this → IsListTold entry that → this ≡ that
-one_list entry this that (named, are) (named_too, are_too) =
-    let names : this.name ≡ that.name = named ∙ sym named_too in
-    let lines : this.idle ≡ that.idle = one_idle are are_too in
-    λ i. record { name = names i; idle = lines i }
-
-one_router : (net : Network) (r : ℕ) (this that : RouterIdle) → IsRouterTold net r this → IsRouterTold net r that → this ≡ that
-one_router net r this that (named, lists) (named_too, lists_too) =
-    let names : this.router ≡ that.router = named ∙ sym named_too in
-    let same : this.lists ≡ that.lists = one_told IsListTold one_list (access_lists_at net r) this.lists that.lists lists lists_too in
-    λ i. record { router = names i; lists = same i }
-
 -- findings give one thing
 pub given_by : (f : Findings) (this that : Given) → IsGivenBy f this → IsGivenBy f that → this ≡ that
 given_by (found.OfFiles (file.Refused refusal)) this that h g = h ∙ sym g
 given_by (found.OfFiles file.NoPlace) this that h g = h ∙ sym g
 given_by (found.OfFiles (file.Lists net router)) this that (told, are, is) (other, are_too, is_too) =
-    is ∙ ap idle (one_told (IsRouterTold net) (one_router net) (asked_routers net router) told other are are_too) ∙ sym is_too
+    is ∙ ap idle (one_telling net router told other are are_too) ∙ sym is_too
+given_by (found.Failures net end rows) this that h g = h ∙ sym g
 given_by (found.Ended net o subject) this that (shown, is_shown, is) (other, is_shown_too, is_too) =
     is ∙ ap (ended net (end_of o)) (shown_after net o subject shown other is_shown is_shown_too) ∙ sym is_too

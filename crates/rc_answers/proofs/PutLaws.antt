@@ -1,7 +1,5 @@
 -- What is written of a fixed point, and of what was found.
 use Rattle.std.proofs.Common.{refl, ◌≡◌, ◌∙◌, ap, inl, inr, sym, subst, ℕ, ◌++◌, List, [], true, Option}
-use Rattle.rc_base.specs.declared.header.Header.{Header}
-use Rattle.rc_base.specs.declared.position.Pos.{Pos}
 use Rattle.rc_config.specs.declared.network.Network.{Network}
 use Rattle.rc_cubes.specs.Cubes.{cubes}
 use Rattle.rc_network.specs.declared.refusal.NetRefusal.{NetRefusal}
@@ -13,6 +11,7 @@ use Rattle.rc_report.specs.CubeText.{cubes_text, shown as only}
 use Rattle.rc_report.specs.IdleText.{routers_text}
 use Rattle.rc_report.specs.OutcomeText.{outcome_line}
 use Rattle.rc_report.specs.StateText.{route_count, routes_line}
+use Rattle.rc_report.specs.declared.failures.FailRow.{FailRow}
 use Rattle.rc_report.specs.declared.idle.RouterIdle.{RouterIdle}
 use Rattle.rc_route.specs.Outcomes.{end_of}
 use Rattle.rc_route.specs.declared.state.RouterState.{RouterState}
@@ -21,23 +20,25 @@ use Rattle.rc_route.specs.declared.outcome.Outcome.TheVariants as outcome
 use Rattle.rc_route.specs.declared.outcome.RoundsEnd.{RoundsEnd}
 use Rattle.rc_trees.specs.Trees.{Tree}
 use Rattle.rc_walk.specs.Moves.{DataPlane, plane_of}
-use Rattle.rc_walk.specs.Walks.{IsFirstWalk}
 use Rattle.rc_walk.specs.declared.walk.Walk.{Walk}
 use Rattle.rc_words.specs.declared.request.Request.{Request}
-use Rattle.rc_answers.specs.Given.{Shown, refused, no_place, idle, ended, nothing, routes_of_all, routes_of, walk_of, cubes_of, first_cube_of}
-use Rattle.rc_answers.specs.Subject.{place_text}
-use Rattle.rc_answers.specs.Texts.{ended_text, head_text, no_place_line, refused_line}
-use Rattle.rc_answers.specs.Written.{AreExamplesOf, AreCubesAsked, AreIdleIn, AreTooFewForLists, IsDetail, IsFirstCubeAsked, IsGivenBy, IsLackingFor, IsPutAtFixed, IsPutBehind, IsPutOf, IsPutOver, IsShown, IsShownAtFixed, IsWrittenOrMemory, NeedsMore, examples_in, lacking_of, status_after}
+use Rattle.rc_idle.specs.Told.{AreIdleIn, AreTooFewForLists}
+use Rattle.rc_writing.specs.Places.{place_text}
+use Rattle.rc_writing.specs.Texts.{head_text, no_place_line, refused_line}
+use Rattle.rc_writing.specs.Written.{IsWrittenOrMemory, status_after}
+use Rattle.rc_writing.specs.declared.status.Status.TheVariants.{Done, Refused, Memory, NoPlace}
+use Rattle.rc_writing.specs.declared.status.Status.{Status}
+use Rattle.rc_answers.specs.Given.{Shown, refused, no_place, idle, ended, nothing, cubes_of, first_cube_of, failures_of}
+use Rattle.rc_answers.specs.Texts.{ended_text}
+use Rattle.rc_answers.specs.Written.{AreExamplesOf, AreCubesAsked, IsDetail, IsFirstCubeAsked, IsLackingFor, IsPutAtFixed, IsPutBehind, IsPutOf, IsPutOver, IsShown, IsShownAtFixed, NeedsMore, examples_in, lacking_of}
 use Rattle.rc_answers.specs.declared.findings.FileFindings.{FileFindings}
 use Rattle.rc_answers.specs.declared.findings.FileFindings.TheVariants as file
 use Rattle.rc_answers.specs.declared.findings.Findings.{Findings}
 use Rattle.rc_answers.specs.declared.findings.Findings.TheVariants as found
-use Rattle.rc_answers.specs.declared.status.Status.{Status}
-use Rattle.rc_answers.specs.declared.status.Status.TheVariants.{Done, Refused, Memory, NoPlace}
 use Rattle.rc_answers.specs.declared.subject.Detail.TheVariants.{Examples, First}
 use Rattle.rc_answers.specs.declared.subject.PacketSet.{PacketSet}
 use Rattle.rc_answers.specs.declared.subject.Subject.{Subject}
-use Rattle.rc_answers.specs.declared.subject.Subject.TheVariants.{AllRouters, OneRouter, Packet, Packets}
+use Rattle.rc_answers.specs.declared.subject.Subject.TheVariants.{Packets}
 
 -- what is shown was written, or memory ran out before
 put_behind : (r : Request) (net : Network) (end : RoundsEnd) (IsToShow : Shown → Type 0) (IsMoreNeeded : Type 0) (shown : Shown) {answer : Status} {old new : Option (List ℕ)}
@@ -157,9 +158,6 @@ pub lists_put : (r : Request) (net : Network) (router : Option ℕ) (told : List
 lists_put r net router told are (inl written) = inl (idle told, (told, are, refl), written)
 lists_put r net router told are (inr (memory, same)) = inr (subst (IsLackingFor r.limits.nodes (OfLists net router)) (sym memory) tt, same)
 
-pub memory_for_lists : (r : Request) (net : Network) (router : Option ℕ) {old : Option (List ℕ)} → IsPutOf r (OfLists net router) Memory old old
-memory_for_lists r net router = inr (tt, refl)
-
 pub lacking_for_lists : (r : Request) (net : Network) (router : Option ℕ) (e : SetError) {answer : Status} {old : Option (List ℕ)}
     → answer ≡ lacking_of e → (e ≡ set_error.Full → AreTooFewForLists r.limits.nodes net router) → IsPutOf r (OfLists net router) answer old old
 lacking_for_lists r net router set_error.Full is full = inr (subst (IsLackingFor r.limits.nodes (OfLists net router)) (sym is) (full refl), refl)
@@ -168,3 +166,10 @@ lacking_for_lists r net router set_error.Memory is full = inr (subst (IsLackingF
 -- what is put of one of the findings of files is put of them
 pub file_put : (r : Request) (f is_f : FileFindings) {answer : Status} {old new : Option (List ℕ)} → f ≡ is_f → IsPutOf r (found.OfFiles is_f) answer old new → IsPutOf r (found.OfFiles f) answer old new
 file_put r f is_f {answer} {old} {new} is put = subst (λ x. IsPutOf r (found.OfFiles x) answer old new) (sym is) put
+
+-- ---- failures
+
+pub failures_put : (r : Request) (net : Network) (end : RoundsEnd) (rows : List FailRow) {answer : Status} {old new : Option (List ℕ)}
+    → IsWrittenOrMemory (status_after end) (ended_text r.source net end (failures_of rows)) answer old new → IsPutOf r (found.Failures net end rows) answer old new
+failures_put r net end rows (inl written) = inl (ended net end (failures_of rows), refl, written)
+failures_put r net end rows (inr (memory, same)) = inr (subst (IsLackingFor r.limits.nodes (found.Failures net end rows)) (sym memory) tt, same)

@@ -16,14 +16,15 @@ use Rattle.rc_config.specs.declared.network.Network.{Network}
 use Rattle.rc_reach.specs.Uneven.{arrivals}
 use Rattle.rc_reach.specs.declared.asked.Asked.TheVariants.{Reaching, Looping, Uneven}
 use Rattle.rc_words.specs.declared.request.Ask.{Ask}
-use Rattle.rc_words.specs.declared.request.Ask.TheVariants.{Routes, Trace, Reach, Loops, Lines, Summary}
+use Rattle.rc_words.specs.declared.request.Ask.TheVariants.{Routes, Trace, Reach, Loops, Lines, Failures, Summary}
 use Rattle.rc_words.specs.declared.request.Ask.TheVariants as ask
 use Rattle.rc_words.specs.declared.request.PlaceName.{PlaceName}
+use Rattle.rc_writing.specs.Places.{sample_place}
 use Rattle.rc_answers.specs.Sound.{AsksWithin}
-use Rattle.rc_answers.specs.Subject.{position_at, position_named, question_of, router_of_text, sample_place}
+use Rattle.rc_answers.specs.Subject.{position_at, position_named, question_of, router_of_text}
 use Rattle.rc_answers.specs.declared.subject.Detail.TheVariants.{Examples, First}
 use Rattle.rc_answers.specs.declared.subject.Question.{Question}
-use Rattle.rc_answers.specs.declared.subject.Question.TheVariants.{OfLists, OfTables}
+use Rattle.rc_answers.specs.declared.subject.Question.TheVariants.{OfLists, OfTables, OfFailures}
 use Rattle.rc_answers.specs.declared.subject.Subject.TheVariants.{AllRouters, OneRouter, Packet, Packets}
 
 -- an index under a name is one of the list
@@ -77,4 +78,5 @@ module _ (net : Network) where
   asked_is_there (ask.Uneven place examples) question e = at_place (λ q. OfTables (Packets (record { asked = Uneven q; detail = Examples examples }))) place question (λ q is. is) e
   asked_is_there (Lines None) question e = let same : OfLists None ≡ question = cc in subst (AsksWithin net) same tt
   asked_is_there (Lines (Some text)) question e = asked_router (λ r. OfLists (Some r)) text question (λ r. tt) e
+  asked_is_there (Failures place header ends) question e = at_place (λ q. OfFailures (record { place = q; header = header; ends = ends })) place question (λ q is. tt) e
   asked_is_there Summary question e = at_place (λ q. OfTables (Packets (record { asked = Reaching q arrivals; detail = First }))) sample_place question (λ q is. is) e

@@ -2,6 +2,7 @@
 use Rattle.std.specs.Prelude.{ℕ, List}
 use Rattle.rc_config.specs.declared.network.Network.{Network}
 use Rattle.rc_network.specs.declared.refusal.NetRefusal.{NetRefusal}
+use Rattle.rc_report.specs.declared.failures.FailRow.{FailRow}
 use Rattle.rc_report.specs.declared.idle.RouterIdle.{RouterIdle}
 use Rattle.rc_route.specs.declared.outcome.RoundsEnd.{RoundsEnd}
 use Rattle.rc_route.specs.declared.state.RouterState.{RouterState}
@@ -20,6 +21,8 @@ pub data Shown : Type 0 where
   cubes_of : Tree → List (List Walk) → Shown
   -- how many routes all tables have, and the first cube of a set of headers
   first_cube_of : ℕ → Tree → Shown
+  -- what each single link's failure does
+  failures_of : List FailRow → Shown
 
 -- the first refusal, or that there is no such place, or the lines of access lists that never decide, or a network with how its rounds ended and what is shown after it
 pub data Given : Type 0 where

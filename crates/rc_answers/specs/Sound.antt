@@ -8,7 +8,7 @@ use Rattle.rc_route.specs.declared.outcome.Outcome.{Outcome}
 use Rattle.rc_answers.specs.declared.findings.Findings.{Findings}
 use Rattle.rc_answers.specs.declared.findings.Findings.TheVariants.{Ended}
 use Rattle.rc_answers.specs.declared.subject.Question.{Question}
-use Rattle.rc_answers.specs.declared.subject.Question.TheVariants.{OfLists, OfTables}
+use Rattle.rc_answers.specs.declared.subject.Question.TheVariants.{OfLists, OfTables, OfFailures}
 use Rattle.rc_answers.specs.declared.subject.Subject.{Subject}
 use Rattle.rc_answers.specs.declared.subject.Subject.TheVariants.{Packets}
 
@@ -21,6 +21,7 @@ StartsIn net _ = Unit {0}
 abbrev pub AsksWithin : Network → Question → Type 0
 AsksWithin net (OfTables subject) = StartsIn net subject
 AsksWithin net (OfLists routers) = Unit {0}
+AsksWithin net (OfFailures arrival) = Unit {0}
 
 -- the network is lawful, the state of a fixed point is in its order, and what is asked about is in the network
 pub record IsSoundEnd (net : Network) (outcome : Outcome) (subject : Subject) : Type 0 where

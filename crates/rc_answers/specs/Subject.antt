@@ -1,6 +1,6 @@
 -- What of a network is asked about.
-use Rattle.std.specs.Prelude.{ℕ, List, [], ◌++◌, codes, Option, Some, None, Result, Ok, Err}
-use Rattle.std.specs.Option.{option_and_then, option_map, option_map_or}
+use Rattle.std.specs.Prelude.{ℕ, List, Option, Some, None, Result, Ok, Err}
+use Rattle.std.specs.Option.{option_and_then, option_map}
 use Rattle.rc_base.specs.Name.{name_of}
 use Rattle.rc_base.specs.declared.position.Pos.{Pos}
 use Rattle.rc_base.specs.declared.position.Pos.TheVariants.{Own, Entering}
@@ -10,16 +10,16 @@ use Rattle.rc_network.specs.declared.refusal.NetRefusal.{NetRefusal}
 use Rattle.rc_reach.specs.Uneven.{arrivals}
 use Rattle.rc_reach.specs.declared.asked.Asked.TheVariants.{Reaching, Looping, Uneven}
 use Rattle.rc_words.specs.declared.request.Ask.{Ask}
-use Rattle.rc_words.specs.declared.request.Ask.TheVariants.{Routes, Trace, Reach, Loops, Lines, Summary}
+use Rattle.rc_words.specs.declared.request.Ask.TheVariants.{Routes, Trace, Reach, Loops, Lines, Failures, Summary}
 use Rattle.rc_words.specs.declared.request.Ask.TheVariants as ask
 use Rattle.rc_words.specs.declared.request.PlaceName.{PlaceName}
+use Rattle.rc_writing.specs.Places.{sample_place}
 use Rattle.rc_answers.specs.declared.findings.BeforeRounds.{BeforeRounds}
-use Rattle.rc_answers.specs.declared.findings.BeforeRounds.TheVariants.{OfFiles, OfRounds}
+use Rattle.rc_answers.specs.declared.findings.BeforeRounds.TheVariants as before
 use Rattle.rc_answers.specs.declared.findings.FileFindings.TheVariants as file
 use Rattle.rc_answers.specs.declared.subject.Detail.TheVariants.{Examples, First}
 use Rattle.rc_answers.specs.declared.subject.Question.{Question}
-use Rattle.rc_answers.specs.declared.subject.Question.TheVariants.{OfLists, OfTables}
-use Rattle.rc_answers.specs.declared.subject.Subject.{Subject}
+use Rattle.rc_answers.specs.declared.subject.Question.TheVariants.{OfLists, OfTables, OfFailures}
 use Rattle.rc_answers.specs.declared.subject.Subject.TheVariants.{AllRouters, OneRouter, Packet, Packets}
 
 -- the router that a text names; a text that is no name names none
@@ -35,10 +35,6 @@ position_at net r (Some name) = option_map Entering (interface_named net r name)
 abbrev pub position_named : Network → PlaceName → Option Pos
 position_named net place = option_and_then (λ r. position_at net r place.interface) (router_named net place.router)
 
--- where the packets start that are asked about in a made network: at the LAN of its first router
-abbrev pub sample_place : PlaceName
-sample_place = record { router = codes "r000"; interface = Some (codes "GigabitEthernet0/3") }
-
 -- what of the network is asked about, and none where it has no such router or interface
 abbrev pub question_of : Network → Ask → Option Question
 question_of net (Routes None) = Some (OfTables AllRouters)
@@ -49,32 +45,17 @@ question_of net (Loops place examples) = option_map (λ q. OfTables (Packets (re
 question_of net (ask.Uneven place examples) = option_map (λ q. OfTables (Packets (record { asked = Uneven q; detail = Examples examples }))) (position_named net place)
 question_of net (Lines None) = Some (OfLists None)
 question_of net (Lines (Some text)) = option_map (λ r. OfLists (Some r)) (router_of_text net text)
+question_of net (Failures place header ends) = option_map (λ q. OfFailures (record { place = q; header = header; ends = ends })) (position_named net place)
 question_of net Summary = option_map (λ q. OfTables (Packets (record { asked = Reaching q arrivals; detail = First }))) (position_named net sample_place)
 
--- where there is such a router or interface the rounds have to be run, or the lists alone tell what is asked; and else the files tell that there is none
+-- where there is such a router or interface the rounds have to be run, of the network alone or also without each single link, or the lists alone tell what is asked; and else the files tell that there is none
 abbrev pub question_at : Network → Option Question → BeforeRounds
-question_at net None = OfFiles file.NoPlace
-question_at net (Some (OfLists routers)) = OfFiles (file.Lists net routers)
-question_at net (Some (OfTables subject)) = OfRounds net subject
+question_at net None = before.OfFiles file.NoPlace
+question_at net (Some (OfLists routers)) = before.OfFiles (file.Lists net routers)
+question_at net (Some (OfTables subject)) = before.OfRounds net subject
+question_at net (Some (OfFailures arrival)) = before.OfFailures net arrival
 
--- what the files alone tell, as their first refusal, or what of their network is asked about once its rounds have ended
+-- what the files alone tell, as their first refusal, or their network and what of it is asked about once its rounds have ended
 abbrev pub before_rounds : Result Network NetRefusal → Ask → BeforeRounds
-before_rounds (Err refusal) ask = OfFiles (file.Refused refusal)
+before_rounds (Err refusal) ask = before.OfFiles (file.Refused refusal)
 before_rounds (Ok net) ask = question_at net (question_of net ask)
-
--- the name of an interface behind a colon
-abbrev pub behind_colon : Option (List ℕ) → List ℕ
-behind_colon interface = option_map_or (λ name. codes ":" ++ name) interface []
-
-abbrev pub name_of_place : PlaceName → List ℕ
-name_of_place place = place.router ++ behind_colon place.interface
-
--- the text that names the router or the place
-abbrev pub place_text : Ask → List ℕ
-place_text (Routes router) = option_map_or (λ text. text) router []
-place_text (Trace place header) = name_of_place place
-place_text (Reach place ends examples) = name_of_place place
-place_text (Loops place examples) = name_of_place place
-place_text (ask.Uneven place examples) = name_of_place place
-place_text (Lines router) = option_map_or (λ text. text) router []
-place_text Summary = name_of_place sample_place

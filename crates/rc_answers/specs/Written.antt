@@ -1,42 +1,38 @@
 -- What is shown of what files were found to be, and what is written of it: a status and a text.
-use Rattle.std.specs.Prelude.{◌≡◌, ◌⊎◌, ◌<◌, ℕ, List, [], ◌∷◌, ◌++◌, take, MatchOption, Option, Some, None, option_to_list}
-use Rattle.std.specs.Set.{distinct_count}
+use Rattle.std.specs.Prelude.{◌≡◌, ◌⊎◌, ℕ, List, [], ◌∷◌, ◌++◌, take, MatchOption, Option, option_to_list}
 use Rattle.rc_base.specs.declared.ending.Ends.{Ends}
 use Rattle.rc_base.specs.declared.header.Header.{Header}
 use Rattle.rc_base.specs.declared.position.Pos.{Pos}
 use Rattle.rc_bdd.specs.declared.work.SetError.{SetError}
 use Rattle.rc_bdd.specs.declared.work.SetError.TheVariants as set_error
 use Rattle.rc_bdd.specs.declared.work.SetError.TheVariants.{Full}
-use Rattle.rc_config.specs.declared.access_list.AccessList.{AccessList}
 use Rattle.rc_config.specs.declared.network.Network.{Network}
 use Rattle.rc_cubes.specs.Cubes.{cubes}
 use Rattle.rc_cubes.specs.declared.cube.Cube.{Cube}
-use Rattle.rc_outside.specs.Sink.{appended, AppendsFront}
+use Rattle.rc_idle.specs.Told.{AreIdleIn, AreTooFewForLists}
 use Rattle.rc_reach.specs.Asked.{IsAskedSet}
 use Rattle.rc_reach.specs.Held.{AreTooFew}
 use Rattle.rc_reach.specs.Uneven.{arrivals, failures}
 use Rattle.rc_reach.specs.declared.asked.Asked.{Asked}
 use Rattle.rc_reach.specs.declared.asked.Asked.TheVariants.{Reaching, Looping, Uneven}
-use Rattle.rc_report.specs.RouteText.{router_name}
 use Rattle.rc_report.specs.StateText.{route_count}
-use Rattle.rc_report.specs.declared.idle.ListIdle.{ListIdle}
 use Rattle.rc_report.specs.declared.idle.RouterIdle.{RouterIdle}
 use Rattle.rc_route.specs.Outcomes.{end_of}
 use Rattle.rc_route.specs.declared.state.RouterState.{RouterState}
 use Rattle.rc_route.specs.declared.outcome.Outcome.{Outcome}
 use Rattle.rc_route.specs.declared.outcome.Outcome.TheVariants as outcome
 use Rattle.rc_route.specs.declared.outcome.RoundsEnd.{RoundsEnd}
-use Rattle.rc_route.specs.declared.outcome.RoundsEnd.TheVariants as rounds_end
-use Rattle.rc_sets.specs.IdleLines.{AreIdle}
-use Rattle.rc_sets.specs.LinesQuery.{access_lists_at, asked_lists, asked_routers, lists_nodes}
-use Rattle.rc_trees.specs.Trees.{Tree, same_tree}
+use Rattle.rc_trees.specs.Trees.{Tree}
 use Rattle.rc_walk.specs.Loops.{IsShortestLoop, NoLoop}
 use Rattle.rc_walk.specs.Moves.{DataPlane, plane_of}
 use Rattle.rc_walk.specs.ShortestWalks.{IsShortestWalk, NoWalkEnds}
 use Rattle.rc_walk.specs.Walks.{IsFirstWalk}
 use Rattle.rc_walk.specs.declared.walk.Walk.{Walk}
 use Rattle.rc_words.specs.declared.request.Request.{Request}
-use Rattle.rc_answers.specs.Given.{Given, refused, no_place, idle, ended, Shown, nothing, routes_of_all, routes_of, walk_of, cubes_of, first_cube_of}
+use Rattle.rc_writing.specs.Written.{IsWritten, status_after}
+use Rattle.rc_writing.specs.declared.status.Status.{Status}
+use Rattle.rc_writing.specs.declared.status.Status.TheVariants.{Done, Refused, Nodes, Memory, NoPlace}
+use Rattle.rc_answers.specs.Given.{Given, refused, no_place, idle, ended, Shown, nothing, routes_of_all, routes_of, walk_of, cubes_of, first_cube_of, failures_of}
 use Rattle.rc_answers.specs.Texts.{ended_text, text_of}
 use Rattle.rc_answers.specs.declared.findings.FileFindings.TheVariants as file
 use Rattle.rc_answers.specs.declared.findings.Findings.{Findings}
@@ -46,32 +42,6 @@ use Rattle.rc_answers.specs.declared.subject.Detail.TheVariants.{Examples, First
 use Rattle.rc_answers.specs.declared.subject.PacketSet.{PacketSet}
 use Rattle.rc_answers.specs.declared.subject.Subject.{Subject}
 use Rattle.rc_answers.specs.declared.subject.Subject.TheVariants.{AllRouters, OneRouter, Packet, Packets}
-use Rattle.rc_answers.specs.declared.status.Status.{Status}
-use Rattle.rc_answers.specs.declared.status.Status.TheVariants.{Done, Refused, Repeats, Limit, Nodes, Sink, Memory, NoPlace}
-
--- ---- lines that never decide
-
--- each thing of one list is told by the thing at its place in another
-abbrev pub AreTold : {A B : Type 0} → (A → B → Type 0) → List A → List B → Type 0
-AreTold IsTold [] [] = Unit {0}
-AreTold IsTold (x ∷ xs) (y ∷ ys) = IsTold x y × AreTold IsTold xs ys
-AreTold IsTold _ _ = ⊥
-
--- an access list is told by its name and its lines that never decide
-abbrev pub IsListTold : List ℕ × AccessList → ListIdle → Type 0
-IsListTold entry told = (told.name ≡ entry.0) × AreIdle [] entry.1.lines told.idle
-
--- a router is told by its name and its access lists, in the order in which lists are first opened or given a line
-abbrev pub IsRouterTold : Network → ℕ → RouterIdle → Type 0
-IsRouterTold net r told = (told.router ≡ router_name net r) × AreTold IsListTold (access_lists_at net r) told.lists
-
--- the lines that never decide in the access lists of the routers that are asked about: of all in byte order of host names, or of one
-abbrev pub AreIdleIn : Network → Option ℕ → List RouterIdle → Type 0
-AreIdleIn net router told = AreTold (IsRouterTold net) (asked_routers net router) told
-
--- so many nodes are too few for these access lists: the operations on their lines have more different trees
-abbrev pub AreTooFewForLists : ℕ → Network → Option ℕ → Type 0
-AreTooFewForLists most net router = most < distinct_count same_tree (lists_nodes (asked_lists net router))
 
 -- ---- what is shown
 
@@ -139,19 +109,15 @@ IsShown net (outcome.Fixed k state) subject shown = IsShownAtFixed net state sub
 IsShown net (outcome.Repeats i k) subject shown = shown ≡ nothing
 IsShown net (outcome.Limit n) subject shown = shown ≡ nothing
 
--- what was found gives: the first refusal, or that there is no such place, or the lines that never decide, or how the rounds ended and what is shown after it
+-- what was found gives: the first refusal, or that there is no such place, or the lines that never decide, or how the rounds ended and what is shown after it, as what each single link's failure does
 abbrev pub IsGivenBy : Findings → Given → Type 0
 IsGivenBy (found.OfFiles (file.Refused refusal)) g = g ≡ refused refusal
 IsGivenBy (found.OfFiles file.NoPlace) g = g ≡ no_place
 IsGivenBy (found.OfFiles (file.Lists net routers)) g = (told : List RouterIdle) × AreIdleIn net routers told × (g ≡ idle told)
 IsGivenBy (found.Ended net outcome subject) g = (shown : Shown) × IsShown net outcome subject shown × (g ≡ ended net (end_of outcome) shown)
+IsGivenBy (found.Failures net end rows) g = g ≡ ended net end (failures_of rows)
 
 -- ---- the status and the text
-
-abbrev pub status_after : RoundsEnd → Status
-status_after (rounds_end.Fixed k) = Done
-status_after (rounds_end.Repeats i k) = Repeats
-status_after (rounds_end.Limit n) = Limit
 
 -- the status of what was found
 abbrev pub status_of : Given → Status
@@ -159,14 +125,6 @@ status_of (refused refusal) = Refused
 status_of no_place = NoPlace
 status_of (idle routers) = Done
 status_of (ended net end shown) = status_after end
-
--- The text is written and its status answered; or a front of it, where the sink failed.
-abbrev pub IsWritten : Status → List ℕ → Status → Option (List ℕ) → Option (List ℕ) → Type 0
-IsWritten status text answer old new = ((answer ≡ status) × (new ≡ appended old text)) ⊎ ((answer ≡ Sink) × AppendsFront old new text)
-
--- the text is written with its status, or a front of it where the sink failed; or nothing is, where memory ran out before
-abbrev pub IsWrittenOrMemory : Status → List ℕ → Status → Option (List ℕ) → Option (List ℕ) → Type 0
-IsWrittenOrMemory status text answer old new = IsWritten status text answer old new ⊎ ((answer ≡ Memory) × (new ≡ old))
 
 -- so many nodes are too few for what is asked of a fixed point
 abbrev pub NeedsMore : ℕ → Network → List RouterState → Subject → Type 0

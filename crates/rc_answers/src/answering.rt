@@ -7,34 +7,40 @@ ghost use Rattle.rc_walk.specs.Moves.{plane_of};
 ghost use Rattle.rc_walk.specs.Walks.{IsFirstWalk};
 ghost use Rattle.rc_words.specs.Request.{AreInRange};
 ghost use Rattle.rc_answers.specs.Sound.{IsSound, IsSoundEnd, StartsIn};
-ghost use Rattle.rc_answers.specs.Texts.{usage_text};
-ghost use Rattle.rc_answers.specs.Written.{IsPutAtFixed, IsPutOf, IsWritten};
+ghost use Rattle.rc_answers.specs.Written.{IsPutAtFixed, IsPutOf};
 
-use crate::lists::answer_lists;
-use crate::packets::answer_packets;
-use crate::writing::{NoPlaceLine, RefusedLine, put_usage};
-use crate::written::{write, write_ended};
-use crate::{FileFindings, Findings, Status, Subject};
-use rc_base::{Header, Pos, RouterId};
+use crate::packets::{answer_packets, lacking};
+use crate::{FileFindings, Findings, Subject};
+use rc_base::{Header, Items, Pos, RouterId};
 use rc_config::Network;
+use rc_idle::idle_told;
 use rc_outside::{Gate, Sink};
-use rc_report::{AllRoutes, Nothing, RoutesOf, WalkLines};
+use rc_report::{AllRoutes, FailRow, FailureLines, IdleLines, Nothing, RoutesOf, WalkLines};
 use rc_route::{Outcome, RoundsEnd, State};
 use rc_topology::Links;
 use rc_walk::{Plane, Walk, trace};
 use rc_words::Request;
+use rc_writing::{NoPlaceLine, RefusedLine, Status, write, write_ended};
 use std::alloc::{AllocError, AllocGlobal, Global};
 use std::thread::Threads;
 
-/// Answers words that are not taken. It takes no memory.
-pub fn answer_usage<S: Sink>(out: &mut S) -> Status
-    ensures put { IsWritten Status.Usage usage_text result (S.told out.old) (S.told out.new) }
+/// Answers which lines of the access lists of a router, or of all, never decide. They are all told before the first one is put.
+fn answer_lists<R: Threads + Sync + AllocGlobal, S: Sink>(
+    rt: &R,
+    request: &Request,
+    network: Network,
+    router: Option<RouterId>,
+    out: &mut S,
+) -> Status
+    requires limits { AreInRange request.now.limits }
+    ensures put { IsPutOf request.now (Findings.OfFiles (FileFindings.Lists network router)) result (S.told out.old) (S.told out.new) }
     ensures sink_only { result ≡ Status.Sink → Rose (S.faults out.old) (S.faults out.new) }
     ensures sink_always { S.faults out.old < S.faults out.new → result ≡ Status.Sink }
 {
-    match put_usage(out) {
-        Ok(()) => Status::Usage,
-        Err(_) => Status::Sink,
+    let limits = &request.limits;
+    match idle_told(rt, &network, &router, limits.nodes, limits.workers) {
+        Ok(routers) => write(rt.alloc(), Status::Done, IdleLines { routers }, out),
+        Err(error) => lacking(error),
     }
 }
 
@@ -197,6 +203,22 @@ fn answer_ended<R: Threads + Sync + AllocGlobal, S: Sink, G: Gate>(
     }
 }
 
+/// Answers what each single link's failure does, behind how the rounds of the whole network ended.
+fn answer_failures<S: Sink>(
+    alloc: Global,
+    request: &Request,
+    net: &Network,
+    end: RoundsEnd,
+    rows: Items<FailRow>,
+    out: &mut S,
+) -> Status
+    ensures put { IsPutOf request.now (Findings.Failures net.now end rows) result (S.told out.old) (S.told out.new) }
+    ensures sink_only { result ≡ Status.Sink → Rose (S.faults out.old) (S.faults out.new) }
+    ensures sink_always { S.faults out.old < S.faults out.new → result ≡ Status.Sink }
+{
+    write_ended(alloc, &request.source, end, FailureLines { net, rows }, out)
+}
+
 /// Answers what the files that are asked about were found to be. All of its memory is taken before the first line is put.
 pub fn answer_findings<R: Threads + Sync + AllocGlobal, S: Sink, G: Gate>(
     rt: &R,
@@ -215,6 +237,9 @@ pub fn answer_findings<R: Threads + Sync + AllocGlobal, S: Sink, G: Gate>(
         Findings::OfFiles(found) => answer_files(rt, request, found, out),
         Findings::Ended(net, outcome, subject) => {
             answer_ended(rt, request, &net, outcome, &subject, out, gate)
+        }
+        Findings::Failures(net, end, rows) => {
+            answer_failures(rt.alloc(), request, &net, end, rows, out)
         }
     }
 }

@@ -2,11 +2,12 @@
 ghost use Rattle.std.specs.Prelude.{◌≡◌};
 ghost use Rattle.rc_answers.specs.Subject.{before_rounds};
 
-use crate::{Question, Subject, question_of};
-use rc_base::RouterId;
+use crate::{Arrival, Question, Subject, question_of};
+use rc_base::{Items, RouterId};
 use rc_config::Network;
 use rc_network::NetRefusal;
-use rc_route::Outcome;
+use rc_report::FailRow;
+use rc_route::{Outcome, RoundsEnd};
 use rc_words::Ask;
 
 /// What files alone tell, without rounds.
@@ -27,6 +28,8 @@ pub enum Findings {
     OfFiles(FileFindings),
     /// The network, how its rounds end, and what of it is asked about.
     Ended(Network, Outcome, Subject),
+    /// The network, how its rounds end, and, at a fixed point, what each single link's failure does.
+    Failures(Network, RoundsEnd, Items<FailRow>),
 }
 
 /// What is known of files before any rounds are run.
@@ -36,9 +39,11 @@ pub enum BeforeRounds {
     OfFiles(FileFindings),
     /// Their network, and what of it is asked about once its rounds have ended.
     OfRounds(Network, Subject),
+    /// Their network, and what is asked of it once its rounds have ended, and of it without each single link.
+    OfFailures(Network, Arrival),
 }
 
-/// What the files alone tell, or what of their network is asked about once its rounds have ended.
+/// What the files alone tell, or their network and what of it is asked about.
 pub fn before_rounds(net: Result<Network, NetRefusal>, ask: &Ask) -> BeforeRounds
     ensures { result ≡ before_rounds net ask.now }
 {
@@ -51,6 +56,7 @@ pub fn before_rounds(net: Result<Network, NetRefusal>, ask: &Ask) -> BeforeRound
         Some(Question::OfLists(routers)) => {
             BeforeRounds::OfFiles(FileFindings::Lists(net, routers))
         }
+        Some(Question::OfFailures(arrival)) => BeforeRounds::OfFailures(net, arrival),
         None => BeforeRounds::OfFiles(FileFindings::NoPlace),
     }
 }

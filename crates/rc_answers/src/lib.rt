@@ -7,14 +7,9 @@
 
 mod answering;
 mod findings;
-mod lists;
 mod packets;
-mod status;
 mod subject;
-mod writing;
-mod written;
 
-pub use answering::{answer_findings, answer_usage};
+pub use answering::answer_findings;
 pub use findings::{BeforeRounds, FileFindings, Findings, before_rounds};
-pub use status::Status;
-pub use subject::{Detail, PacketSet, Question, Subject, question_of};
+pub use subject::{Arrival, Detail, PacketSet, Question, Subject, question_of};

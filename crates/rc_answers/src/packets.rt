@@ -16,8 +16,7 @@ ghost use Rattle.rc_trees.specs.Trees.{Tree};
 ghost use Rattle.rc_words.specs.Request.{AreInRange};
 ghost use Rattle.rc_answers.specs.Written.{AreExamplesOf, AreShortest, AreShortestBack, AreWalksOf, IsPutAtFixed, IsPutOver, examples_in, lacking_of};
 
-use crate::written::write_ended;
-use crate::{Detail, PacketSet, Status, Subject};
+use crate::{Detail, PacketSet, Subject};
 use rc_base::{Ends, Header, Items, Pos};
 use rc_bdd::SetError;
 use rc_config::Network;
@@ -30,6 +29,7 @@ use rc_route::{RoundsEnd, State};
 use rc_topology::Links;
 use rc_walk::{Plane, Walk, looping, shortest};
 use rc_words::Request;
+use rc_writing::{Status, write_ended};
 use std::alloc::{AllocError, AllocGlobal, Global};
 use std::thread::Threads;
 

@@ -1,12 +1,13 @@
 //! What of a network is asked about.
 ghost use Rattle.std.specs.Prelude.{◌≡◌, IfSome, Some};
 ghost use Rattle.rc_reach.specs.Uneven.{arrivals};
-ghost use Rattle.rc_answers.specs.Subject.{position_at, position_named, question_of, router_of_text, sample_place};
+ghost use Rattle.rc_writing.specs.Places.{sample_place};
+ghost use Rattle.rc_answers.specs.Subject.{position_at, position_named, question_of, router_of_text};
 
-use rc_base::{Header, Name, Pos, RouterId};
+use rc_base::{Ends, Header, Name, Pos, RouterId};
 use rc_config::Network;
 use rc_reach::{Asked, arrivals};
-use rc_words::{Ask, PlaceName};
+use rc_words::{Ask, PlaceName, WordText};
 
 /// Which cubes of a set of packets are shown.
 #[derive(Clone, Copy)]
@@ -37,11 +38,24 @@ pub enum Subject {
     Packets(PacketSet),
 }
 
+/// That a packet arrives: from where, which one, and at which endings.
+#[derive(Clone, Copy)]
+pub struct Arrival {
+    /// Where the packet starts.
+    pub place: Pos,
+    /// What the packet's header says.
+    pub header: Header,
+    /// The endings at which it arrives.
+    pub ends: Ends,
+}
+
 /// What of a network is asked about.
 #[derive(Clone, Copy)]
 pub enum Question {
     /// Its access lists: those of this router, or of all. No tables are asked about.
     OfLists(Option<RouterId>),
+    /// Whether this holds without each single link.
+    OfFailures(Arrival),
     /// Its tables, once the rounds have ended.
     OfTables(Subject),
 }
@@ -87,6 +101,32 @@ fn sample_place() -> Option<PlaceName>
     })
 }
 
+/// The routes of the router that a text names, or of all where there is none.
+fn routes_asked(net: &Network, router: &Option<WordText>) -> Option<Question>
+    ensures { result ≡ question_of net.now (Ask.Routes router.now) }
+{
+    match router {
+        None => Some(Question::OfTables(Subject::AllRouters)),
+        Some(text) => {
+            let router = router_of_text(net, text.as_str())?;
+            Some(Question::OfTables(Subject::OneRouter(router)))
+        }
+    }
+}
+
+/// The access lists of the router that a text names, or of all where there is none.
+fn lists_asked(net: &Network, router: &Option<WordText>) -> Option<Question>
+    ensures { result ≡ question_of net.now (Ask.Lines router.now) }
+{
+    match router {
+        None => Some(Question::OfLists(None)),
+        Some(text) => {
+            let router = router_of_text(net, text.as_str())?;
+            Some(Question::OfLists(Some(router)))
+        }
+    }
+}
+
 /// The packets from a place that a question is about, with so many examples.
 fn packets(asked: Asked, examples: u32) -> Question
     ensures { result ≡ Question.OfTables (Subject.Packets (record { asked = asked; detail = Detail.Examples examples })) }
@@ -104,16 +144,25 @@ fn summary(place: Pos) -> Question
     Question::OfTables(Subject::Packets(PacketSet { asked, detail }))
 }
 
+/// Whether a packet from a place has one of these endings, without each single link.
+fn failures_asked(place: Pos, header: &Header, ends: &Ends) -> Question
+    ensures { result ≡ Question.OfFailures (record { place = place; header = header.now; ends = ends.now }) }
+{
+    Question::OfFailures(Arrival {
+        place,
+        header: *header,
+        ends: *ends,
+    })
+}
+
 /// What of the network is asked about, or `None` exactly where it has no such router or interface.
 pub fn question_of(net: &Network, ask: &Ask) -> Option<Question>
     ensures { result ≡ question_of net.now ask.now }
 {
+    // For the proof: that of a place that is let go wants the name within it named in the function.
+    let _name: Option<Name> = None;
     match ask {
-        Ask::Routes { router: None } => Some(Question::OfTables(Subject::AllRouters)),
-        Ask::Routes { router: Some(text) } => {
-            let router = router_of_text(net, text.as_str())?;
-            Some(Question::OfTables(Subject::OneRouter(router)))
-        }
+        Ask::Routes { router } => routes_asked(net, router),
         Ask::Trace { place, header } => {
             let position = position_named(net, place)?;
             Some(Question::OfTables(Subject::Packet(position, *header)))
@@ -134,10 +183,14 @@ pub fn question_of(net: &Network, ask: &Ask) -> Option<Question>
             let position = position_named(net, place)?;
             Some(packets(Asked::Uneven(position), *examples))
         }
-        Ask::Lines { router: None } => Some(Question::OfLists(None)),
-        Ask::Lines { router: Some(text) } => {
-            let router = router_of_text(net, text.as_str())?;
-            Some(Question::OfLists(Some(router)))
+        Ask::Lines { router } => lists_asked(net, router),
+        Ask::Failures {
+            place,
+            header,
+            ends,
+        } => {
+            let place = position_named(net, place)?;
+            Some(failures_asked(place, header, ends))
         }
         Ask::Summary => {
             let place = sample_place()?;

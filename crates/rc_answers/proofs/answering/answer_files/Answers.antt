@@ -1,7 +1,7 @@
 use Rattle.std.proofs.Common.{refl}
+use Rattle.rc_writing.specs.Places.{place_text}
+use Rattle.rc_writing.specs.Texts.{refused_line, no_place_line}
 use Rattle.rc_answers.proofs.PutLaws.{file_put, refused_put, no_place_put}
-use Rattle.rc_answers.specs.Subject.{place_text}
-use Rattle.rc_answers.specs.Texts.{refused_line, no_place_line}
 use Rattle.rc_answers.proofs.answering.answer_files.Goals as goal
 
 pub returns-in-Refused-clause-put : goal.returns-in-Refused-clause-put

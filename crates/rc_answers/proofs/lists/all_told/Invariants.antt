@@ -1,5 +1,0 @@
-use Rattle.rc_answers.proofs.ListLaws.{AreRoutersSoFar}
-use Rattle.rc_answers.proofs.lists.all_told.Given as goal
-
-abbrev pub invariant-loop-index : goal.invariant-loop-index
-invariant-loop-index l = AreRoutersSoFar l.network l.index l.left.items l.told

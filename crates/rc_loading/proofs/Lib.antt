@@ -1,0 +1,5 @@
+mod Listed
+mod FileFronts
+mod ReadLaws
+mod BuiltLaws
+pub mod OneNet
