@@ -88,10 +88,8 @@ fn a_line_goes_out_in_pieces(rt: HostRuntime) -> Result<(), Fail> {
 }
 
 /// A network without routers, where no place has a name.
-fn nowhere(alloc: Global) -> Network {
-    Network {
-        routers: Named::new(alloc),
-    }
+fn nowhere(alloc: Global) -> Result<Network, AllocError> {
+    Network::of(alloc, Named::new(alloc))
 }
 
 /// A route to 10.0.N.0/24 that leads to nowhere so many times.
@@ -145,7 +143,7 @@ fn calls_for(
     walk: &Walk,
     text: &[u8],
 ) -> Result<Option<u64>, AllocError> {
-    let net = nowhere(alloc);
+    let net = nowhere(alloc)?;
     let mut line = Buffer::new(alloc)?;
     let mut sink = MemSink::new(alloc, 2048, Vec::new(alloc))?;
     let are_put = put_routes(&mut sink, &mut line, &net, RouterId::at(0), table).is_ok()

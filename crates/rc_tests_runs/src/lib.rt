@@ -16,6 +16,8 @@ mod gates;
 #[cfg(test)]
 mod hostile;
 #[cfg(test)]
+mod pairs;
+#[cfg(test)]
 mod refusals;
 #[cfg(test)]
 mod small_tables;
