@@ -75,15 +75,20 @@ def by_turns(command, other, turns=15):
     return min(a[0] for a, _ in pairs), min(b[0] for _, b in pairs), all(a[1] == b[1] for a, b in pairs)
 
 
-def peak(command):
-    """The most memory in MB that a run held, or None where the command time isn't there to tell."""
+def run_held(command):
+    """The same of a run, and the most memory in MB that it held, or None where the command time isn't there to tell."""
     # A child that Python starts counts Python's own memory; one that time starts doesn't.
     with tempfile.NamedTemporaryFile() as said:
         try:
-            subprocess.run(["/usr/bin/time", "-f", "%M", "-o", said.name, *command], stdout=subprocess.DEVNULL, stderr=subprocess.DEVNULL)
-            return int(said.read().split()[-1]) * 1024 / MB
+            ran = run(["/usr/bin/time", "-f", "%M", "-o", said.name, *command])
+            return *ran, int(said.read().split()[-1]) * 1024 / MB
         except (OSError, IndexError, ValueError):
-            return None
+            return *run(command), None
+
+
+def peak(command):
+    """The most memory in MB that a run held, or None where the command time isn't there to tell."""
+    return run_held(command)[3]
 
 
 def megabytes(held):
