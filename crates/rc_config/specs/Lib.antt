@@ -33,10 +33,3 @@ pub mod CommunityList
 pub mod Lists
 pub mod PolicyRows
 pub mod ModelRows
-pub mod Said
-pub mod InterfaceLines
-pub mod EntryLines
-pub mod OspfLines
-pub mod BgpLines
-pub mod LastLine
-pub mod LastLineRows

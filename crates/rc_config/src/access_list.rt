@@ -1,11 +1,11 @@
 //! Access lists (IOS `access-list` and `ip access-list`).
-ghost use Rattle.std.specs.Prelude.{◌≡◌, ◌≤◌, All, IfOk, IfSome};
-ghost use Rattle.rc_config.specs.AccessList.{any_address, host_address, has_sequence, last_sequence, AreLinesInOrder, IsLawfulAccessList, IsLawfulLine};
+ghost use Rattle.std.specs.Prelude.{◌≡◌, ◌≤◌, All, IfSome};
+ghost use Rattle.rc_config.specs.AccessList.{any_address, host_address, has_sequence, last_sequence, IsLawfulAccessList};
 ghost use Rattle.rc_config.specs.declared.access_list.AccessListLine.{AccessListLine};
 
 use crate::{ByNumber, Numbered, Ports};
 use rc_base::Addr;
-use std::alloc::{AllocError, Global};
+use std::alloc::Global;
 
 /// What the lines of a list may test.
 #[derive(Clone, Copy)]
@@ -140,7 +140,7 @@ pub struct AccessList {
 }
 
 impl AccessList {
-    ghost use Rattle.rc_config.specs.AccessList.{no_lines, with_line};
+    ghost use Rattle.rc_config.specs.AccessList.{no_lines};
 
     /// A list without lines. It takes no memory.
     #[tactic(auto, using(crate::proofs::AccessListLaws::no_lines_lawful))]
@@ -152,21 +152,6 @@ impl AccessList {
             kind,
             lines: ByNumber::new(alloc),
         }
-    }
-
-    /// The list with one more line, by its number, where it replaces the line of the same number, if there
-    /// is one (`has_line`). A lawful list stays lawful with a lawful line.
-    #[tactic(auto, using(crate::proofs::AccessListLaws::placed_lawful))]
-    pub fn with_line(self, line: AccessListLine) -> Result<AccessList, AllocError>
-        ensures value { IfOk result (λ f. f ≡ with_line self line) }
-        ensures order { IfOk result (λ f. AreLinesInOrder f.lines) }
-        ensures lawful { IfOk result (λ f. IsLawfulAccessList self → IsLawfulLine self.kind line → IsLawfulAccessList f) }
-    {
-        // The generated proof of a generic call wants each enum within its type named in the function.
-        let _test: PortTest = PortTest::Any;
-        let AccessList { kind, mut lines } = self;
-        lines.insert(line)?;
-        Ok(AccessList { kind, lines })
     }
 
     /// The number of the last line, which is the greatest, or `None` exactly where there are no lines.

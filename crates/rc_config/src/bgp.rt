@@ -1,12 +1,10 @@
 //! What a configuration says of BGP (RFC 4271): the process of a router, its neighbours, and what it redistributes.
-ghost use Rattle.std.specs.Prelude.{◌≡◌, IfOk, OnOk, map};
+ghost use Rattle.std.specs.Prelude.{◌≡◌};
 ghost use Rattle.rc_config.specs.Bgp as spec;
-ghost use Rattle.rc_config.specs.ByNumber.{placed};
-ghost use Rattle.rc_config.specs.Peering.{settled_in};
 
 use crate::{ByNumber, Direction, Mention, Numbered, Peer, Peering, Settings};
 use rc_base::{Addr, Items, Name, Prefix};
-use std::alloc::{AllocError, Global};
+use std::alloc::Global;
 
 /// A neighbour. While a file is read it has the settings of its own lines; in a network it has what holds of it in the end.
 #[derive(Clone, Copy)]
@@ -190,64 +188,6 @@ impl Drop for BgpProcess {
     }
 }
 
-/// What the lines so far say of the neighbour of an address.
-fn neighbor_at(neighbors: &ByNumber<Neighbor>, address: Addr) -> Neighbor
-    ensures { result ≡ spec.neighbor_at neighbors.now address }
-{
-    match neighbors.get(address.bits()) {
-        Some(known) => *known,
-        None => Neighbor::new(address),
-    }
-}
-
-/// Puts a neighbour in place of the one of its address.
-fn put_neighbor(neighbors: &mut ByNumber<Neighbor>, neighbor: Neighbor) -> Result<(), AllocError>
-    ensures { OnOk result (neighbors.new ≡ placed spec.address_of neighbor neighbors.old) }
-{
-    // The generated proof of an insertion wants each type within the element named in the function.
-    let _interface: Option<Name> = None;
-    let _mention: Option<Mention> = None;
-    let _settings: Option<Settings> = None;
-    neighbors.insert(neighbor)?;
-    Ok(())
-}
-
-/// Puts one more line about the neighbour of an address, which is one of the neighbours from then on.
-fn put_neighbor_line(
-    neighbors: &mut ByNumber<Neighbor>,
-    address: Addr,
-    setting: NeighborSetting,
-) -> Result<(), AllocError>
-    ensures { OnOk result (neighbors.new ≡ spec.with_neighbor neighbors.old address setting) }
-{
-    let mut neighbor = neighbor_at(neighbors, address);
-    neighbor.settings.put_setting(setting);
-    put_neighbor(neighbors, neighbor)
-}
-
-/// Makes the address that of a neighbour, where it isn't yet.
-fn put_address(neighbors: &mut ByNumber<Neighbor>, address: Addr) -> Result<(), AllocError>
-    ensures { OnOk result (neighbors.new ≡ spec.with_address neighbors.old address) }
-{
-    let neighbor = neighbor_at(neighbors, address);
-    put_neighbor(neighbors, neighbor)
-}
-
-/// The neighbours with what holds of each in the end.
-fn settle_all(
-    alloc: Global,
-    neighbors: &ByNumber<Neighbor>,
-    peering: &Peering,
-) -> Result<ByNumber<Neighbor>, AllocError>
-    ensures { IfOk result (λ settled. settled ≡ map (settled_in peering.now) neighbors.now) }
-{
-    let mut settled = ByNumber::new(alloc);
-    for neighbor in neighbors.iter() {
-        put_neighbor(&mut settled, peering.settled(neighbor))?;
-    }
-    Ok(settled)
-}
-
 impl BgpProcess {
     /// The process of an AS with no line in its block. It takes no memory.
     pub fn new(alloc: Global, asn: u32) -> BgpProcess
@@ -269,76 +209,5 @@ impl BgpProcess {
             },
             peering: Peering::new(alloc),
         }
-    }
-
-    /// Puts one more line: a `network` line goes behind the others, and any other counts in place of an earlier one of the same
-    /// kind, of `neighbor` lines in place of one about the same neighbour or group, and of `redistribute` lines in place of one
-    /// of the same source.
-    pub(crate) fn put_line(&mut self, line: BgpLine) -> Result<(), AllocError>
-        ensures { OnOk result (self.new ≡ spec.with_line self.old line) }
-    {
-        match line {
-            BgpLine::RouterId(id) => {
-                self.router_id = Some(id);
-                Ok(())
-            }
-            BgpLine::MaximumExternalPaths(number) => {
-                self.maximum_paths.external = number;
-                Ok(())
-            }
-            BgpLine::MaximumInternalPaths(number) => {
-                self.maximum_paths.internal = number;
-                Ok(())
-            }
-            BgpLine::Network(prefix) => self.networks.push(prefix),
-            BgpLine::Setting { whom, setting } => self.put_setting(whom, setting),
-            BgpLine::Active { whom, is_active } => self.peering.put_activity(whom, is_active),
-            BgpLine::GroupDeclared(name) => self.peering.declare(name),
-            BgpLine::MemberOf { address, group } => self.put_member(address, group),
-            BgpLine::InactiveByDefault => {
-                self.peering.is_active_by_default = false;
-                Ok(())
-            }
-            BgpLine::RedistributeConnected(connected) => {
-                self.redistributions.connected = Some(connected);
-                Ok(())
-            }
-            BgpLine::RedistributeStatic(static_routes) => {
-                self.redistributions.static_routes = Some(static_routes);
-                Ok(())
-            }
-            BgpLine::RedistributeOspf(ospf) => {
-                self.redistributions.ospf.insert(ospf)?;
-                Ok(())
-            }
-        }
-    }
-
-    /// Puts one more line that sets something of a neighbour or of a peer group.
-    fn put_setting(&mut self, whom: Peer, setting: NeighborSetting) -> Result<(), AllocError>
-        ensures { OnOk result (self.new ≡ spec.with_setting_of self.old whom setting) }
-    {
-        match whom {
-            Peer::Address(address) => put_neighbor_line(&mut self.neighbors, address, setting),
-            Peer::Group(name) => self.peering.put_shared(name, setting),
-        }
-    }
-
-    /// Makes a neighbour a member of a group. It is one of the neighbours from then on.
-    fn put_member(&mut self, address: Addr, group: Name) -> Result<(), AllocError>
-        ensures { OnOk result (self.new ≡ spec.with_member_of self.old address group) }
-    {
-        put_address(&mut self.neighbors, address)?;
-        self.peering.put_member(address, group)
-    }
-
-    /// Gives each neighbour what holds of it in the end, and lets the peer groups go. Where memory runs out what is left is no
-    /// settled process.
-    pub(crate) fn settle(&mut self, alloc: Global) -> Result<(), AllocError>
-        ensures { OnOk result (self.new ≡ spec.settled self.old) }
-    {
-        self.neighbors = settle_all(alloc, &self.neighbors, &self.peering)?;
-        self.peering = Peering::new(alloc);
-        Ok(())
     }
 }

@@ -1,10 +1,10 @@
 //! Community lists (IOS `ip community-list`).
-ghost use Rattle.std.specs.Prelude.{◌≡◌, IfOk};
-ghost use Rattle.rc_config.specs.CommunityList.{no_lines, with_line};
+ghost use Rattle.std.specs.Prelude.{◌≡◌};
+ghost use Rattle.rc_config.specs.CommunityList.{no_lines};
 
 use crate::Action;
 use rc_base::{Communities, Items};
-use std::alloc::{AllocError, Global};
+use std::alloc::Global;
 
 /// A line of a community list. It matches the routes that have all of its communities (RFC 1997).
 #[derive(Drop)]
@@ -27,14 +27,5 @@ impl CommunityList {
         CommunityList {
             lines: Items::new(alloc),
         }
-    }
-
-    /// The list with one more line behind the others.
-    pub fn with_line(self, line: CommunityLine) -> Result<CommunityList, AllocError>
-        ensures { IfOk result (λ c. c ≡ with_line self line) }
-    {
-        let CommunityList { mut lines } = self;
-        lines.push(line)?;
-        Ok(CommunityList { lines })
     }
 }

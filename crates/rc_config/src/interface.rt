@@ -1,12 +1,12 @@
 //! Interfaces and their addresses.
-ghost use Rattle.std.specs.Prelude.{◌≡◌, OnOk};
+ghost use Rattle.std.specs.Prelude.{◌≡◌};
 ghost use Rattle.std.specs.Option.{option_copied, SomeIff};
 ghost use Rattle.rc_base.specs.Prefix.{prefix_at};
 ghost use Rattle.rc_config.specs.MaskedAddr.{IsMaskLen};
 
 use crate::{OspfSetting, OspfSettings};
 use rc_base::{Addr, Items, Name, Prefix};
-use std::alloc::{AllocError, Global};
+use std::alloc::Global;
 use std::marker::Model;
 
 /// An address of an interface with the length of its mask, from 1 to 32, seen as the record of the two.
@@ -108,7 +108,7 @@ pub enum InterfaceLine {
 }
 
 impl Interface {
-    ghost use Rattle.rc_config.specs.Interface.{fresh, group_of, with_address, with_group, with_line};
+    ghost use Rattle.rc_config.specs.Interface.{fresh, group_of};
 
     /// An interface with no line in its block. It takes no memory.
     pub fn new(alloc: Global) -> Interface
@@ -122,51 +122,6 @@ impl Interface {
             access_group_in: None,
             access_group_out: None,
             ospf: OspfSettings::new(alloc),
-        }
-    }
-
-    /// Puts one more secondary address, or this primary address in place of any other.
-    fn put_address(&mut self, address: IfAddr, secondary: bool) -> Result<(), AllocError>
-        ensures { OnOk result (self.new ≡ with_address self.old address secondary) }
-    {
-        if secondary {
-            self.secondary.push(address)?;
-        } else {
-            self.primary = Some(address);
-        }
-        Ok(())
-    }
-
-    /// Puts this list in a direction, in place of any other.
-    fn put_group(&mut self, list: Name, direction: Direction)
-        ensures { self.new ≡ with_group self.old list direction }
-    {
-        match direction {
-            Direction::In => self.access_group_in = Some(list),
-            Direction::Out => self.access_group_out = Some(list),
-        }
-    }
-
-    /// Puts one more line of the block: a secondary address goes behind the others, and any other line counts in place of an
-    /// earlier one of the same kind, and of `ip access-group` lines in place of one of the same direction.
-    pub(crate) fn put_line(&mut self, line: InterfaceLine) -> Result<(), AllocError>
-        ensures { OnOk result (self.new ≡ with_line self.old line) }
-    {
-        match line {
-            InterfaceLine::Address { address, secondary } => self.put_address(address, secondary),
-            InterfaceLine::Shutdown(down) => {
-                self.shutdown = down;
-                Ok(())
-            }
-            InterfaceLine::Bandwidth(kbits) => {
-                self.bandwidth = Some(kbits);
-                Ok(())
-            }
-            InterfaceLine::AccessGroup { list, direction } => {
-                self.put_group(list, direction);
-                Ok(())
-            }
-            InterfaceLine::Ospf(setting) => self.ospf.put_setting(setting),
         }
     }
 

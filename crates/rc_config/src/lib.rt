@@ -3,14 +3,15 @@
 //!
 //! It stands on the names and addresses of rc_base, and on the map of indexmap. The layer above knows a file's model as
 //! what `after` makes of its commands one by one, a map as its list of names and values in the order of first mention,
-//! things by number as their list, and a router or an interface by its index in such a list.
+//! things by number as their list, and a router or an interface by its index in such a list. The calls that put a command
+//! into a model are those of rc_commands, so that all that only reads a network needn't wait for them.
 //!
 //! The crate goes one way: what words say (`class`, `action_word`, `direction_word`, `down`, `if_type`), values by number and
-//! by name (`by_number`, `named`); the parts of a file, each with its lines: `interface`, `static_route`, the lists
+//! by name (`by_number`, `named`); the parts of a file, each with what its lines say: `interface`, `static_route`, the lists
 //! (`access_list` with its `ports`, `prefix_list`, `community_list`, together in `lists`), `route_map` (`map_line`, `sets`),
-//! `ospf`, `bgp` with what `neighbor` lines set (`settings`) and the peer groups (`peering`); where a line stands (`context`),
-//! what it says (`command`) and which lines count (`last_line`); the file that these make (`router_text`), and the network of
-//! all files (`routers`, `network`), whose neighbours have what holds of them in the end, and which may be cut between interfaces.
+//! `ospf`, `bgp` with what `neighbor` lines set (`settings`) and the peer groups (`peering`); where a line stands (`context`)
+//! and what it says (`command`); the file that these make (`router_text`), and the network of all files (`routers`, `network`),
+//! whose neighbours have what holds of them in the end, and which may be cut between interfaces.
 #![tactic(auto)]
 
 mod access_list;
@@ -25,7 +26,6 @@ mod direction_word;
 mod down;
 mod if_type;
 mod interface;
-mod last_line;
 mod lists;
 mod map_line;
 mod named;
@@ -58,7 +58,6 @@ pub use context::{Context, OpenBlock};
 pub use direction_word::direction_of;
 pub use if_type::{IfType, type_of_name};
 pub use interface::{Direction, IfAddr, Interface, InterfaceLine};
-pub use last_line::last_line_counts;
 pub use lists::{ListLine, Lists};
 pub use map_line::{MapLine, MatchKind, SetLine};
 pub use named::Named;

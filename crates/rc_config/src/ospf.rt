@@ -1,10 +1,10 @@
 //! What a configuration says of OSPF (RFC 2328): the process of a router, and the settings of its interfaces.
-ghost use Rattle.std.specs.Prelude.{◌≡◌, IfOk, OnOk};
+ghost use Rattle.std.specs.Prelude.{◌≡◌};
 ghost use Rattle.rc_config.specs.Ospf as spec;
 
 use crate::{ByNumber, Mention, MetricType, Named, Numbered};
 use rc_base::{Addr, Items, Name};
-use std::alloc::{AllocError, Global};
+use std::alloc::Global;
 
 /// The kind of network to which an interface attaches (RFC 2328 s.1.2).
 #[derive(Clone, Copy, PartialEq, Eq)]
@@ -86,23 +86,6 @@ impl OspfSettings {
             areas: ByNumber::new(alloc),
         }
     }
-
-    /// Puts one more line, which counts in place of an earlier one of the same kind, and an area in place of one of the same
-    /// process.
-    pub(crate) fn put_setting(&mut self, setting: OspfSetting) -> Result<(), AllocError>
-        ensures { OnOk result (self.new ≡ spec.with_setting self.old setting) }
-    {
-        match setting {
-            OspfSetting::Cost(cost) => self.cost = Some(cost),
-            OspfSetting::HelloInterval(seconds) => self.hello = Some(seconds),
-            OspfSetting::DeadInterval(seconds) => self.dead = Some(seconds),
-            OspfSetting::NetworkType(network) => self.network = Some(network),
-            OspfSetting::Area(area) => {
-                self.areas.insert(area)?;
-            }
-        }
-        Ok(())
-    }
 }
 
 /// A `network` line: the interfaces whose primary address agrees with this one in the bits whose wildcard bit is 0 are in this
@@ -140,18 +123,6 @@ pub enum RedistributedSource {
     Bgp(u32),
 }
 
-/// Whether two are one source, whatever the number of an AS: of a file's lines about one source the last counts.
-fn is_same_source(a: RedistributedSource, b: RedistributedSource) -> bool
-    ensures { result ≡ spec.is_same_source a b }
-{
-    match (a, b) {
-        (RedistributedSource::Connected, RedistributedSource::Connected) => true,
-        (RedistributedSource::Static, RedistributedSource::Static) => true,
-        (RedistributedSource::Bgp(_), RedistributedSource::Bgp(_)) => true,
-        _ => false,
-    }
-}
-
 /// Routes of one source as AS-external routes (RFC 2328 s.12.4.4).
 #[derive(Clone, Copy)]
 pub struct Redistribution {
@@ -163,26 +134,6 @@ pub struct Redistribution {
     pub subnets: bool,
     /// The route map through which they pass.
     pub route_map: Option<Mention>,
-}
-
-/// What is redistributed with one more line, which counts in place of an earlier one from the same source.
-fn with_redistribution(
-    alloc: Global,
-    known: &[Redistribution],
-    line: Redistribution,
-) -> Result<Items<Redistribution>, AllocError>
-    ensures { IfOk result (λ made. made ≡ spec.with_redistribution known.now line) }
-{
-    // For the proof: that of a push wants each enum within the element named in the function.
-    let _named: Option<Mention> = None;
-    let mut made = Items::new(alloc);
-    for other in known {
-        if !is_same_source(other.source, line.source) {
-            made.push(*other)?;
-        }
-    }
-    made.push(line)?;
-    Ok(made)
 }
 
 /// The default route as an AS-external route.
@@ -271,39 +222,6 @@ impl OspfProcess {
             redistributions: Items::new(alloc),
             default_information: None,
         }
-    }
-
-    /// Puts a `redistribute` line.
-    fn put_redistribution(&mut self, line: Redistribution) -> Result<(), AllocError>
-        ensures { OnOk result (self.new ≡ record self.old { redistributions = spec.with_redistribution self.old.redistributions line }) }
-    {
-        let alloc = self.passive.allocator();
-        let made = with_redistribution(alloc, self.redistributions.as_slice(), line)?;
-        self.redistributions = made;
-        Ok(())
-    }
-
-    /// Puts one more line: a `network` line goes behind the others, and any other counts in place of an earlier one of the same
-    /// kind, with its own options alone: of `passive-interface` lines in place of one about the same interface, of `area` lines of
-    /// one about the same area, and of `redistribute` lines of one about the same source.
-    pub(crate) fn put_line(&mut self, line: OspfLine) -> Result<(), AllocError>
-        ensures { OnOk result (self.new ≡ spec.with_line self.old line) }
-    {
-        match line {
-            OspfLine::RouterId(id) => self.router_id = Some(id),
-            OspfLine::Network(network) => self.networks.push(network)?,
-            OspfLine::PassiveDefault => self.passive_default = true,
-            OspfLine::Passive { interface, passive } => {
-                self.passive.insert(interface, passive)?;
-            }
-            OspfLine::ReferenceBandwidth(mbits) => self.reference_bandwidth = mbits,
-            OspfLine::Stub(area) => {
-                self.stub_areas.insert(area)?;
-            }
-            OspfLine::Redistribute(line) => self.put_redistribution(line)?,
-            OspfLine::DefaultInformation(line) => self.default_information = Some(line),
-        }
-        Ok(())
     }
 
     /// Whether an interface of this name is passive: it forms no adjacency.

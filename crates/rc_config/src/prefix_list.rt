@@ -1,11 +1,11 @@
 //! Prefix lists (IOS `ip prefix-list`).
-ghost use Rattle.std.specs.Prelude.{◌≡◌, ◌≤◌, All, IfOk, IfSome};
-ghost use Rattle.rc_config.specs.PrefixList.{greatest_sequence, has_sequence, no_lines, with_line, AreLinesInOrder, IsLawfulLine, IsLawfulList};
+ghost use Rattle.std.specs.Prelude.{◌≡◌, ◌≤◌, All, IfSome};
+ghost use Rattle.rc_config.specs.PrefixList.{greatest_sequence, has_sequence, no_lines, IsLawfulList};
 ghost use Rattle.rc_config.specs.declared.prefix_list.PrefixLine.{PrefixLine};
 
 use crate::{Action, ByNumber, Numbered};
 use rc_base::Prefix;
-use std::alloc::{AllocError, Global};
+use std::alloc::Global;
 
 /// A line of a prefix list. It matches the prefixes whose first bits are those of its own prefix and whose length is that of
 /// its own or, where it has a bound, within the bounds.
@@ -45,26 +45,6 @@ impl PrefixList {
         PrefixList {
             lines: ByNumber::new(alloc),
         }
-    }
-
-    /// The list with one more line, by its number.
-    fn placed(self, line: PrefixLine) -> Result<PrefixList, AllocError>
-        ensures value { IfOk result (λ p. p ≡ with_line self line) }
-        ensures order { IfOk result (λ p. AreLinesInOrder p.lines) }
-    {
-        let PrefixList { mut lines } = self;
-        lines.insert(line)?;
-        Ok(PrefixList { lines })
-    }
-
-    /// The list with one more line, by its number, where it replaces the line of the same number, if there
-    /// is one (`has_line`). A lawful list stays lawful with a lawful line.
-    pub fn with_line(self, line: PrefixLine) -> Result<PrefixList, AllocError>
-        ensures value { IfOk result (λ p. p ≡ with_line self line) }
-        ensures order { IfOk result (λ p. AreLinesInOrder p.lines) }
-        ensures lawful { IfOk result (λ p. IsLawfulList self → IsLawfulLine line → IsLawfulList p) }
-    {
-        self.placed(line)
     }
 
     /// The number of the last line, which is the greatest, or `None` exactly where there are no lines.

@@ -1,11 +1,10 @@
 //! Route maps (IOS `route-map`).
-ghost use Rattle.std.specs.Prelude.{◌≡◌, ◌++◌, ◌≤◌, IfOk, OnOk};
-ghost use Rattle.rc_config.specs.ByNumber.{without_number, IsByNumber};
-ghost use Rattle.rc_config.specs.RouteMap.{entry_opened, entry_with, fresh_entry, mentions, no_entries, number_of, opened, with_line, with_mentions, IsLawfulMap, IsLawfulMapLine};
+ghost use Rattle.std.specs.Prelude.{◌≡◌};
+ghost use Rattle.rc_config.specs.RouteMap.{fresh_entry, no_entries, IsLawfulMap};
 
-use crate::{Action, ByNumber, MapLine, MatchKind, Numbered, Sets};
+use crate::{Action, ByNumber, Numbered, Sets};
 use rc_base::{Items, Name};
-use std::alloc::{AllocError, Global};
+use std::alloc::Global;
 
 /// A list that a `match` line names, and the number of the line.
 #[derive(Clone, Copy)]
@@ -51,19 +50,9 @@ impl Numbered for MapEntry {
     }
 }
 
-/// Puts the names of a `match` line behind the others.
-fn add_mentions(known: &mut Items<Mention>, names: &[Name], line: u64) -> Result<(), AllocError>
-    ensures { OnOk result (known.new ≡ known.old ++ mentions names.now line) }
-{
-    for name in names {
-        known.push(Mention { name: *name, line })?;
-    }
-    Ok(())
-}
-
 impl MapEntry {
     /// An entry without lines. It takes no memory.
-    fn new(alloc: Global, number: u32, action: Action) -> MapEntry
+    pub fn new(alloc: Global, number: u32, action: Action) -> MapEntry
         ensures { result ≡ fresh_entry number action }
     {
         MapEntry {
@@ -74,60 +63,6 @@ impl MapEntry {
             community_lists: Items::new(alloc),
             sets: Sets::new(alloc),
         }
-    }
-
-    /// The entry with these names behind the others of their opening.
-    fn with_mentions(
-        mut self,
-        kind: MatchKind,
-        names: &[Name],
-        line: u64,
-    ) -> Result<MapEntry, AllocError>
-        ensures { IfOk result (λ e. e ≡ with_mentions self kind (mentions names.now line)) }
-    {
-        match kind {
-            MatchKind::AccessList => add_mentions(&mut self.access_lists, names, line)?,
-            MatchKind::PrefixList => add_mentions(&mut self.prefix_lists, names, line)?,
-            MatchKind::CommunityList => add_mentions(&mut self.community_lists, names, line)?,
-        }
-        Ok(self)
-    }
-
-    /// The entry after one more line.
-    fn with_line(mut self, line: MapLine) -> Result<MapEntry, AllocError>
-        ensures { IfOk result (λ e. e ≡ entry_with self line) }
-    {
-        match line {
-            MapLine::Match { kind, names, line } => self.with_mentions(
-                kind,
-                names.as_slice(),
-                line,
-            ),
-            MapLine::Set(set) => {
-                self.sets.put_line(set);
-                Ok(self)
-            }
-        }
-    }
-}
-
-/// Takes out the entry of a number, opened with this action. One that isn't there is an entry without lines.
-fn take_opened(
-    alloc: Global,
-    entries: &mut ByNumber<MapEntry>,
-    number: u32,
-    action: Action,
-) -> MapEntry
-    ensures entry { result ≡ entry_opened entries.old number action }
-    ensures others { entries.new ≡ without_number number_of number entries.old }
-    ensures were_by_number { IsByNumber number_of entries.old }
-{
-    match entries.take(number) {
-        Some(mut entry) => {
-            entry.action = action;
-            entry
-        }
-        None => MapEntry::new(alloc, number, action),
     }
 }
 
@@ -146,50 +81,6 @@ impl RouteMap {
     {
         RouteMap {
             entries: ByNumber::new(alloc),
-        }
-    }
-
-    /// The map in which the entry of this number is opened: a known one again, with this action and the lines that it has,
-    /// and a new one without lines, by its number. A lawful map stays lawful where the number is at most 65535.
-    pub fn opened(self, alloc: Global, number: u32, action: Action) -> Result<RouteMap, AllocError>
-        ensures value { IfOk result (λ m. m ≡ opened self number action) }
-        ensures lawful { IfOk result (λ m. IsLawfulMap self → number ≤ 65535 → IsLawfulMap m) }
-    {
-        self.with_opened(alloc, number, action)
-    }
-
-    /// The map in which the entry of this number has one more line: the names of a `match` line stand behind the others of
-    /// their opening, and a `set` line counts in place of an earlier one of its opening. Where no entry has the number the
-    /// map stays as it is. A lawful map stays lawful with a lawful line.
-    pub fn with_line(self, number: u32, line: MapLine) -> Result<RouteMap, AllocError>
-        ensures value { IfOk result (λ m. m ≡ with_line self number line) }
-        ensures lawful { IfOk result (λ m. IsLawfulMap self → IsLawfulMapLine line → IsLawfulMap m) }
-    {
-        self.with_more(number, line)
-    }
-
-    #[tactic(auto, using(crate::proofs::PolicyLaws::opened_over))]
-    fn with_opened(self, alloc: Global, number: u32, action: Action) -> Result<RouteMap, AllocError>
-        ensures { IfOk result (λ m. m ≡ opened self number action) }
-    {
-        let RouteMap { mut entries } = self;
-        let entry = take_opened(alloc, &mut entries, number, action);
-        entries.insert(entry)?;
-        Ok(RouteMap { entries })
-    }
-
-    #[tactic(auto, using(crate::proofs::PolicyLaws::lined_over, crate::proofs::PolicyLaws::none_lined))]
-    fn with_more(self, number: u32, line: MapLine) -> Result<RouteMap, AllocError>
-        ensures { IfOk result (λ m. m ≡ with_line self number line) }
-    {
-        let RouteMap { mut entries } = self;
-        match entries.take(number) {
-            None => Ok(RouteMap { entries }),
-            Some(entry) => {
-                let entry = entry.with_line(line)?;
-                entries.insert(entry)?;
-                Ok(RouteMap { entries })
-            }
         }
     }
 }

@@ -1,9 +1,8 @@
 //! What an entry of a route map sets.
 ghost use Rattle.std.specs.Prelude.{◌≡◌};
 ghost use Rattle.std.specs.Ordering.{nat_cmp};
-ghost use Rattle.rc_config.specs.Sets.{metric_type_number, no_sets, with_set};
+ghost use Rattle.rc_config.specs.Sets.{metric_type_number, no_sets};
 
-use crate::SetLine;
 use rc_base::{Communities, Items, Origin};
 use std::alloc::Global;
 use std::cmp::Ordering;
@@ -65,30 +64,6 @@ impl Sets {
             origin: None,
             communities: CommunityChange::Keep,
             prepended: Items::new(alloc),
-        }
-    }
-
-    /// Puts one more line, which counts in place of an earlier one of the same opening. It takes no memory.
-    pub(crate) fn put_line(&mut self, line: SetLine)
-        ensures { self.new ≡ with_set self.old line }
-    {
-        match line {
-            SetLine::LocalPreference(number) => self.local_preference = Some(number),
-            SetLine::Metric(number) => self.metric = Some(number),
-            SetLine::MetricType(metric_type) => self.metric_type = Some(metric_type),
-            SetLine::Weight(number) => self.weight = Some(number),
-            SetLine::Origin(origin) => self.origin = Some(origin),
-            SetLine::Communities {
-                communities,
-                additive,
-            } => {
-                self.communities = if additive {
-                    CommunityChange::Add(communities)
-                } else {
-                    CommunityChange::Replace(communities)
-                }
-            }
-            SetLine::Prepend(numbers) => self.prepended = numbers,
         }
     }
 }

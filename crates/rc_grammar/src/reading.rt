@@ -13,6 +13,7 @@ ghost use Rattle.rc_grammar.specs.File.{at_line, failed_at, file_of, interface_o
 use crate::grammars::read_line;
 use crate::{FileCause, FileRefusal, ReadError};
 use rc_base::Name;
+use rc_commands::apply;
 use rc_config::{Command, Context, ListLine, OpenBlock, RouterText};
 use rc_lines::{Line, Lines, Part};
 use rc_openings::{LineError, LineRefusal};
@@ -152,7 +153,7 @@ impl Reading {
             return Err(refused(line, FileCause::TooManyInterfaces));
         }
         self.block = block_after(&self.block, &command);
-        match self.file.apply(command) {
+        match apply(&mut self.file, command) {
             Ok(()) => Ok(()),
             Err(_) => Err(ReadError::Memory),
         }

@@ -8,7 +8,7 @@ use Rattle.std.proofs.lemmas.List.Elements.{All-from_recursion, recursion_from_A
 use Rattle.std.proofs.lemmas.List.Sorted.{All-permutation, length_permutation}
 use Rattle.rc_config.specs.Named.{named, with_value}
 use Rattle.rc_config.proofs.NamedLaws.{with_value_new}
-use Rattle.rc_config.proofs.SettleLaws.{settled_lawful}
+use Rattle.rc_commands.proofs.SettleLaws.{settled_lawful}
 use Rattle.rc_config.specs.Lawful.{IsLawful, IsLawfulFile, IsNamed}
 use Rattle.rc_config.specs.Update.{settled_router}
 use Rattle.rc_config.specs.declared.router_text.HostLine.{HostLine}

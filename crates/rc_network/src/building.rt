@@ -11,6 +11,7 @@ ghost use Rattle.rc_network.specs.Twice.{NamesTheFirstTwice};
 use crate::undefined::undefined_line;
 use crate::{BuildError, NetCause, NetRefusal};
 use rc_base::{FileName, Name};
+use rc_commands::settle;
 use rc_config::{HostLine, Named, Network, RouterText};
 use std::alloc::Global;
 use std::collections::VecDeque;
@@ -62,7 +63,7 @@ fn put_router(
     ensures memory { IfErr result (λ e. e ≡ BuildError.Memory) }
 {
     let alloc = routers.allocator();
-    let Ok(()) = model.settle(alloc) else {
+    let Ok(()) = settle(&mut model, alloc) else {
         return Err(BuildError::Memory);
     };
     let Ok(_) = routers.insert(name, model) else {

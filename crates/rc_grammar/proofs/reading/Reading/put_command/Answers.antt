@@ -6,7 +6,7 @@ pub returns-in-Ok-clause-fit : goal.returns-in-Ok-clause-fit
 returns-in-Ok-clause-fit c =
     let was = c.requires.fit in
     record {
-      few = few-made c.args.self.now.file c.apply.new.self c.args.command (sym c.is_too_many.ensures ∙ c.if-is_too_many.false) c.in-Ok.ensures.value was.few;
+      few = few-made c.args.self.now.file c.apply.new.file c.args.command (sym c.is_too_many.ensures ∙ c.if-is_too_many.false) c.in-Ok.ensures.value was.few;
       interfaces = c.in-Ok.ensures.lawful was.interfaces c.requires.in_range;
       routes = c.in-Ok.ensures.routes was.routes c.requires.in_range;
       lists = c.in-Ok.ensures.lists was.lists c.requires.in_range c.requires.fits;

@@ -1,5 +1,0 @@
-use Rattle.rc_config.proofs.LastLineLaws.{model-by-lines}
-use Rattle.rc_config.proofs.last_line.last_line_counts.Goals as goal
-
-pub returns : goal.returns
-returns c = model-by-lines
