@@ -1,10 +1,10 @@
 -- What a prepared table says of an address is what the table says.
-use Rattle.std.proofs.Common.{refl, ◌≡◌, ap, ◌∙◌, ℕ, suc, Bool, true, false, cond, List, [], ◌∷◌, map, Option, Some, None, nat_lt}
-use Rattle.std.specs.List.{filter, fold, list_any, reduce}
+use Rattle.std.proofs.Common.{refl, ◌≡◌, ap, ◌∙◌, ℕ, suc, List, [], map, Option, Some, None}
+use Rattle.std.specs.List.{list_any}
 use Rattle.std.specs.Option.{option_map, option_map_or}
-use Rattle.rc_base.specs.Prefix.{contains}
 use Rattle.rc_route.specs.declared.route.Hop.{Hop}
 use Rattle.rc_route.specs.declared.route.Route.{Route}
+use Rattle.rc_trie.proofs.ScanLaws.{longest_map}
 use Rattle.rc_fib.specs.declared.entry.Entry.{Entry}
 use Rattle.rc_fib.specs.Forwarding.{longest, resolve_all, hops_within, hops_of, resolved, resolved_within, entry_of, resolved_hops, resolved_prefix, resolves, has_interface}
 
@@ -13,31 +13,8 @@ module _ (hops : Route → List Hop) where
   abbrev entry : Route → Entry
   entry r = record { prefix = r.prefix; hops = hops r }
 
-  chosen : (b : Bool) (x y : Route) → cond b (entry y) (entry x) ≡ entry (cond b y x)
-  chosen true x y = refl
-  chosen false x y = refl
-
-  kept : (b : Bool) (x : Route) (xs : List Route) → cond b (entry x ∷ map entry xs) (map entry xs) ≡ map entry (cond b (x ∷ xs) xs)
-  kept true x xs = refl
-  kept false x xs = refl
-
-  filter-entries : (a : ℕ) (xs : List Route) → filter (λ (e : Entry). contains e.prefix a) (map entry xs) ≡ map entry (filter (λ (r : Route). contains r.prefix a) xs)
-  filter-entries a [] = refl
-  filter-entries a (x ∷ xs) =
-      ap (λ es. cond (contains x.prefix a) (entry x ∷ es) es) (filter-entries a xs) ∙ kept (contains x.prefix a) x (filter (λ (r : Route). contains r.prefix a) xs)
-
-  fold-entries : (x : Route) (xs : List Route) → fold (λ (d e : Entry). cond (nat_lt d.prefix.len e.prefix.len) e d) (entry x) (map entry xs) ≡ entry (fold (λ (q r : Route). cond (nat_lt q.prefix.len r.prefix.len) r q) x xs)
-  fold-entries x [] = refl
-  fold-entries x (y ∷ ys) =
-      ap (λ e. fold (λ (d e : Entry). cond (nat_lt d.prefix.len e.prefix.len) e d) e (map entry ys)) (chosen (nat_lt x.prefix.len y.prefix.len) x y) ∙ fold-entries (cond (nat_lt x.prefix.len y.prefix.len) y x) ys
-
-  reduce-entries : (xs : List Route) → reduce (λ (d e : Entry). cond (nat_lt d.prefix.len e.prefix.len) e d) (map entry xs) ≡ option_map entry (reduce (λ (q r : Route). cond (nat_lt q.prefix.len r.prefix.len) r q) xs)
-  reduce-entries [] = refl
-  reduce-entries (x ∷ xs) = ap Some (fold-entries x xs)
-
   entry_of-entries : (table : List Route) (a : ℕ) → entry_of (map entry table) a ≡ option_map entry (longest table a)
-  entry_of-entries table a =
-      ap (reduce (λ (d e : Entry). cond (nat_lt d.prefix.len e.prefix.len) e d)) (filter-entries a table) ∙ reduce-entries (filter (λ (r : Route). contains r.prefix a) table)
+  entry_of-entries table a = longest_map entry (λ (e : Entry). e.prefix) a table
 
   hops-entry : (o : Option Route) → option_map_or (λ (e : Entry). e.hops) (option_map entry o) [] ≡ option_map_or hops o []
   hops-entry None = refl

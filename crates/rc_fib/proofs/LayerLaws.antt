@@ -12,7 +12,7 @@ use Rattle.rc_route.specs.declared.route.Hop.TheVariants.{Null, Dev, Via}
 use Rattle.rc_route.specs.Hops.{same_hop}
 use Rattle.rc_base.specs.Lists.{first_seen}
 use Rattle.rc_fib.specs.declared.entry.Entry.{Entry}
-use Rattle.rc_fib.specs.Entries.{IsInOrder, entry_over, entries_over, is_settled}
+use Rattle.rc_fib.specs.Entries.{IsFib, entry_over, entries_over, is_settled}
 use Rattle.rc_fib.specs.Forwarding.{resolve_all, resolve_hop, resolved_hops, is_resolved, hops_within, resolved, resolved_within}
 use Rattle.rc_fib.proofs.ForwardingLaws.{resolved_hops-within}
 
@@ -124,7 +124,7 @@ prefixes_over entries [] = refl
 prefixes_over entries (r ∷ rs) = ap (λ ps. r.prefix ∷ ps) (prefixes_over entries rs)
 
 -- the entries of a table are in order
-pub in_order_over : (entries next : List Entry) (table : List Route) → IsTable table → next ≡ entries_over entries table → All (λ (e : Entry). IsCidr e.prefix) next → IsInOrder next
+pub in_order_over : (entries next : List Entry) (table : List Route) → IsTable table → next ≡ entries_over entries table → All (λ (e : Entry). IsCidr e.prefix) next → IsFib next
 in_order_over entries next table sorted is canonical = record {
   sorted = subst (IsStrictlySortedBy prefix_cmp) (sym (ap (map (λ (e : Entry). e.prefix)) is ∙ prefixes_over entries table)) sorted;
   canonical = canonical;
@@ -146,6 +146,6 @@ entries-moved next more all route left rest is front push =
 pub canonical-more : (next more : List Entry) (e : Entry) → All (λ (e : Entry). IsCidr e.prefix) next → IsCidr e.prefix → more ≡ next ++ e ∷ [] → All (λ (e : Entry). IsCidr e.prefix) more
 canonical-more next more e all is push = subst (All (λ (e : Entry). IsCidr e.prefix)) (sym push) (All-push (λ (e : Entry). IsCidr e.prefix) next e all is)
 
-pub none_in_order : IsInOrder []
+pub none_in_order : IsFib []
 unfolding IsStrictlySortedBy
 none_in_order = record { sorted = tt; canonical = search rules }

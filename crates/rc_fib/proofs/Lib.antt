@@ -2,5 +2,3 @@ pub mod ForwardingLaws
 pub mod EndLaws
 pub mod HopLaws
 pub mod LayerLaws
-mod BisectLaws
-mod LongestLaws

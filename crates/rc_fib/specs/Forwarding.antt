@@ -1,9 +1,10 @@
 -- The hops of an address in a route table: the longest prefix that holds it (RFC 1812 s.5.2.4.3), and gateways resolved through the table.
-use Rattle.std.specs.Prelude.{ℕ, zero, suc, Bool, true, false, List, [], ◌∷◌, map, Option, Some, None, nat_lt, if◌then◌else◌, filter}
-use Rattle.std.specs.List.{flat_map, list_any, reduce}
+use Rattle.std.specs.Prelude.{ℕ, zero, suc, Bool, true, false, List, [], ◌∷◌, map, Option, Some, None}
+use Rattle.std.specs.List.{flat_map, list_any}
 use Rattle.std.specs.Option.{option_map, option_map_or}
 use Rattle.rc_base.specs.Lists.{first_seen}
-use Rattle.rc_base.specs.Prefix.{Cidr, contains}
+use Rattle.rc_base.specs.Prefix.{Cidr}
+use Rattle.rc_trie.specs.Tree.{longest_by}
 use Rattle.rc_route.specs.Hops.{same_hop}
 use Rattle.rc_route.specs.declared.route.Hop.{Hop}
 use Rattle.rc_route.specs.declared.route.Hop.TheVariants.{Null, Dev, Via}
@@ -11,11 +12,6 @@ use Rattle.rc_route.specs.declared.route.Route.{Route}
 use Rattle.rc_fib.specs.declared.entry.Entry.{Entry}
 
 -- ---- the longest prefix
-
--- of the things whose prefix holds the address the one with the longest prefix
-abbrev pub longest_by : {A : Type 0} → (A → Cidr) → List A → ℕ → Option A
-longest_by prefix xs a =
-    reduce (λ x y. if nat_lt (prefix x).len (prefix y).len then y else x) (filter (λ x. contains (prefix x) a) xs)
 
 -- the route of an address: of those whose prefix holds it the one with the longest (RFC 1812 s.5.2.4.3)
 abbrev pub longest : List Route → ℕ → Option Route

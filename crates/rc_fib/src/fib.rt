@@ -1,10 +1,11 @@
 //! Tables prepared for look-ups.
 use crate::Entry;
 use crate::layers::{resolve_table, resolve_taken};
-use crate::longest::{hops_of, longest};
+use crate::longest::hops_of;
 use crate::resolve::some_interface;
 use rc_base::{Addr, Items, Prefix};
 use rc_route::{Hop, Table};
+use rc_trie::longest_in;
 use std::alloc::{AllocError, Global};
 use std::marker::Model;
 
@@ -24,27 +25,27 @@ impl Drop for Fib {
 impl Model for Fib {
     ghost use Rattle.std.specs.Prelude.{List};
     ghost use Rattle.rc_fib.specs.declared.entry.Entry.{Entry};
-    ghost use Rattle.rc_fib.specs.Entries.{IsInOrder};
+    ghost use Rattle.rc_fib.specs.Entries.{IsFib};
 
     ghost Value = { List Entry };
 
     ghost view = { λ f. f.entries };
 
-    ghost invariant = { λ f. IsInOrder f.entries };
+    ghost invariant = { λ f. IsFib f.entries };
 }
 
 ghost use Rattle.std.specs.Prelude.{◌≡◌, ◌≤◌, IfOk, MatchOption, Some, length, slice_get};
 
 impl Fib {
     ghost use Rattle.rc_route.specs.Tables.{IsTable};
-    ghost use Rattle.rc_fib.specs.Entries.{IsInOrder};
+    ghost use Rattle.rc_fib.specs.Entries.{IsFib};
     ghost use Rattle.rc_fib.specs.Forwarding as spec;
 
     /// Prepares a table (RFC 1812 s.5.2.4.3). It errs only where memory runs out.
     pub fn of(alloc: Global, table: &Table) -> Result<Fib, AllocError>
         requires { IsTable table.now }
         ensures value { IfOk result (λ f. f ≡ spec.resolved table.now) }
-        ensures in_order { IfOk result IsInOrder }
+        ensures in_order { IfOk result IsFib }
     {
         let entries = resolve_table(alloc, table.as_slice())?;
         Ok(Fib { entries })
@@ -55,7 +56,7 @@ impl Fib {
     pub fn from_table(alloc: Global, table: Table) -> Result<Fib, AllocError>
         requires { IsTable table }
         ensures value { IfOk result (λ f. f ≡ spec.resolved table) }
-        ensures in_order { IfOk result IsInOrder }
+        ensures in_order { IfOk result IsFib }
     {
         let entries = resolve_taken(alloc, table)?;
         Ok(Fib { entries })
@@ -64,7 +65,7 @@ impl Fib {
     /// Its entries: one for each route, by address, then length.
     pub fn entries(&self) -> &[Entry]
         ensures value { result.now ≡ self.now }
-        ensures in_order { IsInOrder self.now }
+        ensures in_order { IsFib self.now }
     {
         self.entries.as_slice()
     }
@@ -91,7 +92,7 @@ impl Fib {
     pub fn longest(&self, addr: Addr) -> Option<Prefix>
         ensures { result ≡ spec.resolved_prefix self.now addr }
     {
-        let found = longest(self.entries.as_slice(), addr);
+        let found = longest_in(self.entries.as_slice(), addr);
         match found {
             Some(entry) => Some(entry.prefix),
             None => None,

@@ -4,7 +4,7 @@ ghost use Rattle.std.specs.List.{list_all};
 ghost use Rattle.rc_base.specs.Prefix.{IsCidr};
 ghost use Rattle.rc_route.specs.Tables.{IsTable};
 ghost use Rattle.rc_fib.specs.Entries as layer;
-ghost use Rattle.rc_fib.specs.Entries.{IsInOrder};
+ghost use Rattle.rc_fib.specs.Entries.{IsFib};
 ghost use Rattle.rc_fib.specs.Forwarding.{resolved, is_resolved};
 
 use crate::Entry;
@@ -24,7 +24,7 @@ fn push_over(
     entries: &[Entry],
     route: &Route,
 ) -> Result<(), AllocError>
-    requires { IsInOrder entries.now }
+    requires { IsFib entries.now }
     ensures value { OnOk result (next.new ≡ next.old ++ layer.entry_over entries.now route.now ∷ []) }
     ensures canonical { IsCidr route.now.prefix }
 {
@@ -44,9 +44,9 @@ fn entries_over(
     table: &[Route],
 ) -> Result<Items<Entry>, AllocError>
     requires table { IsTable table.now }
-    requires entries { IsInOrder entries.now }
+    requires entries { IsFib entries.now }
     ensures value { IfOk result (λ next. next ≡ layer.entries_over entries.now table.now) }
-    ensures in_order { IfOk result IsInOrder }
+    ensures in_order { IfOk result IsFib }
 {
     let mut next = Items::from_vec(Vec::with_capacity(alloc, table.len())?);
     for route in table {
@@ -71,7 +71,7 @@ fn push_taken(made: &mut Items<Entry>, alloc: Global, route: Route) -> Result<()
 fn entries_of(alloc: Global, table: Table) -> Result<Items<Entry>, AllocError>
     requires { IsTable table }
     ensures value { IfOk result (λ made. made ≡ layer.entries_over [] table) }
-    ensures in_order { IfOk result IsInOrder }
+    ensures in_order { IfOk result IsFib }
 {
     let mut made = Items::from_vec(Vec::with_capacity(alloc, table.len())?);
     let mut left = VecDeque::from(table.into_vec());
@@ -109,7 +109,7 @@ fn is_plain_table(table: &[Route]) -> bool
 pub(crate) fn resolve_table(alloc: Global, table: &[Route]) -> Result<Items<Entry>, AllocError>
     requires { IsTable table.now }
     ensures value { IfOk result (λ entries. entries ≡ resolved table.now) }
-    ensures in_order { IfOk result IsInOrder }
+    ensures in_order { IfOk result IsFib }
 {
     if is_plain_table(table) {
         return entries_over(alloc, &[], table);
@@ -129,7 +129,7 @@ pub(crate) fn resolve_table(alloc: Global, table: &[Route]) -> Result<Items<Entr
 pub(crate) fn resolve_taken(alloc: Global, table: Table) -> Result<Items<Entry>, AllocError>
     requires { IsTable table }
     ensures value { IfOk result (λ entries. entries ≡ resolved table) }
-    ensures in_order { IfOk result IsInOrder }
+    ensures in_order { IfOk result IsFib }
 {
     if is_plain_table(table.as_slice()) {
         return entries_of(alloc, table);

@@ -4,7 +4,7 @@ ghost use Rattle.std.specs.List.{fold, list_any};
 ghost use Rattle.indexmap.specs.IndexSet.{insert_key};
 ghost use Rattle.rc_route.specs.Hops.{same_hop};
 ghost use Rattle.rc_fib.specs.Entries as layer;
-ghost use Rattle.rc_fib.specs.Entries.{IsInOrder};
+ghost use Rattle.rc_fib.specs.Entries.{IsFib};
 ghost use Rattle.rc_fib.specs.Forwarding as spec;
 
 use crate::Entry;
@@ -57,7 +57,7 @@ fn insert_resolved(
     entries: &[Entry],
     hop: &Hop,
 ) -> Result<(), AllocError>
-    requires { IsInOrder entries.now }
+    requires { IsFib entries.now }
     ensures { OnOk result (set.new ≡ fold (insert_key same_hop) set.old (spec.resolve_hop (spec.resolved_hops entries.now) hop.now)) }
 {
     let gateway = gateway_of(hop);
@@ -69,7 +69,7 @@ fn insert_resolved(
 
 /// What hops resolve to, in order, without repeats after the first.
 fn resolve(alloc: Global, entries: &[Entry], hops: &[Hop]) -> Result<Hops, AllocError>
-    requires { IsInOrder entries.now }
+    requires { IsFib entries.now }
     ensures { IfOk result (λ found. found ≡ spec.resolve_all (spec.resolved_hops entries.now) hops.now) }
 {
     let mut set = HopSet::new();
@@ -99,7 +99,7 @@ pub(crate) fn resolve_hops(
     entries: &[Entry],
     hops: &Hops,
 ) -> Result<Hops, AllocError>
-    requires { IsInOrder entries.now }
+    requires { IsFib entries.now }
     ensures { IfOk result (λ found. found ≡ spec.resolve_all (spec.resolved_hops entries.now) hops.now) }
 {
     if is_settled(hops.as_slice()) {

@@ -1,5 +1,5 @@
 use Rattle.std.proofs.Common.{◌≡◌, ◌-◌}
-use Rattle.rc_fib.specs.Entries.{IsInOrder}
+use Rattle.rc_fib.specs.Entries.{IsFib}
 use Rattle.rc_fib.specs.Forwarding.{resolved}
 use Rattle.rc_fib.proofs.LayerLaws.{more_layers}
 use Rattle.rc_fib.proofs.layers.resolve_table.Given as goal
@@ -8,5 +8,5 @@ use Rattle.rc_fib.proofs.layers.resolve_table.Given as goal
 abbrev pub invariant-loop-depth : goal.invariant-loop-depth
 invariant-loop-depth l = record {
   left : more_layers l.table (16 - l._depth) l.entries ≡ resolved l.table;
-  in_order : IsInOrder l.entries;
+  in_order : IsFib l.entries;
 }

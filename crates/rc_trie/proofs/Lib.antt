@@ -1,0 +1,5 @@
+mod OrderLaws
+pub mod ScanLaws
+mod SearchLaws
+mod PlaceLaws
+mod InsertLaws
