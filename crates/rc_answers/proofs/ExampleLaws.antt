@@ -2,8 +2,8 @@
 use Rattle.std.proofs.Common.{refl, ◌≡◌, ap, sym, ◌∙◌, subst, ℕ, zero, suc, ◌+◌, ◌≤◌, List, [], ◌∷◌, ◌++◌, take, length, arith}
 use Rattle.rc_cubes.specs.declared.cube.Cube.{Cube}
 use Rattle.rc_reach.specs.declared.asked.Asked.{Asked}
-use Rattle.rc_walk.specs.Moves.{DataPlane}
-use Rattle.rc_walk.specs.declared.walk.Walk.{Walk}
+use Rattle.rc_moves.specs.Moves.{DataPlane}
+use Rattle.rc_moves.specs.declared.walk.Walk.{Walk}
 use Rattle.rc_answers.specs.Written.{AreExamples, AreWalksOf}
 
 -- the cubes are those that have their walks, then those that are left; so many have them

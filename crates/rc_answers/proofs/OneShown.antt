@@ -18,8 +18,8 @@ use Rattle.rc_reach.specs.declared.asked.Asked.TheVariants.{Reaching, Looping, U
 use Rattle.rc_walk.proofs.FoundLaws.{one_shortest_loop}
 use Rattle.rc_walk.proofs.ShortestLaws.{one_shortest_walk}
 use Rattle.rc_walk.proofs.WalkLaws.{one_first_walk}
-use Rattle.rc_walk.specs.Moves.{DataPlane, plane_of}
-use Rattle.rc_walk.specs.declared.walk.Walk.{Walk}
+use Rattle.rc_moves.specs.Moves.{DataPlane, plane_of}
+use Rattle.rc_moves.specs.declared.walk.Walk.{Walk}
 use Rattle.rc_route.specs.Outcomes.{end_of}
 use Rattle.rc_report.specs.StateText.{route_count}
 use Rattle.rc_answers.specs.Written.{AreExamples, AreExamplesOf, AreShortest, AreShortestBack, AreWalksOf, IsDetail, IsGivenBy, IsShown, IsShownAtFixed}

@@ -19,8 +19,8 @@ use Rattle.rc_route.specs.declared.outcome.Outcome.{Outcome}
 use Rattle.rc_route.specs.declared.outcome.Outcome.TheVariants as outcome
 use Rattle.rc_route.specs.declared.outcome.RoundsEnd.{RoundsEnd}
 use Rattle.rc_trees.specs.Trees.{Tree}
-use Rattle.rc_walk.specs.Moves.{DataPlane, plane_of}
-use Rattle.rc_walk.specs.declared.walk.Walk.{Walk}
+use Rattle.rc_moves.specs.Moves.{DataPlane, plane_of}
+use Rattle.rc_moves.specs.declared.walk.Walk.{Walk}
 use Rattle.rc_words.specs.declared.request.Request.{Request}
 use Rattle.rc_idle.specs.Told.{AreIdleIn, AreTooFewForLists}
 use Rattle.rc_writing.specs.Places.{place_text}

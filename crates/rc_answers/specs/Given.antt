@@ -7,7 +7,7 @@ use Rattle.rc_report.specs.declared.idle.RouterIdle.{RouterIdle}
 use Rattle.rc_route.specs.declared.outcome.RoundsEnd.{RoundsEnd}
 use Rattle.rc_route.specs.declared.state.RouterState.{RouterState}
 use Rattle.rc_trees.specs.Trees.{Tree}
-use Rattle.rc_walk.specs.declared.walk.Walk.{Walk}
+use Rattle.rc_moves.specs.declared.walk.Walk.{Walk}
 
 -- what is shown after the outcome of the rounds
 pub data Shown : Type 0 where

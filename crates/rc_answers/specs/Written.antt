@@ -24,10 +24,10 @@ use Rattle.rc_route.specs.declared.outcome.Outcome.TheVariants as outcome
 use Rattle.rc_route.specs.declared.outcome.RoundsEnd.{RoundsEnd}
 use Rattle.rc_trees.specs.Trees.{Tree}
 use Rattle.rc_walk.specs.Loops.{IsShortestLoop, NoLoop}
-use Rattle.rc_walk.specs.Moves.{DataPlane, plane_of}
+use Rattle.rc_moves.specs.Moves.{DataPlane, plane_of}
 use Rattle.rc_walk.specs.ShortestWalks.{IsShortestWalk, NoWalkEnds}
-use Rattle.rc_walk.specs.Walks.{IsFirstWalk}
-use Rattle.rc_walk.specs.declared.walk.Walk.{Walk}
+use Rattle.rc_walk.specs.FirstWalks.{IsFirstWalk}
+use Rattle.rc_moves.specs.declared.walk.Walk.{Walk}
 use Rattle.rc_words.specs.declared.request.Request.{Request}
 use Rattle.rc_writing.specs.Written.{IsWritten, status_after}
 use Rattle.rc_writing.specs.declared.status.Status.{Status}

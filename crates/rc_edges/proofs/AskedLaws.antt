@@ -9,8 +9,8 @@ use Rattle.rc_base.specs.declared.ending.Ends.{Ends}
 use Rattle.rc_base.specs.declared.ending.Kind.{Kind}
 use Rattle.rc_base.specs.declared.position.Pos.{Pos}
 use Rattle.rc_jobs.proofs.FlowLaws.{ending_among, ending_apart, flow-more}
-use Rattle.rc_edges.proofs.JoinLaws.{taken}
-use Rattle.rc_edges.specs.Endings.{end}
+use Rattle.rc_router_sets.proofs.JoinLaws.{taken}
+use Rattle.rc_router_sets.specs.Endings.{end}
 use Rattle.rc_edges.specs.Prepare.{end_trees, stops_at}
 use Rattle.rc_edges.specs.Stops.{AreKnown, sets_of}
 use Rattle.rc_edges.specs.declared.asked_endings.Stop.{Stop}
@@ -20,7 +20,7 @@ use Rattle.rc_nodes.specs.Seats.{SeatView, Keeps, SeatKnows}
 use Rattle.rc_nodes.specs.declared.words.Ref.{Ref}
 use Rattle.rc_trees.specs.Recipes.{tree}
 use Rattle.rc_trees.specs.Trees.{Tree}
-use Rattle.rc_walk.specs.Moves.{DataPlane}
+use Rattle.rc_moves.specs.Moves.{DataPlane}
 use Rattle.rc_jobs.specs.Collecting.{with_ending}
 
 found : {A : Type 0} (xs : List A) (k : ℕ) (x d : A) → slice_get xs k ≡ Some x → get_or xs k d ≡ x

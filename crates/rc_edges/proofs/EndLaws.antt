@@ -1,26 +1,24 @@
 -- What one hop gives to an ending, and the join over all of them.
 use Rattle.std.proofs.Common.{refl, ◌≡◌, ap, sym, ◌∙◌, subst, ℕ, zero, suc, ◌+◌, List, [], ◌∷◌, ◌++◌, append-nil, append_assoc, take, drop, Option, Some, None, inl, inr, ◌⊎◌}
 use Rattle.std.specs.List.{flat_map, slice_get}
-use Rattle.std.specs.Prelude.{unwrap_or}
 use Rattle.rc_base.proofs.KeepLaws.{In}
 use Rattle.rc_base.specs.declared.ending.Kind.{Kind}
 use Rattle.rc_base.specs.declared.ending.Kind.TheVariants.{NoRoute, NullRouted, DeniedOut, Unreachable, Exits, Delivered}
 use Rattle.rc_base.specs.declared.position.Pos.{Pos}
-use Rattle.rc_edges.proofs.JoinLaws.{front, may_like, one_more, piece}
-use Rattle.rc_edges.proofs.QueryLaws.{hop-set}
+use Rattle.rc_router_sets.proofs.JoinLaws.{front, may_like, one_more, piece}
+use Rattle.rc_router_sets.proofs.QueryLaws.{hop-set}
 use Rattle.rc_edges.proofs.TargetLaws.{at_index, flat-append, to_index}
-use Rattle.rc_edges.specs.Edges.{union}
-use Rattle.rc_edges.specs.Endings.{end}
-use Rattle.rc_edges.specs.Ends.{ends_over}
-use Rattle.rc_edges.specs.Sent.{forwarded, hops_at, sent}
-use Rattle.rc_fib.specs.declared.entry.Entry.{Entry}
+use Rattle.rc_router_sets.specs.Edges.{union}
+use Rattle.rc_router_sets.specs.Endings.{end}
+use Rattle.rc_router_sets.specs.Ends.{ends_over}
+use Rattle.rc_router_sets.specs.Sent.{forwarded, hops_at, sent}
 use Rattle.rc_route.specs.declared.route.Hop.{Hop}
 use Rattle.rc_route.specs.declared.route.Hop.TheVariants.{Null}
 use Rattle.rc_sets.specs.Regions.{hop_set}
 use Rattle.rc_trees.proofs.PartLaws.{minus-first}
 use Rattle.rc_trees.specs.Recipes.{Recipe, Uses, given, minus, or, parts, tree, without}
 use Rattle.rc_trees.specs.Trees.{Tree, never, HasNodes}
-use Rattle.rc_walk.specs.Moves.{DataPlane, fib_of, router_of}
+use Rattle.rc_moves.specs.Moves.{DataPlane, fib_of, router_of}
 
 -- ---- an item at an index
 
@@ -78,11 +76,6 @@ module _ {A : Type 0} (set : A → Recipe) where
 
   pub without-uses : (r : Recipe) (xs : List A) → Uses (without set r xs) r
   without-uses = without-first
-
--- where there is no table no header goes over a hop
-pub no_table : (plane : DataPlane) (r : ℕ) (x : Hop) → slice_get plane.fibs r ≡ None → never ≡ tree (hop_set (fib_of plane r) x)
-unfolding hop_set
-no_table plane r x none = ap (λ (o : Option (List Entry)). tree (hop_set (unwrap_or o []) x)) (sym none)
 
 -- ---- taking them away up to an index
 

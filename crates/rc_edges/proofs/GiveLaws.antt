@@ -6,12 +6,12 @@ use Rattle.rc_base.specs.declared.addr.Addr.{Addr}
 use Rattle.rc_base.specs.declared.position.IfId.{IfId}
 use Rattle.rc_base.specs.declared.position.Pos.{Pos}
 use Rattle.rc_bdd.specs.declared.work.SetError.{SetError}
-use Rattle.rc_edges.proofs.JoinLaws.{front, piece}
+use Rattle.rc_router_sets.proofs.JoinLaws.{front, piece}
 use Rattle.rc_edges.proofs.RowLaws.{row_kept}
-use Rattle.rc_edges.specs.Edges.{onto_link, takes, towards, union}
+use Rattle.rc_router_sets.specs.Edges.{onto_link, takes, towards, union}
 use Rattle.rc_edges.specs.Given.{Gives, IsRow, MayGet, MayGive, joined, leads_onto, with_sets}
-use Rattle.rc_edges.specs.Sent.{leaving}
-use Rattle.rc_edges.specs.Steps.{device}
+use Rattle.rc_router_sets.specs.Sent.{leaving}
+use Rattle.rc_router_sets.specs.Steps.{device}
 use Rattle.rc_edges.specs.declared.outgoing.Row.{Row}
 use Rattle.rc_nodes.specs.Seats.{TableView, SeatView, Keeps, SeatKnows}
 use Rattle.rc_route.specs.declared.route.Hop.{Hop}
@@ -21,7 +21,7 @@ use Rattle.rc_topology.specs.Ports.{is_loopback}
 use Rattle.rc_trees.proofs.PartLaws.{fold-each}
 use Rattle.rc_trees.specs.Recipes.{Recipe, given, parts, tree}
 use Rattle.rc_trees.specs.Trees.{never, HasNodes}
-use Rattle.rc_walk.specs.Moves.{DataPlane}
+use Rattle.rc_moves.specs.Moves.{DataPlane}
 
 -- ---- what may be given
 

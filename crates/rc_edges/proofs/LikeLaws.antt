@@ -15,10 +15,10 @@ use Rattle.rc_config.specs.Members.{interface_at}
 use Rattle.rc_config.specs.declared.interface.Direction.TheVariants.{In}
 use Rattle.rc_config.specs.declared.interface.Interface.{Interface}
 use Rattle.rc_config.specs.declared.network.Network.{Network}
-use Rattle.rc_edges.specs.Edges.{edge, onto_link, takes, towards, union}
-use Rattle.rc_edges.specs.Endings.{delivered, denied_out, end, exits, is_none, unreachable}
+use Rattle.rc_router_sets.specs.Edges.{edge, onto_link, takes, towards, union}
+use Rattle.rc_router_sets.specs.Endings.{delivered, denied_out, end, exits, is_none, unreachable}
 use Rattle.rc_edges.specs.Likes.{IsLike, group_in, is_like, same_group}
-use Rattle.rc_edges.specs.Sent.{forwarded, hops_at, leaving, let_in, let_out, passing_at, sent, taken, to_interface, to_router, to_subnets, untaken}
+use Rattle.rc_router_sets.specs.Sent.{forwarded, hops_at, leaving, let_in, let_out, passing_at, sent, taken, to_interface, to_router, to_subnets, untaken}
 use Rattle.rc_filter.specs.Groups.{access_lists_of}
 use Rattle.rc_route.specs.declared.route.Hop.{Hop}
 use Rattle.rc_route.specs.declared.route.Hop.TheVariants.{Null, Dev, Via}
@@ -28,7 +28,7 @@ use Rattle.rc_topology.specs.Links.{are_linked, linked, port_is, takers}
 use Rattle.rc_topology.specs.Ports.{is_loopback, is_serial}
 use Rattle.rc_trees.specs.Recipes.{given, and, minus, without}
 use Rattle.rc_trees.specs.Trees.{always}
-use Rattle.rc_walk.specs.Moves.{DataPlane, fib_of}
+use Rattle.rc_moves.specs.Moves.{DataPlane, fib_of}
 
 module _ (plane : DataPlane) (q t : Pos) (like : IsLike plane.network q t) where
   pub forwarded_like : forwarded plane q ≡ forwarded plane t

@@ -11,25 +11,25 @@ use Rattle.rc_config.specs.declared.network.Network.{Network}
 use Rattle.rc_edges.proofs.AskedLaws.{asked_there, known-kept, stops_put}
 use Rattle.rc_jobs.proofs.FlowLaws.{numbers-more}
 use Rattle.rc_edges.proofs.LikeLaws.{edge_like, end_like, forwarded_like, hops_like}
-use Rattle.rc_edges.proofs.MadeLaws.{made_kept}
+use Rattle.rc_router_sets.proofs.MadeLaws.{made_kept}
 use Rattle.rc_edges.proofs.RowLaws.{flushed_rows, row_kept, row_like}
 use Rattle.rc_jobs.proofs.CollectLaws.{flat-append}
-use Rattle.rc_edges.specs.Edges.{edge}
+use Rattle.rc_router_sets.specs.Edges.{edge}
 use Rattle.rc_edges.specs.Given.{AreFlushed, IsRow}
-use Rattle.rc_edges.specs.HopParts.{no_parts, part_in, parts_of}
+use Rattle.rc_router_sets.specs.HopParts.{no_parts, part_in, parts_of}
 use Rattle.rc_edges.specs.Likes.{IsLike}
-use Rattle.rc_edges.specs.Made.{IsKnownIfMade, IsMade}
+use Rattle.rc_router_sets.specs.Made.{IsKnownIfMade, IsMade}
 use Rattle.rc_edges.specs.Prepare.{edge_at, end_trees, stops_at}
-use Rattle.rc_edges.specs.Query.{kinds_of}
+use Rattle.rc_router_sets.specs.Query.{kinds_of}
 use Rattle.rc_edges.specs.Sendings.{IsSending}
-use Rattle.rc_edges.specs.Sent.{forwarded, hops_at, to_router}
+use Rattle.rc_router_sets.specs.Sent.{forwarded, hops_at, to_router}
 use Rattle.rc_edges.specs.Shares.{IsShare}
-use Rattle.rc_edges.specs.Steps.{fixed}
+use Rattle.rc_router_sets.specs.Steps.{fixed}
 use Rattle.rc_edges.specs.Stops.{AreKnown, sets_of}
 use Rattle.rc_edges.specs.declared.asked_endings.Stop.{Stop}
-use Rattle.rc_edges.specs.declared.hop_steps.Part.{Part}
-use Rattle.rc_edges.specs.declared.hop_steps.Part.TheVariants.{Over, LetOut, Taken, Subnets}
-use Rattle.rc_edges.specs.declared.router_sets.RouterSets.{RouterSets}
+use Rattle.rc_router_sets.specs.declared.hop_steps.Part.{Part}
+use Rattle.rc_router_sets.specs.declared.hop_steps.Part.TheVariants.{Over, LetOut, Taken, Subnets}
+use Rattle.rc_router_sets.specs.declared.router_sets.RouterSets.{RouterSets}
 use Rattle.rc_edges.specs.declared.position_sets.Sending.{Sending}
 use Rattle.rc_jobs.specs.declared.collected.Collected.{Collected}
 use Rattle.rc_bdd.specs.declared.work.SetError.{SetError}
@@ -41,7 +41,7 @@ use Rattle.rc_sets.specs.Regions.{hops_in}
 use Rattle.rc_sets.specs.Stretches.{AreStretches}
 use Rattle.rc_trees.specs.Recipes.{tree}
 use Rattle.rc_trees.specs.Trees.{Tree}
-use Rattle.rc_walk.specs.Moves.{DataPlane, fib_of, router_of}
+use Rattle.rc_moves.specs.Moves.{DataPlane, fib_of, router_of}
 use Rattle.rc_jobs.specs.Collecting.{numbers, with_ending}
 
 -- whatever follows where a step is done

@@ -7,17 +7,17 @@ use Rattle.rc_base.specs.declared.ending.Kind.{Kind}
 use Rattle.rc_base.specs.declared.position.Pos.{Pos}
 use Rattle.rc_base.specs.declared.position.Pos.TheVariants.{Own}
 use Rattle.rc_config.specs.Members.{positions}
-use Rattle.rc_edges.specs.Edges.{edge}
-use Rattle.rc_edges.specs.Endings.{end}
+use Rattle.rc_router_sets.specs.Edges.{edge}
+use Rattle.rc_router_sets.specs.Endings.{end}
 use Rattle.rc_edges.specs.Prepare.{MayPrepare}
 use Rattle.rc_base.specs.Endings.{all_kinds}
-use Rattle.rc_edges.specs.Query.{kinds_of, query_nodes}
-use Rattle.rc_edges.proofs.QueryLaws.{may_be_made, result-edge, result-end}
-use Rattle.rc_edges.proofs.ResultLaws.{every_kind}
+use Rattle.rc_router_sets.specs.Query.{kinds_of, query_nodes}
+use Rattle.rc_router_sets.proofs.QueryLaws.{may_be_made, result-edge, result-end}
+use Rattle.rc_router_sets.proofs.ResultLaws.{every_kind}
 use Rattle.rc_places.specs.Places.{position_at}
 use Rattle.rc_sets.proofs.LongestLaws.{filter-in}
 use Rattle.rc_trees.specs.Trees.{Tree, HasNodes}
-use Rattle.rc_walk.specs.Moves.{DataPlane}
+use Rattle.rc_moves.specs.Moves.{DataPlane}
 
 pub in-place : {A : Type 0} (xs : List A) (k : ℕ) (d : A) → k < length xs → In (get_or xs k d) xs
 in-place [] k d less = absurd (omega arith)

@@ -6,9 +6,9 @@ use Rattle.std.proofs.lemmas.Bool.{cases_eq, eq-eqb, ne_eqb}
 use Rattle.std.proofs.lemmas.List.{length-replicate}
 use Rattle.std.proofs.lemmas.List.Elements.{All-nil, All-push}
 use Rattle.rc_jobs.proofs.FlowLaws.{edges-more, flow-more}
-use Rattle.rc_edges.proofs.JoinLaws.{may_like, may_or, one_more, take-whole, taken_at}
-use Rattle.rc_edges.proofs.MadeLaws.{get-set}
-use Rattle.rc_edges.specs.Edges.{union}
+use Rattle.rc_router_sets.proofs.JoinLaws.{may_like, may_or, one_more, take-whole, taken_at}
+use Rattle.rc_router_sets.proofs.MadeLaws.{get-set}
+use Rattle.rc_router_sets.specs.Edges.{union}
 use Rattle.rc_edges.specs.Given.{AreFlushed, Gives, IsRow, MayGive, flows_with, joined, nothing, or_none, set_at, those, touch_of, touched_with, with_sets}
 use Rattle.rc_edges.specs.declared.outgoing.Row.{Row}
 use Rattle.rc_jobs.specs.Flows.{KnowsFlows, edges_to, real}

@@ -13,13 +13,13 @@ use Rattle.rc_config.specs.Lawful.{IsPosition}
 use Rattle.rc_config.specs.Members.{interfaces_of, positions}
 use Rattle.rc_config.specs.declared.network.Network.{Network}
 use Rattle.rc_config.specs.declared.router_text.RouterText.{RouterText}
-use Rattle.rc_edges.proofs.JoinLaws.{front, piece, taken}
-use Rattle.rc_edges.proofs.MemberLaws.{member-linked, member-takers, passes_there, same_interface-Decides, some_ports, within_list}
-use Rattle.rc_edges.proofs.PlaneLaws.{ports}
+use Rattle.rc_router_sets.proofs.JoinLaws.{front, piece, taken}
+use Rattle.rc_router_sets.proofs.MemberLaws.{member-linked, member-takers, passes_there, same_interface-Decides, some_ports, within_list}
+use Rattle.rc_router_sets.proofs.PlaneLaws.{ports}
 use Rattle.rc_edges.proofs.PrepareLaws.{in-place}
-use Rattle.rc_edges.specs.Edges.{edge, onto_link, takes, towards, union}
+use Rattle.rc_router_sets.specs.Edges.{edge, onto_link, takes, towards, union}
 use Rattle.rc_edges.specs.Given.{given_by, given_onto, hop_targets, is_entry, leads_onto, sets_to, with_sets}
-use Rattle.rc_edges.specs.Sent.{hops_at, leaving}
+use Rattle.rc_router_sets.specs.Sent.{hops_at, leaving}
 use Rattle.rc_places.proofs.PlaceLaws.{number_at, number_there}
 use Rattle.rc_places.specs.Places.{number_of, position_at}
 use Rattle.rc_route.specs.declared.route.Hop.{Hop}
@@ -34,7 +34,7 @@ use Rattle.rc_topology.specs.Topology.{Topology}
 use Rattle.rc_topology.specs.declared.port.Port.{Port}
 use Rattle.rc_trees.specs.Recipes.{Recipe, given, parts, tree}
 use Rattle.rc_trees.specs.Trees.{Tree, never, HasNodes}
-use Rattle.rc_walk.specs.Moves.{DataPlane}
+use Rattle.rc_moves.specs.Moves.{DataPlane}
 
 -- ---- targets are positions
 

@@ -5,7 +5,7 @@ use Rattle.rc_base.specs.Positions.{same_interface}
 use Rattle.rc_base.specs.declared.position.IfId.{IfId}
 use Rattle.rc_base.specs.declared.position.Pos.{Pos}
 use Rattle.rc_base.specs.declared.position.Pos.TheVariants.{Own, Entering}
-use Rattle.rc_edges.specs.Edges.{takes, towards, union}
+use Rattle.rc_router_sets.specs.Edges.{takes, towards, union}
 use Rattle.rc_edges.specs.declared.outgoing.Row.{Row}
 use Rattle.rc_jobs.specs.Collecting.{with_flow}
 use Rattle.rc_jobs.specs.Flows.{no_header}
@@ -20,7 +20,7 @@ use Rattle.rc_topology.specs.Ports.{is_loopback}
 use Rattle.rc_topology.specs.Topology.{Topology}
 use Rattle.rc_trees.specs.Recipes.{Recipe, parts, tree}
 use Rattle.rc_trees.specs.Trees.{Tree, HasNodes}
-use Rattle.rc_walk.specs.Moves.{DataPlane}
+use Rattle.rc_moves.specs.Moves.{DataPlane}
 
 -- ---- what one position sends
 

@@ -9,8 +9,8 @@ use Rattle.rc_config.specs.Interface.{group_of}
 use Rattle.rc_config.specs.Members.{interface_at}
 use Rattle.rc_config.specs.declared.interface.Direction.TheVariants.{In}
 use Rattle.rc_config.specs.declared.network.Network.{Network}
-use Rattle.rc_edges.specs.Sent.{let_in, let_out}
-use Rattle.rc_walk.specs.Moves.{router_of}
+use Rattle.rc_router_sets.specs.Sent.{let_in, let_out}
+use Rattle.rc_moves.specs.Moves.{router_of}
 
 pub record IsLike (net : Network) (q t : Pos) : Type 0 where
   pub router : router_of q ≡ router_of t

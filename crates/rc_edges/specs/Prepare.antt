@@ -5,13 +5,13 @@ use Rattle.rc_base.specs.declared.ending.Ends.{Ends}
 use Rattle.rc_base.specs.declared.ending.Kind.{Kind}
 use Rattle.rc_base.specs.declared.position.Pos.{Pos}
 use Rattle.rc_config.specs.Members.{positions}
-use Rattle.rc_edges.specs.Edges.{edge}
-use Rattle.rc_edges.specs.Endings.{end}
-use Rattle.rc_edges.specs.Query.{kinds_of}
+use Rattle.rc_router_sets.specs.Edges.{edge}
+use Rattle.rc_router_sets.specs.Endings.{end}
+use Rattle.rc_router_sets.specs.Query.{kinds_of}
 use Rattle.rc_places.specs.Places.{position_at}
 use Rattle.rc_trees.specs.Recipes.{parts, tree}
 use Rattle.rc_trees.specs.Trees.{Tree, HasNodes}
-use Rattle.rc_walk.specs.Moves.{DataPlane}
+use Rattle.rc_moves.specs.Moves.{DataPlane}
 
 -- the tree of the edge from one place to another
 abbrev pub edge_at : DataPlane → ℕ → ℕ → Tree

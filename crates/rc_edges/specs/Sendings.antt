@@ -4,17 +4,17 @@ use Rattle.rc_base.specs.declared.ending.Ends.{Ends}
 use Rattle.rc_base.specs.declared.ending.Kind.{Kind}
 use Rattle.rc_base.specs.declared.position.Pos.{Pos}
 use Rattle.rc_config.specs.Members.{positions}
-use Rattle.rc_edges.specs.Edges.{edge}
+use Rattle.rc_router_sets.specs.Edges.{edge}
 use Rattle.rc_edges.specs.Given.{IsRow}
-use Rattle.rc_edges.specs.Made.{IsMade}
+use Rattle.rc_router_sets.specs.Made.{IsMade}
 use Rattle.rc_edges.specs.Prepare.{end_trees}
-use Rattle.rc_edges.specs.Query.{kinds_of}
+use Rattle.rc_router_sets.specs.Query.{kinds_of}
 use Rattle.rc_edges.specs.Stops.{AreKnown, sets_of}
 use Rattle.rc_edges.specs.declared.position_sets.Sending.{Sending}
 use Rattle.rc_nodes.specs.Seats.{TableView, SeatView}
 use Rattle.rc_places.specs.Places.{position_at}
 use Rattle.rc_trees.specs.Recipes.{tree}
-use Rattle.rc_walk.specs.Moves.{DataPlane}
+use Rattle.rc_moves.specs.Moves.{DataPlane}
 
 -- what is made of the router is known, what the position sends to each other one, and what may end there of what is asked for, of each
 -- choice of kinds

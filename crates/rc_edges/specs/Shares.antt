@@ -8,7 +8,7 @@ use Rattle.rc_edges.specs.Prepare.{MayPrepare, edge_at, stops_at}
 use Rattle.rc_nodes.specs.Seats.{TableView, SeatView}
 use Rattle.rc_jobs.specs.declared.collected.Collected.{Collected}
 use Rattle.rc_topology.specs.Ports.{links_of}
-use Rattle.rc_walk.specs.Moves.{DataPlane}
+use Rattle.rc_moves.specs.Moves.{DataPlane}
 use Rattle.rc_jobs.specs.Collecting.{IsCollected}
 
 -- a lawful network's plane with its links, the places of its positions, and a table for its edges and the endings asked for

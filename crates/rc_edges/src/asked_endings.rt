@@ -2,23 +2,22 @@
 ghost use Rattle.std.specs.Prelude.{◌≡◌, ◌<◌, ◌++◌, ◌∷◌, [], Bool, List, IfOk, IfErr, OnOk, Some, filter, slice_get};
 ghost use Rattle.std.specs.List.{fold};
 ghost use Rattle.rc_bdd.specs.Work.{IsCause};
-ghost use Rattle.rc_edges.specs.Made.{IsMade};
+ghost use Rattle.rc_router_sets.specs.Made.{IsMade};
 ghost use Rattle.rc_base.specs.Positions.{is_among};
 ghost use Rattle.rc_base.specs.declared.ending.Kind.{Kind as KindOf};
 ghost use Rattle.rc_edges.specs.Prepare.{MayEnd, end_trees};
-ghost use Rattle.rc_edges.specs.Query.{kinds_of};
+ghost use Rattle.rc_router_sets.specs.Query.{kinds_of};
 ghost use Rattle.rc_edges.specs.Stops.{AreKnown, sets_of};
 ghost use Rattle.rc_nodes.specs.Seats.{IsSeatOf, Keeps};
 ghost use Rattle.rc_trees.specs.Trees.{Tree};
 ghost use Rattle.rc_jobs.specs.Collecting.{with_ending};
 
 use crate::endings::end_set;
-use crate::hop_sets::Site;
-use crate::router_sets::RouterSets;
 use rc_base::{Ends, Items, Kind};
 use rc_bdd::{SetError, Work};
 use rc_jobs::{Ending, push_ending};
 use rc_nodes::{May, Nodes, Ref};
+use rc_router_sets::{RouterSets, Site};
 use std::alloc::{AllocError, Global};
 
 /// What may end at a position, and how.

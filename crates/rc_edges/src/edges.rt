@@ -1,31 +1,29 @@
 //! What a position sends to the next ones, hop by hop.
 ghost use Rattle.std.specs.Prelude.{◌≡◌, ◌<◌, ◌∷◌, ◌+◌, [], IfOk, IfErr, Some, length, slice_get, take, true};
 ghost use Rattle.rc_bdd.specs.Work.{IsCause};
-ghost use Rattle.rc_edges.specs.Edges as spec;
+ghost use Rattle.rc_router_sets.specs.Edges as spec;
 ghost use Rattle.rc_config.specs.Members.{positions};
 ghost use Rattle.rc_edges.specs.Given.{Gives, IsRow, MayGet, given_by, hop_targets, joined, leads_onto, nothing};
-ghost use Rattle.rc_edges.specs.Made.{IsMade};
+ghost use Rattle.rc_router_sets.specs.Made.{IsMade};
 ghost use Rattle.rc_edges.specs.Prepare.{MaySend};
-ghost use Rattle.rc_edges.specs.Sent.{hops_at, to_interface};
-ghost use Rattle.rc_edges.specs.Steps.{step_at};
-ghost use Rattle.rc_edges.specs.declared.hop_steps.Step.TheVariants.{Leaving};
+ghost use Rattle.rc_router_sets.specs.Sent.{hops_at, to_interface};
+ghost use Rattle.rc_router_sets.specs.Steps.{step_at};
+ghost use Rattle.rc_router_sets.specs.declared.hop_steps.Step.TheVariants.{Leaving};
 ghost use Rattle.rc_nodes.specs.Seats.{IsSeatOf, Keeps};
 ghost use Rattle.rc_places.specs.Places.{position_at};
 ghost use Rattle.rc_topology.specs.Ports.{links_of};
 ghost use Rattle.rc_route.specs.declared.route.Hop.TheVariants.{Dev as Over};
 ghost use Rattle.rc_trees.specs.Recipes.{and, tree};
 
-use crate::destinations::interface_set;
-use crate::hop_sets::{HopAt, Site, step_set};
-use crate::hop_steps::Step;
-use crate::neighbors::{linked_of, takers_of};
 use crate::outgoing::Row;
-use crate::router_sets::RouterSets;
 use rc_base::{IfId, Pos};
 use rc_bdd::{SetError, Work};
 use rc_nodes::{May, Nodes};
 use rc_places::Places;
 use rc_route::Hop;
+use rc_router_sets::{
+    HopAt, RouterSets, Site, Step, interface_set, linked_of, step_set, takers_of,
+};
 use std::alloc::{AllocError, Global};
 
 /// Gives what an interface on a link owns of what leaves over a hop.

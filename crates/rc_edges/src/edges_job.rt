@@ -3,9 +3,9 @@ use crate::worker_shares::share_of;
 use rc_base::Ends;
 use rc_bdd::{SetError, Work};
 use rc_jobs::{Collected, Job};
+use rc_moves::Plane;
 use rc_nodes::{May, Nodes};
 use rc_places::Places;
-use rc_walk::Plane;
 use std::alloc::{AllocError, Global};
 
 /// The positions of a plane, of which the edges and the endings asked for are to be made.

@@ -1,12 +1,12 @@
 //! The headers that end at a position.
 ghost use Rattle.std.specs.Prelude.{◌≡◌, ◌+◌, ◌&&◌, not, IfOk, IfErr, Some, flat_map, slice_get, take};
 ghost use Rattle.rc_bdd.specs.Work.{IsCause};
-ghost use Rattle.rc_edges.specs.Edges.{union};
-ghost use Rattle.rc_edges.specs.Endings as spec;
-ghost use Rattle.rc_edges.specs.Ends.{ends_over};
-ghost use Rattle.rc_edges.specs.Made.{IsMade};
-ghost use Rattle.rc_edges.specs.Sent.{forwarded, hops_at, sent};
-ghost use Rattle.rc_edges.specs.Steps as steps;
+ghost use Rattle.rc_router_sets.specs.Edges.{union};
+ghost use Rattle.rc_router_sets.specs.Endings as spec;
+ghost use Rattle.rc_router_sets.specs.Ends.{ends_over};
+ghost use Rattle.rc_router_sets.specs.Made.{IsMade};
+ghost use Rattle.rc_router_sets.specs.Sent.{forwarded, hops_at, sent};
+ghost use Rattle.rc_router_sets.specs.Steps as steps;
 ghost use Rattle.rc_nodes.specs.Seats.{IsSeatOf, Keeps, SeatKnows};
 ghost use Rattle.rc_route.specs.declared.route.Hop.TheVariants.{Null as Nowhere};
 ghost use Rattle.rc_sets.specs.Regions.{hop_set};
@@ -14,18 +14,18 @@ ghost use Rattle.rc_topology.specs.Links.{linked, port_is, takers};
 ghost use Rattle.rc_topology.specs.Ports.{is_serial};
 ghost use Rattle.rc_trees.specs.Recipes.{parts, tree, without};
 ghost use Rattle.rc_trees.specs.Trees.{HasNodes};
-ghost use Rattle.rc_walk.specs.Moves.{fib_of, router_of};
+ghost use Rattle.rc_moves.specs.Moves.{fib_of, router_of};
 
 use crate::edges::hop_at;
-use crate::groups::let_in_set;
-use crate::hop_sets::{HopAt, Site, forwarded_set, step_set};
-use crate::hop_steps::{Part, Step};
-use crate::router_sets::{RouterSets, over_set, owned_set, part_set};
 use rc_base::{Addr, IfId, Kind};
 use rc_bdd::{SetError, Work};
+use rc_moves::Plane;
 use rc_nodes::{ALWAYS, May, NEVER, Nodes, Ref};
 use rc_route::Hop;
-use rc_walk::Plane;
+use rc_router_sets::{
+    HopAt, Part, RouterSets, Site, Step, forwarded_set, let_in_set, over_set, owned_set, part_set,
+    step_set,
+};
 use std::alloc::Global;
 
 /// What the inbound list denies.

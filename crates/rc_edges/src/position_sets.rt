@@ -5,28 +5,27 @@ ghost use Rattle.rc_base.specs.declared.position.Pos.{Pos as Place};
 ghost use Rattle.rc_bdd.specs.Work.{IsCause};
 ghost use Rattle.rc_config.specs.Members.{positions};
 ghost use Rattle.rc_edges.specs.Given.{IsRow, joined, nothing};
-ghost use Rattle.rc_edges.specs.Made.{IsMade};
+ghost use Rattle.rc_router_sets.specs.Made.{IsMade};
 ghost use Rattle.rc_edges.specs.Prepare.{MayEnd, MaySend};
 ghost use Rattle.rc_edges.specs.Sendings.{IsSending};
 ghost use Rattle.rc_edges.specs.Shares.{IsReady, IsShare};
 ghost use Rattle.rc_nodes.specs.Seats.{IsSeatOf, Keeps, SeatView, TableView};
 ghost use Rattle.rc_places.specs.Places.{position_at};
 ghost use Rattle.rc_topology.specs.Ports.{links_of};
-ghost use Rattle.rc_walk.specs.Moves.{DataPlane, fib_of, router_of};
+ghost use Rattle.rc_moves.specs.Moves.{DataPlane, fib_of, router_of};
 
 use crate::asked_endings::{Stop, add_endings, put_stops};
 use crate::edges::add_edges;
-use crate::hop_sets::{Site, router_at};
 use crate::outgoing::{Row, flush};
-use crate::router_sets::RouterSets;
 use crate::same_entry::is_like;
 use rc_base::{Ends, Pos, RouterId};
 use rc_bdd::{SetError, Work};
 use rc_fib::Entry;
 use rc_jobs::Collected;
+use rc_moves::Plane;
 use rc_nodes::{May, Nodes};
 use rc_places::Places;
-use rc_walk::Plane;
+use rc_router_sets::{RouterSets, Site, router_at};
 use std::alloc::Global;
 
 /// What was made of a position's router, what the position sends, and what may end there. It is the same for all positions at which the same

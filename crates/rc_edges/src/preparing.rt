@@ -9,16 +9,16 @@ ghost use Rattle.rc_edges.specs.Shares.{IsShare};
 ghost use Rattle.rc_jobs.specs.Flows.{IsPrepared};
 ghost use Rattle.rc_nodes.specs.Seats.{IsSeatOf, Keeps, SeatView};
 ghost use Rattle.rc_topology.specs.Ports.{links_of};
-ghost use Rattle.rc_walk.specs.Moves.{DataPlane};
+ghost use Rattle.rc_moves.specs.Moves.{DataPlane};
 
 use crate::edges_job::Sharing;
 use rc_base::Ends;
 use rc_bdd::SetError;
 use rc_jobs::{Collected, Prepared, by_workers};
+use rc_moves::Plane;
 use rc_nodes::{May, Nodes, Seat};
 use rc_outside::OpenGate;
 use rc_places::Places;
-use rc_walk::Plane;
 use std::alloc::Global;
 use std::thread::Threads;
 

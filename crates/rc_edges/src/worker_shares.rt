@@ -7,15 +7,15 @@ ghost use Rattle.rc_edges.specs.Shares.{IsReady, IsShare};
 ghost use Rattle.rc_nodes.specs.Seats.{IsSeatOf, Keeps};
 ghost use Rattle.rc_places.specs.Places.{position_at};
 
-use crate::hop_sets::Site;
 use crate::outgoing::empty_rows;
 use crate::position_sets::{Sending, begin, follow, put_sending};
 use rc_base::{Ends, Items};
 use rc_bdd::{SetError, Work};
 use rc_jobs::Collected;
+use rc_moves::Plane;
 use rc_nodes::{May, Nodes};
 use rc_places::Places;
-use rc_walk::Plane;
+use rc_router_sets::Site;
 use std::alloc::Global;
 
 /// Nothing is sent by any of no positions, of so many.

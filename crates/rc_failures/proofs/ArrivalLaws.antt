@@ -6,12 +6,12 @@ use Rattle.rc_walk.proofs.SearchState.{get_there}
 use Rattle.rc_base.specs.declared.ending.Ends.{Ends}
 use Rattle.rc_base.specs.declared.header.Header.{Header}
 use Rattle.rc_base.specs.declared.position.Pos.{Pos}
-use Rattle.rc_walk.specs.Moves.{DataPlane, moves}
+use Rattle.rc_moves.specs.Moves.{DataPlane, moves}
 use Rattle.rc_walk.specs.ShortestWalks.{AreChoicesTo, IsShortestWalk, NoWalkEnds}
-use Rattle.rc_walk.specs.Walks.{AreMoves, MayStopAt, last_position}
-use Rattle.rc_walk.specs.declared.walk.Move.{Move}
-use Rattle.rc_walk.specs.declared.walk.Move.TheVariants.{Next, End}
-use Rattle.rc_walk.specs.declared.walk.Walk.{Walk}
+use Rattle.rc_moves.specs.Walks.{AreMoves, MayStopAt, last_position}
+use Rattle.rc_moves.specs.declared.walk.Move.{Move}
+use Rattle.rc_moves.specs.declared.walk.Move.TheVariants.{Next, End}
+use Rattle.rc_moves.specs.declared.walk.Walk.{Walk}
 use Rattle.rc_failures.specs.Failures.{Arrives}
 
 module _ (plane : DataPlane) (place : Pos) (h : Header) (ends : Ends) where

@@ -18,10 +18,10 @@ use Rattle.rc_route.specs.declared.outcome.Outcome.TheVariants.{Fixed, Repeats, 
 use Rattle.rc_route.specs.declared.outcome.RoundsEnd.{RoundsEnd}
 use Rattle.rc_topology.specs.Links.{pairs}
 use Rattle.rc_topology.specs.Ports.{links_of}
-use Rattle.rc_walk.specs.Moves.{DataPlane, plane_of}
-use Rattle.rc_walk.specs.Walks.{IsWalk}
-use Rattle.rc_walk.specs.declared.walk.Stop.TheVariants.{At}
-use Rattle.rc_walk.specs.declared.walk.Walk.{Walk}
+use Rattle.rc_moves.specs.Moves.{DataPlane, plane_of}
+use Rattle.rc_moves.specs.Walks.{IsWalk}
+use Rattle.rc_moves.specs.declared.walk.Stop.TheVariants.{At}
+use Rattle.rc_moves.specs.declared.walk.Walk.{Walk}
 
 -- some walk of a packet from a place, no position twice, may end in one of the endings
 pub record Arrives (plane : DataPlane) (place : Pos) (h : Header) (ends : Ends) : Type 0 where

@@ -4,16 +4,17 @@ ghost use Rattle.std.specs.Bool.{Decides};
 ghost use Rattle.rc_config.specs.Lawful.{IsLawful};
 ghost use Rattle.rc_route.specs.Outcomes.{IsInOrder};
 ghost use Rattle.rc_route.specs.Tables.{IsRouterState};
-ghost use Rattle.rc_walk.specs.Moves.{plane_of};
+ghost use Rattle.rc_moves.specs.Moves.{plane_of};
 ghost use Rattle.rc_failures.specs.Failures.{Arrives, IsAnalysis, IsArrival};
 
 use crate::packet::Packet;
 use rc_config::Network;
+use rc_moves::Plane;
 use rc_outside::OpenGate;
 use rc_rounds::{Outcome, rounds_of};
 use rc_route::{RoundsEnd, State};
 use rc_topology::Links;
-use rc_walk::{Plane, shortest};
+use rc_walk::shortest;
 use std::alloc::{AllocError, Global};
 use std::thread::Threads;
 

@@ -7,13 +7,13 @@ use Rattle.rc_base.specs.declared.position.Pos.TheVariants.{Own}
 use Rattle.rc_config.specs.Members as members
 use Rattle.rc_jobs.specs.Flows.{positions}
 use Rattle.rc_places.specs.Places.{position_at}
-use Rattle.rc_reach.specs.Rounds.{gathered, MayGather}
+use Rattle.rc_spread.specs.Gathered.{gathered, MayGather}
 use Rattle.rc_trees.proofs.NodeLaws.{has_recipe}
 use Rattle.rc_trees.proofs.PartLaws.{fold-first, or-second}
 use Rattle.rc_trees.specs.Combine as trees
 use Rattle.rc_trees.specs.Recipes.{Recipe, or, parts, tree}
 use Rattle.rc_trees.specs.Trees.{Tree, HasNodes, HasNodesOf}
-use Rattle.rc_walk.specs.Moves.{DataPlane}
+use Rattle.rc_moves.specs.Moves.{DataPlane}
 
 -- ---- sets and flows, one beside the other
 

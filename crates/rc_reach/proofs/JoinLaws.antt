@@ -16,17 +16,18 @@ use Rattle.rc_trees.specs.Combine as trees
 use Rattle.rc_trees.specs.Recipes.{Recipe, given, and, or, parts, tree}
 use Rattle.rc_trees.proofs.NodeLaws.{has_recipe}
 use Rattle.rc_trees.proofs.PartLaws.{fold-first, or-second}
-use Rattle.rc_walk.specs.Moves.{DataPlane}
-use Rattle.rc_walk.proofs.PositionLaws.{same_position-Decides}
+use Rattle.rc_moves.specs.Moves.{DataPlane}
+use Rattle.rc_moves.proofs.PositionLaws.{same_position-Decides}
 use Rattle.rc_jobs.specs.Flows.{edges_to, endings_of, positions}
 use Rattle.rc_places.specs.Places.{number_of, position_at}
 use Rattle.rc_places.proofs.PlaceLaws.{number_at}
-use Rattle.rc_edges.specs.Endings.{end}
-use Rattle.rc_edges.specs.Query.{kinds_of, query_nodes, reached, reaching}
-use Rattle.rc_edges.proofs.QueryLaws.{coming, may_be_made, result-reached}
+use Rattle.rc_router_sets.specs.Endings.{end}
+use Rattle.rc_router_sets.specs.Query.{kinds_of, query_nodes, reached, reaching}
+use Rattle.rc_router_sets.proofs.QueryLaws.{coming, may_be_made, result-reached}
 use Rattle.rc_edges.specs.Prepare.{edge_at, ends_at}
 use Rattle.rc_reach.proofs.Beside.{AreBeside, beside-append, fold-map, in-at, joined, listed, may-joined, tree-joined}
-use Rattle.rc_reach.specs.Rounds.{gathered, reached_at, MayGather, MayRounds}
+use Rattle.rc_spread.specs.Gathered.{gathered, MayGather}
+use Rattle.rc_reach.specs.Rounds.{reached_at, MayRounds}
 
 module _ (plane : DataPlane) where
   abbrev pub count : ℕ

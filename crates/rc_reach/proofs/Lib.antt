@@ -1,19 +1,9 @@
-mod PositionLaws
-mod GatherLaws
-mod StillLaws
-mod Gathering
-mod RealLaws
-mod Rounding
-mod ComingLaws
-mod EndLaws
 mod Beside
 mod JoinLaws
 mod AskedLaws
 mod LoopLaws
 mod UseLaws
 mod OnwardJoins
-mod GoingLaws
-mod TurnLaws
 mod PlaceJoins
 mod UnevenLaws
 pub mod ReachingLaws

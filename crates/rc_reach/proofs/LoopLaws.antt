@@ -13,14 +13,14 @@ use Rattle.rc_sets.proofs.LongestLaws.{any-in}
 use Rattle.rc_trees.specs.Recipes.{IsOfReduced, Recipe, and, has, tree}
 use Rattle.rc_trees.specs.Trees.{IsReduced}
 use Rattle.rc_trees.proofs.RecipeLaws.{every, has-and, has-union_of, of_reduced-union_of, reduced-tree}
-use Rattle.rc_walk.specs.Moves.{DataPlane}
-use Rattle.rc_walk.specs.Walks.{AreMoves, HasChain, IsLooping}
-use Rattle.rc_edges.specs.Edges.{edge}
-use Rattle.rc_edges.specs.Planes.{IsPlane}
-use Rattle.rc_edges.proofs.EdgeLaws.{has-edge}
-use Rattle.rc_edges.proofs.MoveLaws.{edge_is_move}
-use Rattle.rc_edges.proofs.PositionLaws.{move_there}
-use Rattle.rc_edges.proofs.ReducedLaws.{of_reduced-edge}
+use Rattle.rc_moves.specs.Moves.{DataPlane}
+use Rattle.rc_moves.specs.Walks.{AreMoves, HasChain, IsLooping}
+use Rattle.rc_router_sets.specs.Edges.{edge}
+use Rattle.rc_router_sets.specs.Planes.{IsPlane}
+use Rattle.rc_router_sets.proofs.EdgeLaws.{has-edge}
+use Rattle.rc_router_sets.proofs.MoveLaws.{edge_is_move}
+use Rattle.rc_router_sets.proofs.PositionLaws.{move_there}
+use Rattle.rc_router_sets.proofs.ReducedLaws.{of_reduced-edge}
 use Rattle.rc_reach.specs.Loops.{going_on, looping}
 use Rattle.rc_walk.proofs.ChainLaws.{chain_is_loop}
 

@@ -17,20 +17,20 @@ use Rattle.rc_trees.proofs.PartLaws.{fold-first, or-second}
 use Rattle.rc_trees.proofs.RecipeLaws.{reduced-tree}
 use Rattle.rc_trees.proofs.ReducedLaws.{reduced-and}
 use Rattle.rc_trees.proofs.TreeLaws.{value-and}
-use Rattle.rc_walk.specs.Moves.{DataPlane}
+use Rattle.rc_moves.specs.Moves.{DataPlane}
 use Rattle.rc_jobs.specs.Flows.{edges_to, positions}
 use Rattle.rc_places.specs.Places.{number_of, position_at}
 use Rattle.rc_places.proofs.PlaceLaws.{number_there}
-use Rattle.rc_edges.specs.Edges.{edge}
-use Rattle.rc_edges.specs.Planes.{IsPlane}
+use Rattle.rc_router_sets.specs.Edges.{edge}
+use Rattle.rc_router_sets.specs.Planes.{IsPlane}
 use Rattle.rc_edges.specs.Prepare.{edge_at}
-use Rattle.rc_edges.proofs.ReducedLaws.{of_reduced-edge}
+use Rattle.rc_router_sets.proofs.ReducedLaws.{of_reduced-edge}
 use Rattle.rc_reach.proofs.Beside.{AreBeside, fold-map, in-at, joined, listed, may-joined, tree-joined}
 use Rattle.rc_reach.specs.Loops.{going_on, loop_nodes, looping}
 use Rattle.rc_reach.proofs.LoopLaws.{moving, reduced-going_on}
 use Rattle.rc_reach.proofs.UseLaws.{round_may}
-use Rattle.rc_reach.specs.Onward.{onward, turned, MayGoOn}
-use Rattle.rc_reach.proofs.PositionLaws.{all_positions}
+use Rattle.rc_spread.specs.Onward.{onward, turned, MayGoOn}
+use Rattle.rc_spread.proofs.PositionLaws.{all_positions}
 
 -- of reduced trees it doesn't matter which one comes first
 either_way : (s t : Tree) → IsReduced s → IsReduced t → trees.and s t ≡ trees.and t s

@@ -10,9 +10,9 @@ use Rattle.rc_bdd.specs.declared.work.SetError.{SetError}
 use Rattle.rc_bdd.specs.declared.work.SetError.TheVariants.{Full}
 use Rattle.rc_config.specs.Lawful.{IsPosition}
 use Rattle.rc_config.specs.Members.{positions}
-use Rattle.rc_edges.proofs.ResultLaws.{result_is_reaching}
-use Rattle.rc_edges.specs.Planes.{IsPlane}
-use Rattle.rc_edges.specs.Query.{reaching}
+use Rattle.rc_router_sets.proofs.ResultLaws.{result_is_reaching}
+use Rattle.rc_router_sets.specs.Planes.{IsPlane}
+use Rattle.rc_router_sets.specs.Query.{reaching}
 use Rattle.rc_jobs.specs.Flows.{IsPrepared}
 use Rattle.rc_jobs.specs.declared.flow.Prepared.{Prepared}
 use Rattle.rc_nodes.proofs.CountLaws.{more_than_slots}
@@ -26,7 +26,7 @@ use Rattle.rc_reach.specs.Reaching.{IsReachingSet}
 use Rattle.rc_reach.specs.Rounds.{reached_at}
 use Rattle.rc_trees.specs.Recipes.{tree}
 use Rattle.rc_trees.specs.Trees.{Tree, always, never, same_tree}
-use Rattle.rc_walk.specs.Moves.{DataPlane}
+use Rattle.rc_moves.specs.Moves.{DataPlane}
 
 -- before the first round all headers are at the place of the number
 pub place_first : (plane : DataPlane) (place : Pos) → IsPosition plane.network place → (n m : ℕ) → n ≡ number_of plane.network place → m ≡ length (positions plane.network) → (q : ℕ) → q < m → reached_at plane place 0 q ≡ cond (n == q) always never

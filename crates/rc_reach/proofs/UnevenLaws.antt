@@ -11,22 +11,22 @@ use Rattle.rc_base.specs.declared.header.Header.{Header}
 use Rattle.rc_base.specs.declared.position.Pos.{Pos}
 use Rattle.rc_reach.proofs.UseLaws.{edge_may, has-different}
 use Rattle.rc_reach.specs.Loops.{loop_nodes, looping}
-use Rattle.rc_walk.specs.Walks.{IsLooping}
+use Rattle.rc_moves.specs.Walks.{IsLooping}
 use Rattle.rc_reach.proofs.LoopLaws.{looping_is_loop}
 use Rattle.rc_reach.proofs.ReachingLaws.{known_exact}
 use Rattle.rc_reach.specs.Reaching.{IsSetOf}
 use Rattle.rc_config.specs.Lawful.{IsPosition}
 use Rattle.rc_config.specs.Members.{positions}
 use Rattle.rc_edges.proofs.PrepareLaws.{in-place, may_prepare}
-use Rattle.rc_edges.specs.Endings.{end}
-use Rattle.rc_edges.proofs.ResultLaws.{result_is_reaching}
-use Rattle.rc_edges.specs.Planes.{IsPlane}
+use Rattle.rc_router_sets.specs.Endings.{end}
+use Rattle.rc_router_sets.proofs.ResultLaws.{result_is_reaching}
+use Rattle.rc_router_sets.specs.Planes.{IsPlane}
 use Rattle.rc_edges.specs.Prepare.{MayPrepare, edge_at, ends_at, stops_at}
 use Rattle.rc_jobs.specs.Flows.{IsPrepared, KnowsFlows, flows_of, real_endings}
 use Rattle.rc_jobs.specs.Kept.{flows_kept}
 use Rattle.rc_jobs.specs.declared.flow.Prepared.{Prepared}
 use Rattle.rc_reach.proofs.AskedLaws.{all_among, asked_among}
-use Rattle.rc_edges.specs.Query.{query_nodes, reaching}
+use Rattle.rc_router_sets.specs.Query.{query_nodes, reaching}
 use Rattle.rc_nodes.specs.Seats.{TableView, SeatView, IsSeatOf, Keeps, SeatKnows}
 use Rattle.rc_places.specs.Places.{position_at}
 use Rattle.rc_trees.proofs.NodeLaws.{has_recipe}
@@ -35,7 +35,7 @@ use Rattle.rc_trees.proofs.RecipeLaws.{has-and}
 use Rattle.rc_trees.specs.Combine as trees
 use Rattle.rc_trees.specs.Recipes.{Uses, has, nodes, parts, tree}
 use Rattle.rc_trees.specs.Trees.{Tree, HasNodes, HasNodesOf, IsReduced, holds}
-use Rattle.rc_walk.specs.Moves.{DataPlane}
+use Rattle.rc_moves.specs.Moves.{DataPlane}
 use Rattle.rc_base.specs.declared.position.Pos.TheVariants.{Own}
 use Rattle.rc_reach.specs.Uneven.{IsUneven, all_ends, arrivals, failures, no_ends, uneven, uneven_nodes}
 

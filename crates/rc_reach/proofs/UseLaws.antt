@@ -8,12 +8,12 @@ use Rattle.rc_base.proofs.KeepLaws.{In}
 use Rattle.rc_base.specs.Lists.{first_seen}
 use Rattle.rc_base.specs.declared.position.Pos.{Pos}
 use Rattle.rc_config.specs.Members.{positions}
-use Rattle.rc_edges.specs.Edges.{edge}
+use Rattle.rc_router_sets.specs.Edges.{edge}
 use Rattle.rc_trees.proofs.PartLaws.{and-first, and-second, fold-each, in-left, in-right, uses-trans}
 use Rattle.rc_trees.proofs.TreeLaws.{same_tree-Decides}
 use Rattle.rc_trees.specs.Recipes.{Recipe, Uses, and, given, parts}
 use Rattle.rc_trees.specs.Trees.{Tree, HasNodes, IsAmong, is_node, never, same_tree}
-use Rattle.rc_walk.specs.Moves.{DataPlane}
+use Rattle.rc_moves.specs.Moves.{DataPlane}
 use Rattle.rc_reach.specs.Loops.{going_on, loop_nodes, looping}
 
 -- ---- the different nodes among some trees

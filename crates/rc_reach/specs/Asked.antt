@@ -2,8 +2,8 @@
 use Rattle.std.specs.Prelude.{List}
 use Rattle.rc_base.specs.declared.header.Header.{Header}
 use Rattle.rc_base.specs.declared.position.Pos.{Pos}
-use Rattle.rc_edges.specs.Query.{IsReaching, query_nodes, reaching}
-use Rattle.rc_walk.specs.Walks.{IsLooping}
+use Rattle.rc_router_sets.specs.Query.{IsReaching, query_nodes, reaching}
+use Rattle.rc_moves.specs.Walks.{IsLooping}
 use Rattle.rc_reach.specs.Loops.{loop_nodes, looping}
 use Rattle.rc_reach.specs.Reaching.{IsSetOf}
 use Rattle.rc_reach.specs.Uneven.{IsUneven, uneven, uneven_nodes}
@@ -11,7 +11,7 @@ use Rattle.rc_reach.specs.declared.asked.Asked.{Asked}
 use Rattle.rc_reach.specs.declared.asked.Asked.TheVariants.{Reaching, Looping, Uneven}
 use Rattle.rc_trees.specs.Recipes.{Recipe}
 use Rattle.rc_trees.specs.Trees.{Tree}
-use Rattle.rc_walk.specs.Moves.{DataPlane}
+use Rattle.rc_moves.specs.Moves.{DataPlane}
 
 -- the place from which the packets start
 abbrev pub place_of : Asked → Pos

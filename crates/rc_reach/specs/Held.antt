@@ -8,7 +8,7 @@ use Rattle.rc_reach.specs.Asked.{IsAskedSet, nodes_asked}
 use Rattle.rc_reach.specs.declared.asked.Asked.{Asked}
 use Rattle.rc_reach.specs.declared.asked_table.AskedSet.{AskedSet}
 use Rattle.rc_trees.specs.Trees.{Tree, same_tree}
-use Rattle.rc_walk.specs.Moves.{DataPlane}
+use Rattle.rc_moves.specs.Moves.{DataPlane}
 
 -- the seat is the table's, and knows the set as that of the headers that a question is about
 pub record HoldsAsked (plane : DataPlane) (asked : Asked) (r : AskedSet) : Type 0 where

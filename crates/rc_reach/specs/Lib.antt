@@ -1,10 +1,7 @@
 pub mod Rounds
-pub mod Known
 pub mod Kept
 pub mod Reaching
 pub mod Loops
-pub mod Onward
-pub mod Turned
 pub mod Uneven
 pub mod Asked
 pub mod FirstTry

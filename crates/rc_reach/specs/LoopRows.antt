@@ -5,8 +5,8 @@ use Rattle.rc_base.specs.Prefix.{prefix_at}
 use Rattle.rc_config.specs.IfType.{type_of}
 use Rattle.rc_topology.specs.Ports.{links_of}
 use Rattle.rc_fib.specs.Forwarding.{hops_within}
-use Rattle.rc_walk.specs.Examples.{ip, network, with_address, gi0, plane, connected, static, via}
-use Rattle.rc_walk.specs.Moves.{DataPlane}
+use Rattle.rc_moves.specs.Examples.{ip, network, with_address, gi0, plane, connected, static, via}
+use Rattle.rc_moves.specs.Moves.{DataPlane}
 use Rattle.rc_trees.specs.Trees.{Tree, never, node, always}
 use Rattle.rc_base.specs.Header.{bit}
 use Rattle.rc_trees.specs.Combine.{and, or, minus}
@@ -15,8 +15,8 @@ use Rattle.rc_trees.specs.Recipes.{nodes, tree}
 use Rattle.rc_trees.specs.Fields.{masked, under, chain}
 use Rattle.rc_sets.specs.AccessLists.{line_set}
 use Rattle.rc_sets.specs.Regions.{region, hop_set}
-use Rattle.rc_edges.specs.Sent.{let_in, let_out, to_router, to_interface, to_subnets, taken, forwarded, sent, leaving, untaken}
-use Rattle.rc_edges.specs.Edges.{edge}
+use Rattle.rc_router_sets.specs.Sent.{let_in, let_out, to_router, to_interface, to_subnets, taken, forwarded, sent, leaving, untaken}
+use Rattle.rc_router_sets.specs.Edges.{edge}
 use Rattle.rc_reach.specs.Loops.{going_on, looping}
 
 -- two routers on one subnet, with default routes to each other

@@ -3,10 +3,10 @@ use Rattle.std.specs.Prelude.{ℕ, zero, suc, List, filter, flat_map, length}
 use Rattle.rc_base.specs.Lists.{first_seen}
 use Rattle.rc_base.specs.declared.position.Pos.{Pos}
 use Rattle.rc_config.specs.Members.{positions}
-use Rattle.rc_edges.specs.Edges.{edge}
+use Rattle.rc_router_sets.specs.Edges.{edge}
 use Rattle.rc_trees.specs.Recipes.{Recipe, given, and, parts, union_of}
 use Rattle.rc_trees.specs.Trees.{Tree, always, is_node, same_tree}
-use Rattle.rc_walk.specs.Moves.{DataPlane}
+use Rattle.rc_moves.specs.Moves.{DataPlane}
 
 module _ (plane : DataPlane) where
   -- the headers with so many moves one after another from a position

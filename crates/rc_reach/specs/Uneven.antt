@@ -3,10 +3,10 @@ use Rattle.std.specs.Prelude.{true, false, List}
 use Rattle.rc_base.specs.declared.ending.Ends.{Ends}
 use Rattle.rc_base.specs.declared.header.Header.{Header}
 use Rattle.rc_base.specs.declared.position.Pos.{Pos}
-use Rattle.rc_edges.specs.Query.{IsReaching, reaching}
+use Rattle.rc_router_sets.specs.Query.{IsReaching, reaching}
 use Rattle.rc_trees.specs.Recipes.{Recipe, and, nodes}
 use Rattle.rc_trees.specs.Trees.{Tree}
-use Rattle.rc_walk.specs.Moves.{DataPlane}
+use Rattle.rc_moves.specs.Moves.{DataPlane}
 
 -- no ending at all
 abbrev pub no_ends : Ends

@@ -4,8 +4,8 @@ use Rattle.rc_base.specs.declared.position.Pos.TheVariants.{Own}
 use Rattle.rc_config.specs.IfType.{type_of}
 use Rattle.rc_topology.specs.Ports.{links_of}
 use Rattle.rc_fib.specs.Forwarding.{hops_within}
-use Rattle.rc_walk.specs.Examples.{ip, network, with_address, gi0, lo0, plane, connected, static, via}
-use Rattle.rc_walk.specs.Moves.{DataPlane}
+use Rattle.rc_moves.specs.Examples.{ip, network, with_address, gi0, lo0, plane, connected, static, via}
+use Rattle.rc_moves.specs.Moves.{DataPlane}
 use Rattle.rc_trees.specs.Trees.{never}
 use Rattle.rc_base.specs.Header.{bit}
 use Rattle.rc_trees.specs.Combine.{and, or, minus}
@@ -14,10 +14,10 @@ use Rattle.rc_trees.specs.Recipes.{nodes, tree}
 use Rattle.rc_trees.specs.Fields.{masked, under, host}
 use Rattle.rc_sets.specs.AccessLists.{line_set}
 use Rattle.rc_sets.specs.Regions.{region, hop_set}
-use Rattle.rc_edges.specs.Sent.{let_in, let_out, to_router, to_interface, to_subnets, taken, forwarded, sent, leaving, untaken}
-use Rattle.rc_edges.specs.Edges.{edge}
-use Rattle.rc_edges.specs.Endings.{end}
-use Rattle.rc_edges.specs.Query.{reached, reaching}
+use Rattle.rc_router_sets.specs.Sent.{let_in, let_out, to_router, to_interface, to_subnets, taken, forwarded, sent, leaving, untaken}
+use Rattle.rc_router_sets.specs.Edges.{edge}
+use Rattle.rc_router_sets.specs.Endings.{end}
+use Rattle.rc_router_sets.specs.Query.{reached, reaching}
 use Rattle.rc_reach.specs.LoopRows.{two}
 use Rattle.rc_reach.specs.Uneven.{uneven}
 

@@ -15,9 +15,9 @@ use crate::endless::loops;
 use crate::reaching::reach;
 use rc_base::{Ends, Pos};
 use rc_bdd::SetError;
+use rc_moves::Plane;
 use rc_nodes::{May, Nodes, Ref, Seat};
 use rc_outside::Gate;
-use rc_walk::Plane;
 use std::alloc::AllocGlobal;
 use std::thread::Threads;
 

@@ -10,9 +10,9 @@ ghost use Rattle.rc_reach.specs.Held.{HoldsAsked, IsFullAtMost};
 use crate::asked::{Asked, AskedQuery, asked_set};
 use crate::first_try::Onward;
 use rc_bdd::SetError;
+use rc_moves::Plane;
 use rc_nodes::{Nodes, Ref, Seat};
 use rc_outside::Gate;
-use rc_walk::Plane;
 use std::alloc::{AllocError, AllocGlobal, Global};
 use std::thread::Threads;
 

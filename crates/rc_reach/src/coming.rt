@@ -4,19 +4,17 @@ ghost use Rattle.rc_bdd.specs.Work.{IsCause};
 ghost use Rattle.rc_config.specs.Lawful.{IsPosition};
 ghost use Rattle.rc_nodes.specs.Seats.{IsSeatOf, Keeps};
 ghost use Rattle.rc_places.specs.Places.{number_of};
-ghost use Rattle.rc_reach.specs.Known.{KnowsShare, MayCome};
+ghost use Rattle.rc_reach.specs.Rounds.{MayCome};
+ghost use Rattle.rc_spread.specs.Known.{KnowsShare};
 ghost use Rattle.rc_reach.specs.Rounds.{reached_at};
 
-use crate::first::{first_fresh, first_sets};
-use crate::gather::gathered_set;
-use crate::rounds::all_rounds;
-use crate::spread::Spread;
 use rc_base::Pos;
 use rc_bdd::{SetError, Work};
 use rc_jobs::Prepared;
+use rc_moves::Plane;
 use rc_nodes::{May, Nodes, Ref};
 use rc_outside::Gate;
-use rc_walk::Plane;
+use rc_spread::{Spread, all_rounds, first_fresh, first_sets, gathered_set};
 use std::alloc::Global;
 use std::thread::Threads;
 
@@ -32,7 +30,7 @@ pub struct Coming<'a> {
 impl<'a> Spread for Coming<'a> {
     ghost use Rattle.std.specs.Prelude.{length};
     ghost use Rattle.rc_reach.specs.Kept.{coming_kept};
-    ghost use Rattle.rc_reach.specs.Known.{MayCome};
+    ghost use Rattle.rc_reach.specs.Rounds.{MayCome};
     ghost use Rattle.rc_reach.specs.Rounds.{reached_at};
 
     ghost count = { λ c. length c.prepared.now.into };

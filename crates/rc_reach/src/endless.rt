@@ -3,15 +3,15 @@ ghost use Rattle.std.specs.Prelude.{◌≡◌, ◌<◌, ◌≤◌, All, length, 
 ghost use Rattle.std.specs.Set.{distinct_count};
 ghost use Rattle.rc_bdd.specs.Work.{IsCause};
 ghost use Rattle.rc_bdd.specs.declared.work.SetError.TheVariants.{Full};
-ghost use Rattle.rc_walk.specs.Walks.{IsLooping};
+ghost use Rattle.rc_moves.specs.Walks.{IsLooping};
 ghost use Rattle.rc_reach.specs.Loops.{loop_nodes, looping};
 ghost use Rattle.rc_config.specs.Lawful.{IsLawful, IsPosition};
 ghost use Rattle.rc_edges.specs.Prepare.{edge_at};
-ghost use Rattle.rc_fib.specs.Entries.{IsInOrder};
+ghost use Rattle.rc_fib.specs.Entries.{IsFib};
 ghost use Rattle.rc_jobs.specs.Flows.{KnowsEdges};
-ghost use Rattle.rc_reach.specs.Onward.{MayGoOn, onward, turned};
+ghost use Rattle.rc_spread.specs.Onward.{MayGoOn, onward, turned};
 ghost use Rattle.rc_nodes.specs.Seats.{IsSeatOf, Keeps, SeatKnows};
-ghost use Rattle.rc_reach.specs.Known.{KnowsShare};
+ghost use Rattle.rc_spread.specs.Known.{KnowsShare};
 ghost use Rattle.rc_reach.specs.Reaching.{IsSetOf};
 ghost use Rattle.rc_topology.specs.Ports.{links_of};
 ghost use Rattle.rc_trees.specs.Recipes.{tree};
@@ -19,16 +19,15 @@ ghost use Rattle.rc_trees.specs.Trees.{Tree, HasNodes, same_tree};
 
 use crate::end_sets::no_ends;
 use crate::going_on::GoingOn;
-use crate::rounds::all_rounds;
-use crate::turning::flows_out;
 use rc_base::{Items, Pos};
 use rc_bdd::{SetError, Work};
 use rc_edges::prepare;
 use rc_jobs::Flow;
+use rc_moves::Plane;
 use rc_nodes::{ALWAYS, May, Nodes, Ref, Seat};
 use rc_outside::Gate;
 use rc_places::Places;
-use rc_walk::Plane;
+use rc_spread::{all_rounds, flows_out};
 use std::alloc::{AllocGlobal, Global};
 use std::thread::Threads;
 
@@ -86,7 +85,7 @@ fn loops_within<R: Threads + Sync, M: May + Send + Sync, G: Gate>(
 ) -> (Seat<M>, Result<Ref, SetError>)
     requires lawful { IsLawful plane.now.network }
     requires links { plane.now.links ≡ links_of plane.now.network }
-    requires fibs { All IsInOrder plane.now.fibs }
+    requires fibs { All IsFib plane.now.fibs }
     requires place { IsPosition plane.now.network place }
     requires seat { IsSeatOf nodes.now seat }
     requires may { HasNodes nodes.now.may (loop_nodes plane.now) }

@@ -2,13 +2,12 @@
 ghost use Rattle.std.specs.Prelude.{◌≡◌, ◌<◌, All, false, true, length, slice_index_or};
 ghost use Rattle.rc_jobs.specs.declared.flow.Flow.{Flow as FlowOf};
 
-use crate::gather::gathered_set;
-use crate::spread::Spread;
 use rc_base::Items;
 use rc_bdd::{SetError, Work};
 use rc_jobs::Flow;
+use rc_moves::Plane;
 use rc_nodes::{May, NEVER, Nodes, Ref};
-use rc_walk::Plane;
+use rc_spread::{Spread, gathered_set};
 
 /// The headers that go on from each position of a plane, by one move more in each round.
 #[derive(Drop)]
@@ -36,9 +35,9 @@ fn are_settled(flows: &[Flow], fresh: &[bool]) -> bool
 impl<'a> Spread for GoingOn<'a> {
     ghost use Rattle.std.specs.Prelude.{length};
     ghost use Rattle.rc_edges.specs.Prepare.{edge_at};
-    ghost use Rattle.rc_reach.specs.Kept.{onward_kept};
-    ghost use Rattle.rc_reach.specs.Known.{MayOnward};
-    ghost use Rattle.rc_reach.specs.Onward.{onward};
+    ghost use Rattle.rc_spread.specs.Kept.{onward_kept};
+    ghost use Rattle.rc_spread.specs.Known.{MayOnward};
+    ghost use Rattle.rc_spread.specs.Onward.{onward};
 
     ghost count = { λ g. length g.out.now };
 

@@ -4,14 +4,14 @@ ghost use Rattle.rc_base.specs.Header.{IsHeader};
 ghost use Rattle.rc_base.specs.declared.header.Header.{Header};
 ghost use Rattle.rc_base.specs.declared.position.Pos.{Pos};
 ghost use Rattle.rc_config.specs.Lawful.{IsPosition};
-ghost use Rattle.rc_edges.specs.Planes.{IsPlane};
+ghost use Rattle.rc_router_sets.specs.Planes.{IsPlane};
 ghost use Rattle.rc_reach.specs.Asked.{IsAskedSet};
-ghost use Rattle.rc_walk.specs.Walks.{HasChain, IsLooping};
+ghost use Rattle.rc_moves.specs.Walks.{HasChain, IsLooping};
 ghost use Rattle.rc_reach.specs.Loops.{going_on, looping};
 ghost use Rattle.rc_reach.specs.declared.asked.Asked.{Asked};
 ghost use Rattle.rc_trees.specs.Recipes.{has};
 ghost use Rattle.rc_trees.specs.Trees.{Tree};
-ghost use Rattle.rc_walk.specs.Moves.{DataPlane};
+ghost use Rattle.rc_moves.specs.Moves.{DataPlane};
 
 /// One reduced tree holds exactly the headers that a question is about: the walks alone say which.
 pub fn one_set_for_each_question()

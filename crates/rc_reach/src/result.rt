@@ -4,20 +4,20 @@ ghost use Rattle.rc_base.specs.Positions.{is_among};
 ghost use Rattle.rc_bdd.specs.Work.{IsCause};
 ghost use Rattle.rc_config.specs.Members.{positions};
 ghost use Rattle.rc_edges.specs.Prepare.{ends_at};
-ghost use Rattle.rc_edges.specs.Query.{query_nodes, reaching};
+ghost use Rattle.rc_router_sets.specs.Query.{query_nodes, reaching};
 ghost use Rattle.rc_jobs.specs.Flows.{KnowsFlows, flows_of, real_endings};
 ghost use Rattle.rc_nodes.specs.Seats.{IsSeatOf, Keeps, SeatKnows};
-ghost use Rattle.rc_reach.specs.Known.{KnowsShare};
+ghost use Rattle.rc_spread.specs.Known.{KnowsShare};
 ghost use Rattle.rc_reach.specs.Rounds.{reached_at};
 ghost use Rattle.rc_trees.specs.Recipes.{tree};
 ghost use Rattle.rc_trees.specs.Trees.{HasNodes};
 
-use crate::gather::gathered_set;
 use rc_base::{Ends, Pos};
 use rc_bdd::{SetError, Work};
 use rc_jobs::{Ending, Flow, Prepared};
+use rc_moves::Plane;
 use rc_nodes::{May, NEVER, Nodes, Ref};
-use rc_walk::Plane;
+use rc_spread::gathered_set;
 use std::alloc::{AllocError, Global};
 
 /// Of endings the flows of those that are asked for.

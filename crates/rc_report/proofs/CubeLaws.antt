@@ -12,7 +12,7 @@ use Rattle.rc_outside.proofs.PutLaws.{put_then, put_stopped}
 use Rattle.rc_report.specs.CubeText.{fields_text, cube_line, cube_text, cubes_text, shown}
 use Rattle.rc_report.specs.declared.cubes.Told.TheVariants.{Tests}
 use Rattle.rc_report.specs.declared.put.SinkFault.{SinkFault}
-use Rattle.rc_walk.specs.declared.walk.Walk.{Walk}
+use Rattle.rc_moves.specs.declared.walk.Walk.{Walk}
 
 -- ---- a cube's line
 

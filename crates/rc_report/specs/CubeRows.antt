@@ -18,8 +18,8 @@ use Rattle.rc_trees.specs.Combine.{and}
 use Rattle.rc_trees.specs.Fields.{chain, exact, masked}
 use Rattle.rc_trees.specs.Recipes.{tree}
 use Rattle.rc_trees.specs.Trees.{Tree, never, always, node}
-use Rattle.rc_walk.specs.declared.walk.Stop.TheVariants.{At}
-use Rattle.rc_walk.specs.declared.walk.Walk.{Walk}
+use Rattle.rc_moves.specs.declared.walk.Stop.TheVariants.{At}
+use Rattle.rc_moves.specs.declared.walk.Walk.{Walk}
 
 -- 10.0.0.0/24, and telnet to it
 abbrev lan : Cube

@@ -10,7 +10,7 @@ use Rattle.rc_cubes.specs.declared.cube.Cube.{Cube}
 use Rattle.rc_report.specs.declared.cubes.Told.{Told}
 use Rattle.rc_report.specs.declared.cubes.Told.TheVariants.{Tests, Values}
 use Rattle.rc_report.specs.WalkText.{walk_text}
-use Rattle.rc_walk.specs.declared.walk.Walk.{Walk}
+use Rattle.rc_moves.specs.declared.walk.Walk.{Walk}
 
 -- a field's number: an address with dots, and every other one in decimal
 abbrev pub number_text : Field → ℕ → List ℕ

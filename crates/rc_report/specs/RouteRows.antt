@@ -20,8 +20,8 @@ use Rattle.rc_route.specs.declared.route.Hop.TheVariants.{Null, Dev, Via}
 use Rattle.rc_route.specs.declared.route.Route.{Route}
 use Rattle.rc_route.specs.declared.route.Source.{Source}
 use Rattle.rc_route.specs.declared.route.Source.TheVariants.{Connected, Static, Ebgp, Ibgp, Ospf, OspfIa, OspfE1, OspfE2}
-use Rattle.rc_walk.specs.declared.walk.Stop.{Stop}
-use Rattle.rc_walk.specs.declared.walk.Stop.TheVariants.{At, Loop}
+use Rattle.rc_moves.specs.declared.walk.Stop.{Stop}
+use Rattle.rc_moves.specs.declared.walk.Stop.TheVariants.{At, Loop}
 
 -- the router R1 with two interfaces
 abbrev net : Network

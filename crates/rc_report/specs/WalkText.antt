@@ -5,9 +5,9 @@ use Rattle.rc_base.specs.declared.position.Pos.{Pos}
 use Rattle.rc_base.specs.declared.position.Pos.TheVariants.{Own, Entering}
 use Rattle.rc_config.specs.declared.network.Network.{Network}
 use Rattle.rc_report.specs.RouteText.{interface_name, router_name}
-use Rattle.rc_walk.specs.declared.walk.Stop.{Stop}
-use Rattle.rc_walk.specs.declared.walk.Stop.TheVariants.{At, Loop}
-use Rattle.rc_walk.specs.declared.walk.Walk.{Walk}
+use Rattle.rc_moves.specs.declared.walk.Stop.{Stop}
+use Rattle.rc_moves.specs.declared.walk.Stop.TheVariants.{At, Loop}
+use Rattle.rc_moves.specs.declared.walk.Walk.{Walk}
 
 -- a router that sends a packet by itself, or the interface by which the packet enters it
 unfoldable pub position_line : Network → Pos → List ℕ

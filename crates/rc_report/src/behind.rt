@@ -10,9 +10,9 @@ ghost use Rattle.rc_trees.specs.Trees.{Tree};
 use crate::{Buffer, Puts, SinkFault, put_cubes, put_walk};
 use rc_base::Items;
 use rc_config::Network;
+use rc_moves::Walk;
 use rc_nodes::{May, Nodes, Ref, Seat};
 use rc_outside::Sink;
-use rc_walk::Walk;
 
 /// The walk of a packet.
 #[derive(Drop)]

@@ -13,9 +13,9 @@ use crate::{Buffer, Part, SinkFault, put_line, put_parts, put_walk};
 use rc_base::{Addr, Field, Items, header_is_free};
 use rc_config::Network;
 use rc_cubes::{Cube, Cubes};
+use rc_moves::Walk;
 use rc_nodes::{May, Nodes, Ref, Seat};
 use rc_outside::Sink;
-use rc_walk::Walk;
 
 /// What a line shows of a header's fields.
 #[derive(Clone, Copy)]

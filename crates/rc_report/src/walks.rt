@@ -8,8 +8,8 @@ use crate::names::{interface_name, router_name};
 use crate::{Buffer, Part, SinkFault, put_line};
 use rc_base::Pos;
 use rc_config::Network;
+use rc_moves::{Stop, Walk};
 use rc_outside::Sink;
-use rc_walk::{Stop, Walk};
 
 /// What stands in the line of a position.
 #[tactic(auto, unfolding(crate::specs::WalkText::position_line))]

@@ -16,7 +16,7 @@ use Rattle.rc_fib.specs.Forwarding.{entry_of, resolved_hops}
 use Rattle.rc_fib.specs.declared.entry.Entry.{Entry}
 use Rattle.rc_trees.specs.Recipes.{has}
 use Rattle.rc_trees.specs.Fields.{chain}
-use Rattle.rc_fib.specs.Entries.{IsInOrder}
+use Rattle.rc_fib.specs.Entries.{IsFib}
 use Rattle.rc_base.specs.Header.{IsHeader}
 use Rattle.rc_base.specs.declared.field.Field.TheVariants.{Dst}
 use Rattle.rc_sets.specs.Regions.{is_within, longer_within, region, gives, hop_set, hops_in}
@@ -24,7 +24,7 @@ use Rattle.rc_trees.proofs.FieldLaws.{has-chain}
 use Rattle.rc_trees.proofs.RecipeLaws.{has-without, has-union_of}
 use Rattle.rc_sets.proofs.LongestLaws.{same_bool, any-in, in-filter, in-map, all-in, longer, len_of, folded, holds, is_longest, any-longest}
 
-module _ (fib : List Entry) (ordered : IsInOrder fib) where
+module _ (fib : List Entry) (ordered : IsFib fib) where
   -- ---- sets of hops
 
   module _ (h : Header) (header : IsHeader h) where

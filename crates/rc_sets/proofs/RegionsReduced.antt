@@ -4,7 +4,7 @@ use Rattle.std.specs.List.{AllByRecursion}
 use Rattle.std.proofs.lemmas.List.Elements.{recursion_from_All}
 use Rattle.rc_base.specs.Prefix.{Cidr, IsCidr}
 use Rattle.rc_route.specs.declared.route.Hop.{Hop}
-use Rattle.rc_fib.specs.Entries.{IsInOrder}
+use Rattle.rc_fib.specs.Entries.{IsFib}
 use Rattle.rc_fib.specs.declared.entry.Entry.{Entry}
 use Rattle.rc_trees.specs.Recipes.{IsOfReduced}
 use Rattle.rc_trees.specs.Fields.{chain}
@@ -20,7 +20,7 @@ all-filter P p (x ∷ xs) all = by (p x) all.0 (all-filter P p xs all.1)
     by true here rest = (here, rest)
     by false here rest = rest
 
-module _ (fib : List Entry) (ordered : IsInOrder fib) where
+module _ (fib : List Entry) (ordered : IsFib fib) where
   short : (es : List Entry) → AllByRecursion (λ (e : Entry). IsCidr e.prefix) es → AllByRecursion (λ p. IsOfReduced (chain p)) (map (λ (e : Entry). e.prefix) es)
   short [] all = tt
   short (e ∷ es) all = (of_reduced-chain e.prefix all.0.short, short es all.1)

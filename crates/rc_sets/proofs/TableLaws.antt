@@ -13,7 +13,7 @@ use Rattle.rc_base.specs.Prefix.{Cidr, IsCidr, contains, prefix_cmp}
 use Rattle.rc_base.specs.declared.field.Field.TheVariants.{Dst}
 use Rattle.rc_base.specs.declared.header.Header.{Header}
 use Rattle.rc_base.proofs.HeaderLaws.{headers_are_bits}
-use Rattle.rc_fib.specs.Entries.{IsInOrder}
+use Rattle.rc_fib.specs.Entries.{IsFib}
 use Rattle.rc_fib.specs.declared.entry.Entry.{Entry}
 use Rattle.rc_route.specs.Hops.{same_hop}
 use Rattle.rc_route.specs.declared.route.Hop.{Hop}
@@ -139,7 +139,7 @@ same_decided b c same known (m ∷ ms) ok =
     let here : held b m ≡ held c m = ap (λ n. n == leading_bits m.prefix.len m.prefix.network) (same_lead b c m.prefix.len (λ v less. same v (omega arith))) in
     ap (λ x. decided (cond x m.gives known) ms b) here ∙ same_decided b c same (cond (held c m) m.gives known) ms ok.1
 
-module _ (fib : List Entry) (o : IsInOrder fib) (x : Hop) where
+module _ (fib : List Entry) (o : IsFib fib) (x : Hop) where
   abbrev whole : Tree
   whole = tree (hop_set fib x)
 

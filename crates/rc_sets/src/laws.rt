@@ -5,7 +5,7 @@ ghost use Rattle.rc_base.specs.Header.{IsHeader};
 ghost use Rattle.rc_base.specs.declared.header.Header.{Header};
 ghost use Rattle.rc_config.specs.declared.access_list.AccessList.{AccessList};
 ghost use Rattle.rc_config.specs.declared.access_list.AccessListLine.{AccessListLine};
-ghost use Rattle.rc_fib.specs.Entries.{IsInOrder};
+ghost use Rattle.rc_fib.specs.Entries.{IsFib};
 ghost use Rattle.rc_fib.specs.Forwarding.{resolved_hops};
 ghost use Rattle.rc_fib.specs.declared.entry.Entry.{Entry};
 ghost use Rattle.rc_filter.specs.Verdict.{first_action, matches, passes};
@@ -36,8 +36,8 @@ pub fn an_access_group_is_its_set()
 
 /// The set of a hop holds the headers of whose destination the hop is among the hops, and is a reduced tree.
 pub fn a_hop_is_its_set()
-    ensures hops { (table : List Entry) (hop : Hop) (h : Header) → IsInOrder table → IsHeader h → has (hop_set table hop) h ≡ list_any (same_hop hop) (resolved_hops table h.dst) }
-    ensures reduced { (table : List Entry) (hop : Hop) → IsInOrder table → IsReduced (tree (hop_set table hop)) }
+    ensures hops { (table : List Entry) (hop : Hop) (h : Header) → IsFib table → IsHeader h → has (hop_set table hop) h ≡ list_any (same_hop hop) (resolved_hops table h.dst) }
+    ensures reduced { (table : List Entry) (hop : Hop) → IsFib table → IsReduced (tree (hop_set table hop)) }
 {}
 
 /// The idle lines of an access list that sets tell are those that the headers tell which lines match, each with the lines that decide

@@ -5,8 +5,8 @@ use Rattle.std.proofs.lemmas.List.{reverse-append}
 use Rattle.std.proofs.lemmas.List.Elements.{Contains-append_cases, Contains-get_or}
 use Rattle.rc_base.specs.declared.header.Header.{Header}
 use Rattle.rc_base.specs.declared.position.Pos.{Pos}
-use Rattle.rc_walk.specs.declared.walk.Move.{Move}
-use Rattle.rc_walk.specs.Moves.{DataPlane}
+use Rattle.rc_moves.specs.declared.walk.Move.{Move}
+use Rattle.rc_moves.specs.Moves.{DataPlane}
 use Rattle.rc_walk.specs.Search.{AreAtMost, IsSearch, NothingEnds}
 use Rattle.rc_walk.specs.Searching.{Entry, leads_to, IsAllLooked, IsAtEnd, WaysBack, meets_by}
 use Rattle.rc_walk.proofs.ChoiceLaws.{reverse_more}

@@ -11,14 +11,14 @@ use Rattle.rc_config.specs.Lawful.{IsPosition}
 use Rattle.rc_config.specs.Members.{positions}
 use Rattle.rc_topology.specs.Links.{all_ids}
 use Rattle.rc_topology.specs.Ports.{links_of}
-use Rattle.rc_walk.proofs.BoundLaws.{few_steps}
+use Rattle.rc_moves.proofs.BoundLaws.{few_steps}
 use Rattle.rc_walk.proofs.ChoiceLaws.{alone, last_behind, or_none}
-use Rattle.rc_walk.proofs.NetworkLaws.{length-positions, some_router}
-use Rattle.rc_walk.proofs.PositionLaws.{same_position-Decides, same_position-laws}
-use Rattle.rc_walk.specs.Moves.{DataPlane, moves}
-use Rattle.rc_walk.specs.Walks.{AreMoves, GoesOnForEver, HasChain, IsLooping, MayStopAt, last_position, stands_in}
-use Rattle.rc_walk.specs.declared.walk.Move.TheVariants.{Next}
-use Rattle.rc_walk.specs.declared.walk.Stop.TheVariants.{Loop}
+use Rattle.rc_moves.proofs.NetworkLaws.{length-positions, some_router}
+use Rattle.rc_moves.proofs.PositionLaws.{same_position-Decides, same_position-laws}
+use Rattle.rc_moves.specs.Moves.{DataPlane, moves}
+use Rattle.rc_moves.specs.Walks.{AreMoves, GoesOnForEver, HasChain, IsLooping, MayStopAt, last_position, stands_in}
+use Rattle.rc_moves.specs.declared.walk.Move.TheVariants.{Next}
+use Rattle.rc_moves.specs.declared.walk.Stop.TheVariants.{Loop}
 
 module _ (plane : DataPlane) (h : Header) where
   -- ---- one move more

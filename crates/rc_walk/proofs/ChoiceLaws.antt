@@ -6,14 +6,14 @@ use Rattle.std.proofs.lemmas.Map.Keys.{IsDistinct-push}
 use Rattle.rc_base.specs.declared.header.Header.{Header}
 use Rattle.rc_base.specs.declared.position.Pos.{Pos}
 use Rattle.rc_base.specs.Positions.{same_position}
-use Rattle.rc_walk.specs.declared.walk.Move.{Move}
-use Rattle.rc_walk.specs.declared.walk.Move.TheVariants.{Next, End}
-use Rattle.rc_walk.specs.Moves.{DataPlane, moves}
+use Rattle.rc_moves.specs.declared.walk.Move.{Move}
+use Rattle.rc_moves.specs.declared.walk.Move.TheVariants.{Next, End}
+use Rattle.rc_moves.specs.Moves.{DataPlane, moves}
 use Rattle.rc_walk.specs.Search.{PrecedeBack, AreAtMost, Lead}
 use Rattle.rc_walk.specs.Searching.{position_of, leads_to}
 use Rattle.rc_walk.specs.ShortestWalks.{IsLess, ComeBefore, AreChoicesTo}
-use Rattle.rc_walk.specs.Walks.{stands_in, last_position, AreMoves}
-use Rattle.rc_walk.proofs.PositionLaws.{same_position-Decides, same_position-laws}
+use Rattle.rc_moves.specs.Walks.{stands_in, last_position, AreMoves}
+use Rattle.rc_moves.proofs.PositionLaws.{same_position-Decides, same_position-laws}
 
 pub reverse_more : {A : Type 0} (x : A) (xs : List A) → reverse (x ∷ xs) ≡ reverse xs ++ x ∷ []
 reverse_more x xs = reverse-append (x ∷ []) xs

@@ -8,11 +8,11 @@ use Rattle.rc_base.specs.declared.header.Header.{Header}
 use Rattle.rc_base.specs.declared.position.Pos.{Pos}
 use Rattle.rc_base.specs.Positions.{same_position}
 use Rattle.rc_topology.specs.Links.{all_ids}
-use Rattle.rc_walk.specs.declared.walk.Move.{Move}
-use Rattle.rc_walk.specs.declared.walk.Move.TheVariants.{Next, End}
-use Rattle.rc_walk.specs.Moves.{DataPlane, moves}
+use Rattle.rc_moves.specs.declared.walk.Move.{Move}
+use Rattle.rc_moves.specs.declared.walk.Move.TheVariants.{Next, End}
+use Rattle.rc_moves.specs.Moves.{DataPlane, moves}
 use Rattle.rc_walk.specs.ShortestWalks.{AreChoicesTo, ComeBefore, IsLess, Rest, fewest_from, first_of, last_by, rest_by, rest_of}
-use Rattle.rc_walk.proofs.BoundLaws.{few_steps}
+use Rattle.rc_moves.proofs.BoundLaws.{few_steps}
 use Rattle.rc_walk.proofs.ChoiceLaws.{chosen_moves, none_chosen}
 
 -- ---- the first of some moves that gives something

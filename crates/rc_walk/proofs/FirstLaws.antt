@@ -20,14 +20,15 @@ use Rattle.rc_route.specs.declared.route.Hop.{Hop}
 use Rattle.rc_route.specs.declared.route.Hop.TheVariants.{Null, Dev, Via}
 use Rattle.rc_fib.specs.declared.entry.Entry.{Entry}
 use Rattle.rc_fib.specs.Forwarding.{is_resolved, resolved_hops}
-use Rattle.rc_walk.specs.declared.walk.Move.{Move}
-use Rattle.rc_walk.specs.declared.walk.Move.TheVariants.{Next, End}
-use Rattle.rc_walk.specs.declared.walk.Stop.TheVariants.{At, Loop}
-use Rattle.rc_walk.specs.Moves.{DataPlane, HasResolvedHops, is_let_in, is_let_out, moves_by, moves_by_hops, moves_inside, moves_on_link, moves_onto_or, moves_out_of, moves_over, router_of, fib_of}
-use Rattle.rc_walk.specs.Walks.{stands_in, last_position, first_move, AreFirstMoves, IsFirstWalk, follow, first_walk_on, first_walk}
-use Rattle.rc_walk.proofs.PositionLaws.{same_position-laws}
+use Rattle.rc_moves.specs.declared.walk.Move.{Move}
+use Rattle.rc_moves.specs.declared.walk.Move.TheVariants.{Next, End}
+use Rattle.rc_moves.specs.declared.walk.Stop.TheVariants.{At, Loop}
+use Rattle.rc_moves.specs.Moves.{DataPlane, HasResolvedHops, is_let_in, is_let_out, moves_by, moves_by_hops, moves_inside, moves_on_link, moves_onto_or, moves_out_of, moves_over, router_of, fib_of}
+use Rattle.rc_walk.specs.FirstWalks.{first_move, AreFirstMoves, IsFirstWalk, follow, first_walk_on, first_walk}
+use Rattle.rc_moves.specs.Walks.{stands_in, last_position}
+use Rattle.rc_moves.proofs.PositionLaws.{same_position-laws}
 use Rattle.rc_walk.proofs.WalkLaws.{among_moves}
-use Rattle.rc_walk.proofs.BoundLaws.{few_steps}
+use Rattle.rc_moves.proofs.BoundLaws.{few_steps}
 
 -- ---- a position has a first move
 

@@ -5,13 +5,13 @@ use Rattle.std.specs.Prelude.{◌↔◌}
 use Rattle.rc_base.specs.declared.header.Header.{Header}
 use Rattle.rc_base.specs.declared.position.Pos.{Pos}
 use Rattle.rc_topology.specs.Links.{all_ids}
-use Rattle.rc_walk.specs.declared.walk.Move.{Move}
-use Rattle.rc_walk.specs.declared.walk.Move.TheVariants.{Next, End}
-use Rattle.rc_walk.specs.declared.walk.Stop.TheVariants.{Loop}
-use Rattle.rc_walk.specs.declared.walk.Walk.{Walk}
-use Rattle.rc_walk.specs.Moves.{DataPlane, moves}
+use Rattle.rc_moves.specs.declared.walk.Move.{Move}
+use Rattle.rc_moves.specs.declared.walk.Move.TheVariants.{Next, End}
+use Rattle.rc_moves.specs.declared.walk.Stop.TheVariants.{Loop}
+use Rattle.rc_moves.specs.declared.walk.Walk.{Walk}
+use Rattle.rc_moves.specs.Moves.{DataPlane, moves}
 use Rattle.rc_walk.specs.ShortestWalks.{AreChoicesTo, ComeBefore, Rest, fewest_from, stop_by}
-use Rattle.rc_walk.specs.Walks.{AreMoves, IsWalk, MayStopAt, last_position, stands_in, IsLooping}
+use Rattle.rc_moves.specs.Walks.{AreMoves, IsWalk, MayStopAt, last_position, stands_in, IsLooping}
 use Rattle.rc_walk.proofs.ChoiceLaws.{before_once, chosen_moves, same_choices}
 use Rattle.rc_walk.specs.Loops.{IsLoop, IsShortestLoop, NoLoop, is_back, shortest_loop}
 use Rattle.rc_walk.proofs.FewestLaws.{IsFirst, NoneSought, first_sought}

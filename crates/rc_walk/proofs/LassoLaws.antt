@@ -6,17 +6,17 @@ use Rattle.std.proofs.lemmas.Map.Keys.{IsDistinct-push}
 use Rattle.rc_base.specs.declared.header.Header.{Header}
 use Rattle.rc_base.specs.declared.position.Pos.{Pos}
 use Rattle.rc_base.specs.Positions.{same_position}
-use Rattle.rc_walk.specs.declared.walk.Move.TheVariants.{Next}
-use Rattle.rc_walk.specs.declared.walk.Stop.TheVariants.{Loop}
-use Rattle.rc_walk.specs.declared.walk.Walk.{Walk}
+use Rattle.rc_moves.specs.declared.walk.Move.TheVariants.{Next}
+use Rattle.rc_moves.specs.declared.walk.Stop.TheVariants.{Loop}
+use Rattle.rc_moves.specs.declared.walk.Walk.{Walk}
 use Rattle.rc_walk.specs.Loops.{IsLoop, IsShortestLoop, NoLoop}
-use Rattle.rc_walk.specs.Moves.{DataPlane, moves}
+use Rattle.rc_moves.specs.Moves.{DataPlane, moves}
 use Rattle.rc_walk.specs.Searching.{position_of}
-use Rattle.rc_walk.specs.Walks.{stands_in, last_position}
+use Rattle.rc_moves.specs.Walks.{stands_in, last_position}
 use Rattle.rc_walk.specs.Ways.{IsLasso, IsRound, IsUpTo}
 use Rattle.rc_walk.proofs.ChoiceLaws.{Along, along_to, alone, passed, turned_choices}
 use Rattle.rc_walk.proofs.OrderLaws.{no_longer}
-use Rattle.rc_walk.proofs.PositionLaws.{same_position-laws}
+use Rattle.rc_moves.proofs.PositionLaws.{same_position-laws}
 
 module _ (plane : DataPlane) (h : Header) (start : Pos) where
   -- a move onto a position on the way makes a lasso

@@ -1,9 +1,5 @@
-pub mod PositionLaws
 pub mod WalkLaws
-pub mod BoundLaws
 pub mod FirstLaws
-pub mod PlaneLaws
-pub mod NetworkLaws
 pub mod SearchLaws
 pub mod ChoiceLaws
 pub mod SearchState

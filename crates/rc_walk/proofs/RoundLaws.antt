@@ -6,15 +6,15 @@ use Rattle.std.proofs.lemmas.List.{take_all, take_more}
 use Rattle.rc_base.specs.declared.header.Header.{Header}
 use Rattle.rc_base.specs.declared.position.Pos.{Pos}
 use Rattle.rc_base.specs.Positions.{same_position}
-use Rattle.rc_walk.specs.declared.walk.Move.{Move}
-use Rattle.rc_walk.specs.declared.walk.Move.TheVariants.{Next, End}
-use Rattle.rc_walk.specs.Moves.{DataPlane, moves}
+use Rattle.rc_moves.specs.declared.walk.Move.{Move}
+use Rattle.rc_moves.specs.declared.walk.Move.TheVariants.{Next, End}
+use Rattle.rc_moves.specs.Moves.{DataPlane, moves}
 use Rattle.rc_walk.specs.Search.{AreAtMost, IsEnd, IsFirstEnd, NothingEnds}
 use Rattle.rc_walk.specs.Searching.{leads_to, meets_by}
 use Rattle.rc_walk.specs.ShortestWalks.{ComeBefore, IsLess}
-use Rattle.rc_walk.specs.Walks.{last_position, stands_in}
+use Rattle.rc_moves.specs.Walks.{last_position, stands_in}
 use Rattle.rc_walk.proofs.ChoiceLaws.{Along, along_to, next_at, turned_at_most}
-use Rattle.rc_walk.proofs.PositionLaws.{same_position-Decides, same_position-own}
+use Rattle.rc_moves.proofs.PositionLaws.{same_position-Decides, same_position-own}
 use Rattle.rc_walk.specs.Goals.{is_met, is_met_by}
 use Rattle.rc_walk.specs.Ways.{IsBest, IsFirstRound, IsLasso, IsOneOfFirst, IsRound, IsUpTo, LeadFrom, NoRound, itself}
 use Rattle.rc_walk.specs.declared.goal.Goal.TheVariants.{Onto}

@@ -15,16 +15,16 @@ use Rattle.rc_base.specs.declared.position.Pos.TheVariants.{Entering}
 use Rattle.rc_base.specs.Positions.{same_position}
 use Rattle.rc_topology.specs.Links.{all_ids}
 use Rattle.rc_walk.specs.declared.goal.Goal.{Goal}
-use Rattle.rc_walk.specs.declared.walk.Move.{Move}
-use Rattle.rc_walk.specs.declared.walk.Move.TheVariants.{Next, End}
-use Rattle.rc_walk.specs.Moves.{DataPlane, moves}
+use Rattle.rc_moves.specs.declared.walk.Move.{Move}
+use Rattle.rc_moves.specs.declared.walk.Move.TheVariants.{Next, End}
+use Rattle.rc_moves.specs.Moves.{DataPlane, moves}
 use Rattle.rc_walk.specs.Search.{IsSearch, IsFirstEnd, NothingEnds, Lead}
 use Rattle.rc_walk.specs.Goals.{is_met, is_met_by}
 use Rattle.rc_walk.specs.Searching.{position_of, by_with, found_with, from_with, AreLinked, Entry, IsLed, IsUnderWay, WaysBack, at_first, further, leads_to, meets_by}
-use Rattle.rc_walk.specs.Walks.{stands_in, last_position}
-use Rattle.rc_walk.proofs.BoundLaws.{entries, steps_enter}
+use Rattle.rc_moves.specs.Walks.{stands_in, last_position}
+use Rattle.rc_moves.proofs.BoundLaws.{entries, steps_enter}
 use Rattle.rc_walk.proofs.ChoiceLaws.{Along, reverse_more, next_at, in_moves}
-use Rattle.rc_walk.proofs.PositionLaws.{same_position-Decides, same_position-laws}
+use Rattle.rc_moves.proofs.PositionLaws.{same_position-Decides, same_position-laws}
 use Rattle.rc_walk.proofs.SearchLaws.{as_first, as_later, first_or_later, none_of_none, goes_on, waits, comes_to_hand, ends_here, nothing_ends, sets_out}
 
 -- ---- lists

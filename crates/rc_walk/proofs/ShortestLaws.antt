@@ -10,16 +10,16 @@ use Rattle.rc_base.specs.declared.position.Pos.{Pos}
 use Rattle.rc_base.specs.Positions.{is_among, same_position}
 use Rattle.rc_topology.specs.Links.{all_ids}
 use Rattle.rc_walk.specs.declared.goal.Goal.TheVariants.{Ending}
-use Rattle.rc_walk.specs.declared.walk.Move.{Move}
-use Rattle.rc_walk.specs.declared.walk.Move.TheVariants.{Next, End}
-use Rattle.rc_walk.specs.declared.walk.Stop.TheVariants.{At}
-use Rattle.rc_walk.specs.declared.walk.Walk.{Walk}
+use Rattle.rc_moves.specs.declared.walk.Move.{Move}
+use Rattle.rc_moves.specs.declared.walk.Move.TheVariants.{Next, End}
+use Rattle.rc_moves.specs.declared.walk.Stop.TheVariants.{At}
+use Rattle.rc_moves.specs.declared.walk.Walk.{Walk}
 use Rattle.rc_walk.specs.Goals.{is_met_by}
-use Rattle.rc_walk.specs.Moves.{DataPlane, moves}
+use Rattle.rc_moves.specs.Moves.{DataPlane, moves}
 use Rattle.rc_walk.specs.Search.{IsEnd, IsFirstEnd, NothingEnds}
 use Rattle.rc_walk.specs.Searching.{leads_to, meets_by, IsAllLooked, IsAtEnd, WaysBack}
 use Rattle.rc_walk.specs.ShortestWalks.{AreChoices, AreChoicesTo, ComeBefore, IsShortestWalk, IsWalkTo, NoWalkEnds, Rest, fewest_from, is_asked_end, shortest_walk, stop_by}
-use Rattle.rc_walk.specs.Walks.{last_position, IsWalk}
+use Rattle.rc_moves.specs.Walks.{last_position, IsWalk}
 use Rattle.rc_walk.proofs.ChoiceLaws.{Along, HasTurned, along_lead, along_to, before_once, chosen_moves, lead_along, passed_once, same_choices, turned_at_most, turned_choices}
 use Rattle.rc_walk.proofs.FewestLaws.{IsFirst, NoneSought, first_sought}
 use Rattle.rc_walk.proofs.OrderLaws.{no_longer}

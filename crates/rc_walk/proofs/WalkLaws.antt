@@ -4,13 +4,14 @@ use Rattle.std.specs.List.{IsDistinct, slice_get}
 use Rattle.rc_base.specs.declared.header.Header.{Header}
 use Rattle.rc_base.specs.declared.position.Pos.{Pos}
 use Rattle.rc_base.specs.Positions.{same_position}
-use Rattle.rc_walk.specs.declared.walk.Move.TheVariants.{Next, End}
-use Rattle.rc_walk.specs.declared.walk.Stop.{Stop}
-use Rattle.rc_walk.specs.declared.walk.Stop.TheVariants.{At, Loop}
-use Rattle.rc_walk.specs.declared.walk.Walk.{Walk}
-use Rattle.rc_walk.specs.Moves.{DataPlane, moves}
-use Rattle.rc_walk.specs.Walks.{stands_in, last_position, AreMoves, MayStopAt, IsWalk, first_move, AreFirstMoves, StopsAt, IsFirstWalk}
-use Rattle.rc_walk.proofs.PositionLaws.{apart_behind}
+use Rattle.rc_moves.specs.declared.walk.Move.TheVariants.{Next, End}
+use Rattle.rc_moves.specs.declared.walk.Stop.{Stop}
+use Rattle.rc_moves.specs.declared.walk.Stop.TheVariants.{At, Loop}
+use Rattle.rc_moves.specs.declared.walk.Walk.{Walk}
+use Rattle.rc_moves.specs.Moves.{DataPlane, moves}
+use Rattle.rc_walk.specs.FirstWalks.{first_move, AreFirstMoves, StopsAt, IsFirstWalk}
+use Rattle.rc_moves.specs.Walks.{stands_in, last_position, AreMoves, MayStopAt, IsWalk}
+use Rattle.rc_moves.proofs.PositionLaws.{apart_behind}
 
 pub in_first : {A : Type 0} (xs : List A) (x : A) → slice_get xs 0 ≡ Some x → Contains xs x
 in_first [] x e = absurd (cc)

@@ -1,8 +1,8 @@
 -- What a search looks for among the moves.
 use Rattle.std.specs.Prelude.{Bool, false, Option, Some, None}
 use Rattle.rc_base.specs.Positions.{same_position}
-use Rattle.rc_walk.specs.declared.walk.Move.{Move}
-use Rattle.rc_walk.specs.declared.walk.Move.TheVariants.{Next, End}
+use Rattle.rc_moves.specs.declared.walk.Move.{Move}
+use Rattle.rc_moves.specs.declared.walk.Move.TheVariants.{Next, End}
 use Rattle.rc_walk.specs.ShortestWalks.{is_asked_end}
 use Rattle.rc_walk.specs.declared.goal.Goal.{Goal}
 use Rattle.rc_walk.specs.declared.goal.Goal.TheVariants.{Ending, Onto, Nothing}

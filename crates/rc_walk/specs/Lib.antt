@@ -1,10 +1,6 @@
-pub mod Moves
-pub mod Walks
-pub mod Left
-pub mod Examples
-pub mod MoveRows
+pub mod FirstWalks
 pub mod WalkRows
-pub mod AccessListRows
+pub mod AccessListWalks
 pub mod ShortestWalks
 pub mod Search
 pub mod Goals

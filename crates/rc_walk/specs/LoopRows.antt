@@ -12,11 +12,11 @@ use Rattle.rc_filter.specs.Verdict.{matches, same_bits}
 use Rattle.rc_route.specs.declared.route.Hop.{Hop}
 use Rattle.rc_route.specs.declared.route.Hop.TheVariants.{Null}
 use Rattle.rc_topology.specs.Ports.{links_of}
-use Rattle.rc_walk.specs.declared.walk.Stop.TheVariants.{At, Loop}
-use Rattle.rc_walk.specs.declared.walk.Walk.{Walk}
-use Rattle.rc_walk.specs.Examples.{ip, to, port, with_address, gi0, gi1, gi2, network, host, with_lists, connected, static, via, plane, taken, pair, ring}
+use Rattle.rc_moves.specs.declared.walk.Stop.TheVariants.{At, Loop}
+use Rattle.rc_moves.specs.declared.walk.Walk.{Walk}
+use Rattle.rc_moves.specs.Examples.{ip, to, port, with_address, gi0, gi1, gi2, network, host, with_lists, connected, static, via, plane, taken, pair, ring}
 use Rattle.rc_walk.specs.Loops.{shortest_loop}
-use Rattle.rc_walk.specs.Moves.{DataPlane}
+use Rattle.rc_moves.specs.Moves.{DataPlane}
 use Rattle.rc_walk.specs.ShortestWalks.{shortest_walk}
 
 -- over these positions, and back onto one of them

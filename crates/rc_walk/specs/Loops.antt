@@ -4,13 +4,13 @@ use Rattle.std.specs.List.{IsDistinct}
 use Rattle.rc_base.specs.declared.header.Header.{Header}
 use Rattle.rc_base.specs.declared.position.Pos.{Pos}
 use Rattle.rc_base.specs.Positions.{same_position}
-use Rattle.rc_walk.specs.declared.walk.Move.{Move}
-use Rattle.rc_walk.specs.declared.walk.Move.TheVariants.{Next, End}
-use Rattle.rc_walk.specs.declared.walk.Stop.TheVariants.{Loop}
-use Rattle.rc_walk.specs.declared.walk.Walk.{Walk}
-use Rattle.rc_walk.specs.Moves.{DataPlane}
+use Rattle.rc_moves.specs.declared.walk.Move.{Move}
+use Rattle.rc_moves.specs.declared.walk.Move.TheVariants.{Next, End}
+use Rattle.rc_moves.specs.declared.walk.Stop.TheVariants.{Loop}
+use Rattle.rc_moves.specs.declared.walk.Walk.{Walk}
+use Rattle.rc_moves.specs.Moves.{DataPlane}
 use Rattle.rc_walk.specs.ShortestWalks.{AreChoicesTo, ComeBefore, shortest_by}
-use Rattle.rc_walk.specs.Walks.{stands_in}
+use Rattle.rc_moves.specs.Walks.{stands_in}
 
 -- a move onto a position that was walked
 abbrev pub is_back : List Pos → Move → Bool

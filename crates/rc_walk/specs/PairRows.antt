@@ -16,13 +16,13 @@ use Rattle.rc_route.specs.declared.route.Hop.{Hop}
 use Rattle.rc_route.specs.declared.route.Hop.TheVariants.{Null, Dev, Via}
 use Rattle.rc_topology.specs.Links.{is_own}
 use Rattle.rc_topology.specs.Ports.{links_of}
-use Rattle.rc_walk.specs.declared.walk.Move.TheVariants.{Next}
-use Rattle.rc_walk.specs.declared.walk.Stop.TheVariants.{At, Loop}
-use Rattle.rc_walk.specs.declared.walk.Walk.{Walk}
-use Rattle.rc_walk.specs.Examples.{ip, to, port, with_address, gi0, lo0, network, host, with_lists, static, via, plane}
-use Rattle.rc_walk.specs.Moves.{DataPlane, moves}
+use Rattle.rc_moves.specs.declared.walk.Move.TheVariants.{Next}
+use Rattle.rc_moves.specs.declared.walk.Stop.TheVariants.{At, Loop}
+use Rattle.rc_moves.specs.declared.walk.Walk.{Walk}
+use Rattle.rc_moves.specs.Examples.{ip, to, port, with_address, gi0, lo0, network, host, with_lists, static, via, plane}
+use Rattle.rc_moves.specs.Moves.{DataPlane, moves}
 use Rattle.rc_walk.specs.ShortestWalks.{shortest_walk}
-use Rattle.rc_walk.specs.Walks.{first_walk}
+use Rattle.rc_walk.specs.FirstWalks.{first_walk}
 
 -- 10.0.0.1 with the loopback 1.1.1.1/24, and on one link with it this interface of the second router, with the loopback 2.2.2.2/24
 abbrev net : Interface → Network

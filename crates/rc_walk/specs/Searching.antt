@@ -5,12 +5,12 @@ use Rattle.rc_base.specs.declared.header.Header.{Header}
 use Rattle.rc_base.specs.declared.position.Pos.{Pos}
 use Rattle.rc_base.specs.Positions.{same_position}
 use Rattle.rc_walk.specs.declared.goal.Goal.{Goal}
-use Rattle.rc_walk.specs.declared.walk.Move.{Move}
-use Rattle.rc_walk.specs.declared.walk.Move.TheVariants.{Next, End}
+use Rattle.rc_moves.specs.declared.walk.Move.{Move}
+use Rattle.rc_moves.specs.declared.walk.Move.TheVariants.{Next, End}
 use Rattle.rc_walk.specs.Goals.{is_met, is_met_by}
-use Rattle.rc_walk.specs.Moves.{DataPlane, moves}
+use Rattle.rc_moves.specs.Moves.{DataPlane, moves}
 use Rattle.rc_walk.specs.Search.{IsSearch}
-use Rattle.rc_walk.specs.Walks.{stands_in}
+use Rattle.rc_moves.specs.Walks.{stands_in}
 
 -- where a move leads on
 abbrev pub position_of : Option Move → Option Pos

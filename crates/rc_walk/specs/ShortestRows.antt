@@ -7,9 +7,9 @@ use Rattle.rc_config.specs.IfType.{type_of}
 use Rattle.rc_fib.specs.Forwarding.{hops_within}
 use Rattle.rc_route.specs.declared.route.Hop.TheVariants.{Null}
 use Rattle.rc_topology.specs.Ports.{links_of}
-use Rattle.rc_walk.specs.declared.walk.Stop.TheVariants.{At}
-use Rattle.rc_walk.specs.Examples.{ip, to, port, with_address, gi0, gi1, network, connected, static, via, plane, none, taken, pair}
-use Rattle.rc_walk.specs.Moves.{DataPlane}
+use Rattle.rc_moves.specs.declared.walk.Stop.TheVariants.{At}
+use Rattle.rc_moves.specs.Examples.{ip, to, port, with_address, gi0, gi1, network, connected, static, via, plane, none, taken, pair}
+use Rattle.rc_moves.specs.Moves.{DataPlane}
 use Rattle.rc_walk.specs.ShortestWalks.{ComeBefore, shortest_walk}
 
 -- an ending at the place itself

@@ -6,10 +6,10 @@ use Rattle.rc_base.specs.declared.position.Pos.TheVariants.{Own, Entering}
 use Rattle.rc_config.specs.IfType.{type_of}
 use Rattle.rc_fib.specs.Forwarding.{hops_within}
 use Rattle.rc_topology.specs.Ports.{links_of}
-use Rattle.rc_walk.specs.declared.walk.Stop.TheVariants.{At, Loop}
-use Rattle.rc_walk.specs.Examples.{ip, to, port, with_address, gi0, gi1, network, connected, static, via, plane, pair, ring}
-use Rattle.rc_walk.specs.Moves.{DataPlane}
-use Rattle.rc_walk.specs.Walks.{first_walk}
+use Rattle.rc_moves.specs.declared.walk.Stop.TheVariants.{At, Loop}
+use Rattle.rc_moves.specs.Examples.{ip, to, port, with_address, gi0, gi1, network, connected, static, via, plane, pair, ring}
+use Rattle.rc_moves.specs.Moves.{DataPlane}
+use Rattle.rc_walk.specs.FirstWalks.{first_walk}
 
 -- to a host behind the other router
 pub delivered_behind : first_walk pair (to (ip 10 0 1 9)) (Own 0) ≡ record { positions = Own 0 ∷ Entering (port 1 0) ∷ []; stop = At Delivered }

@@ -2,11 +2,11 @@
 use Rattle.std.specs.Prelude.{◌≡◌, ℕ, ◌<◌, ◌⊎◌, true, List, ◌∷◌, ◌++◌, Option, Some, MatchOption, reverse, slice_get}
 use Rattle.rc_base.specs.declared.header.Header.{Header}
 use Rattle.rc_base.specs.declared.position.Pos.{Pos}
-use Rattle.rc_walk.specs.Moves.{DataPlane}
+use Rattle.rc_moves.specs.Moves.{DataPlane}
 use Rattle.rc_walk.specs.Search.{Lead}
 use Rattle.rc_walk.specs.ShortestWalks.{ComeBefore, AreChoicesTo}
-use Rattle.rc_walk.specs.Walks.{stands_in}
-use Rattle.rc_walk.specs.declared.walk.Move.TheVariants.{Next}
+use Rattle.rc_moves.specs.Walks.{stands_in}
+use Rattle.rc_moves.specs.declared.walk.Move.TheVariants.{Next}
 use Rattle.rc_walk.specs.declared.way.Way.{Way}
 use Rattle.rc_walk.specs.Searching.{leads_to}
 

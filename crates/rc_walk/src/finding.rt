@@ -5,8 +5,8 @@ ghost use Rattle.rc_walk.specs.ShortestWalks.{IsShortestWalk, NoWalkEnds};
 use crate::goal::Goal;
 use crate::search::{Seeking, Sought, seek};
 use crate::way::Way;
-use crate::{Move, Plane, Stop, Walk};
 use rc_base::{Ends, Header, Items, Pos};
+use rc_moves::{Move, Plane, Stop, Walk};
 use std::alloc::{AllocError, Global};
 
 /// The shortest walk of a packet from a position to an ending that is asked for: of as many choices among the moves the walk

@@ -2,8 +2,8 @@
 ghost use Rattle.std.specs.Prelude.{◌≡◌};
 ghost use Rattle.rc_walk.specs.Goals.{is_met};
 
-use crate::Move;
 use rc_base::{Ends, Pos};
+use rc_moves::Move;
 
 /// What a search looks for among the moves.
 #[derive(Clone, Copy, Drop)]

@@ -1,7 +1,5 @@
 //! What holds of every walk.
 ghost use Rattle.std.specs.Prelude.{◌≡◌, ◌↔◌, ◌≤◌, List, MatchOption, length};
-ghost use Rattle.std.specs.Bool.{Decides};
-ghost use Rattle.rc_base.specs.Positions.{same_position};
 ghost use Rattle.rc_base.specs.declared.ending.Ends.{Ends};
 ghost use Rattle.rc_base.specs.declared.header.Header.{Header};
 ghost use Rattle.rc_base.specs.declared.position.Pos.{Pos};
@@ -10,12 +8,13 @@ ghost use Rattle.rc_config.specs.Lawful.{IsPosition};
 ghost use Rattle.rc_config.specs.Members.{positions};
 ghost use Rattle.rc_route.specs.declared.state.RouterState.{RouterState};
 ghost use Rattle.rc_topology.specs.Ports.{links_of};
-ghost use Rattle.rc_walk.specs.declared.walk.Stop.TheVariants.{Loop};
-ghost use Rattle.rc_walk.specs.declared.walk.Walk.{Walk};
+ghost use Rattle.rc_moves.specs.declared.walk.Stop.TheVariants.{Loop};
+ghost use Rattle.rc_moves.specs.declared.walk.Walk.{Walk};
 ghost use Rattle.rc_walk.specs.Loops.{IsShortestLoop, NoLoop, shortest_loop};
-ghost use Rattle.rc_walk.specs.Moves.{DataPlane, plane_of};
+ghost use Rattle.rc_moves.specs.Moves.{DataPlane, plane_of};
 ghost use Rattle.rc_walk.specs.ShortestWalks.{IsShortestWalk, NoWalkEnds, shortest_walk};
-ghost use Rattle.rc_walk.specs.Walks.{GoesOnForEver, HasChain, IsLooping, IsWalk, IsFirstWalk, first_walk};
+ghost use Rattle.rc_walk.specs.FirstWalks.{IsFirstWalk, first_walk};
+ghost use Rattle.rc_moves.specs.Walks.{GoesOnForEver, HasChain, IsLooping, IsWalk};
 
 /// A packet has one first walk from a position.
 pub fn one_first_walk()
@@ -31,16 +30,6 @@ pub fn first_walk_is_a_walk()
 /// From each position there is a first walk, and it can be computed.
 pub fn there_is_a_first_walk()
     ensures { (net : Network) (state : List RouterState) (h : Header) (q : Pos) → IsFirstWalk (plane_of net state) h q (first_walk (plane_of net state) h q) }
-{}
-
-/// A walk has at most as many positions as the network.
-pub fn walks_are_short()
-    ensures { (net : Network) (state : List RouterState) (h : Header) (q : Pos) (w : Walk) → IsPosition net q → IsWalk (plane_of net state) h q w → length w.positions ≤ length (positions net) }
-{}
-
-/// The test of two positions decides whether they are equal.
-pub fn positions_are_told_apart()
-    ensures { (p q : Pos) → Decides (same_position p q) (p ≡ q) }
 {}
 
 /// A packet has one shortest walk from a position to an ending that is asked for.

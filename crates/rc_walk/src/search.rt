@@ -1,16 +1,15 @@
 //! A search for a move, breadth first.
 ghost use Rattle.std.specs.Prelude.{◌≡◌, ℕ, ◌<◌, [], ◌∷◌, ◌++◌, List, length, reverse, if◌then◌else◌, IfOk, OnOk, MatchOption};
 ghost use Rattle.rc_base.specs.declared.position.Pos.{Pos as Place};
-ghost use Rattle.rc_walk.specs.Moves.{moves};
+ghost use Rattle.rc_moves.specs.Moves.{moves};
 ghost use Rattle.rc_walk.specs.Searching.{by_with, found_with, from_with, AreLinked, HasLooked, IsAllLooked, IsAtEnd, IsUnderWay, WaysBack};
-ghost use Rattle.rc_walk.specs.Walks.{stands_in};
+ghost use Rattle.rc_moves.specs.Walks.{stands_in};
 
 use crate::goal::Goal;
-use crate::steps::step;
 use crate::walked::Walked;
 use crate::way::Way;
-use crate::{Move, Plane};
 use rc_base::{Header, Pos};
+use rc_moves::{Move, Plane, step};
 use std::alloc::{AllocError, Global};
 
 /// What is sought: from a position a move that meets a goal.

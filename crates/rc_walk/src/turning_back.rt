@@ -6,13 +6,13 @@ ghost use Rattle.rc_walk.specs.Loops.{IsShortestLoop, NoLoop};
 ghost use Rattle.rc_walk.specs.Searching.{IsAllLooked, IsAtEnd};
 ghost use Rattle.rc_walk.specs.Ways.{IsBest, IsOneOfFirst, itself};
 ghost use Rattle.rc_walk.specs.declared.goal.Goal.TheVariants.{Nothing, Onto};
-ghost use Rattle.rc_walk.specs.Moves.{DataPlane};
+ghost use Rattle.rc_moves.specs.Moves.{DataPlane};
 
 use crate::goal::Goal;
 use crate::search::{Search, Seeking, Sought, seek};
 use crate::way::{Way, come_before};
-use crate::{Plane, Stop, Walk};
 use rc_base::{Header, Items, Pos};
+use rc_moves::{Plane, Stop, Walk};
 use std::alloc::{AllocError, Global};
 
 /// All positions that moves lead to from a position.

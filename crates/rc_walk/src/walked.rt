@@ -1,10 +1,10 @@
 //! The positions of a walk so far, or of a search.
 ghost use Rattle.std.specs.Prelude.{◌≡◌, ◌<◌, ◌∷◌, ◌++◌, [], length, not, slice_get, Some, if◌then◌else◌, IfOk};
-ghost use Rattle.rc_walk.specs.Walks.{stands_in};
+ghost use Rattle.rc_moves.specs.Walks.{stands_in};
 
-use crate::{Stop, Walk};
 use indexmap::IndexSet;
 use rc_base::{Items, Pos};
+use rc_moves::{Stop, Walk};
 use std::alloc::{AllocError, Global};
 use std::marker::Model;
 
@@ -42,7 +42,7 @@ impl Walked {
     }
 
     /// Puts a position at the end, and says so, where it isn't among the others already.
-    #[tactic(auto, using(crate::proofs::PositionLaws::same_any))]
+    #[tactic(auto, using(rc_moves::proofs::PositionLaws::same_any))]
     pub fn put(&mut self, position: &Pos) -> Result<bool, AllocError>
         ensures added { IfOk result (λ added. added ≡ not (stands_in self.old position.now)) }
         ensures positions { IfOk result (λ added. self.new ≡ (if added then self.old ++ position.now ∷ [] else self.old)) }

@@ -1,12 +1,21 @@
 //! First walks.
-ghost use Rattle.std.specs.Prelude.{IfOk};
-ghost use Rattle.rc_walk.specs.Walks.{IsFirstWalk};
+ghost use Rattle.std.specs.Prelude.{◌≡◌, IfOk, Some};
+ghost use Rattle.rc_walk.specs.FirstWalks.{IsFirstWalk, first_move};
 
-use crate::steps::first_move;
 use crate::walked::Walked;
-use crate::{Move, Plane, Stop, Walk};
 use rc_base::{Header, Pos};
+use rc_moves::{Move, Plane, Stop, Walk, step};
 use std::alloc::{AllocError, Global};
+
+/// The first move of a packet at a position: there is one, since each hop says where a packet goes.
+fn first_move(plane: &Plane<'_>, position: &Pos, header: &Header) -> Move
+    ensures { first_move plane.now header.now position.now ≡ Some result }
+{
+    // For the proof: the tables tell that each hop says where a packet goes.
+    let _fibs = plane.fibs();
+    let mut steps = step(plane, *position, header);
+    steps.next().unwrap()
+}
 
 /// The first walk of a packet from a position: the first move each time, no position twice, to its ending or up to the first
 /// repeat. It errs only where memory runs out.

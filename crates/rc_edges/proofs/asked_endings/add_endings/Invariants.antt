@@ -1,7 +1,7 @@
 use Rattle.std.proofs.Common.{◌++◌, Bool, List, filter, take}
 use Rattle.rc_base.specs.Positions.{is_among}
 use Rattle.rc_base.specs.declared.ending.Kind.{Kind}
-use Rattle.rc_edges.specs.Made.{IsMade}
+use Rattle.rc_router_sets.specs.Made.{IsMade}
 use Rattle.rc_base.specs.Endings.{all_kinds}
 use Rattle.rc_edges.specs.Prepare.{end_trees}
 use Rattle.rc_edges.specs.Stops.{AreKnown, sets_of}

@@ -1,12 +1,12 @@
 use Rattle.std.proofs.Common.{◌≡◌, ap, sym, ◌∙◌, subst, ◌+◌, ◌≤◌, Some, length, take, arith}
 use Rattle.std.specs.Prelude.{slice_get}
 use Rattle.rc_config.specs.Members.{positions}
-use Rattle.rc_edges.proofs.JoinLaws.{take-whole}
+use Rattle.rc_router_sets.proofs.JoinLaws.{take-whole}
 use Rattle.rc_edges.proofs.RowLaws.{row_like}
 use Rattle.rc_edges.proofs.TargetLaws.{all_given}
-use Rattle.rc_edges.specs.Edges.{edge, union}
+use Rattle.rc_router_sets.specs.Edges.{edge, union}
 use Rattle.rc_edges.specs.Given.{IsRow, given_by, joined}
-use Rattle.rc_edges.specs.Sent.{hops_at}
+use Rattle.rc_router_sets.specs.Sent.{hops_at}
 use Rattle.rc_places.specs.Places.{position_at}
 use Rattle.rc_trees.specs.Recipes.{tree}
 use Rattle.rc_edges.proofs.edges.add_edges.Goals as goal

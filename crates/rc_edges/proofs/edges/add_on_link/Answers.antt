@@ -1,7 +1,7 @@
 use Rattle.std.proofs.Common.{ap, sym, ◌∙◌, ◌∷◌, [], cond}
 use Rattle.rc_edges.proofs.GiveLaws.{get_front, get_second, gives_both_if, gives_like}
-use Rattle.rc_edges.proofs.StepLaws.{link_front, link_one, link_two, owned_part, rest_part}
-use Rattle.rc_edges.specs.Edges as spec
+use Rattle.rc_router_sets.proofs.StepLaws.{link_front, link_one, link_two, owned_part, rest_part}
+use Rattle.rc_router_sets.specs.Edges as spec
 use Rattle.rc_topology.specs.Links.{port_is}
 use Rattle.rc_topology.specs.Ports.{is_serial}
 use Rattle.rc_edges.proofs.edges.add_on_link.Goals as goal

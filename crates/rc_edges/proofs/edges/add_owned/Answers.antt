@@ -1,10 +1,10 @@
 use Rattle.std.proofs.Common.{refl, inl, [], ◌∷◌}
 use Rattle.rc_edges.proofs.GiveLaws.{get_each, gives_after, may_give}
-use Rattle.rc_edges.proofs.JoinLaws.{may_and, piece}
-use Rattle.rc_edges.proofs.MadeLaws.{made_kept, whenever}
-use Rattle.rc_edges.specs.Sent.{to_interface}
-use Rattle.rc_edges.specs.Steps.{step_at}
-use Rattle.rc_edges.specs.declared.hop_steps.Step.TheVariants.{Leaving}
+use Rattle.rc_router_sets.proofs.JoinLaws.{may_and, piece}
+use Rattle.rc_router_sets.proofs.MadeLaws.{made_kept, whenever}
+use Rattle.rc_router_sets.specs.Sent.{to_interface}
+use Rattle.rc_router_sets.specs.Steps.{step_at}
+use Rattle.rc_router_sets.specs.declared.hop_steps.Step.TheVariants.{Leaving}
 use Rattle.rc_trees.proofs.PartLaws.{and-first, and-second}
 use Rattle.rc_trees.specs.Recipes as recipes
 use Rattle.rc_trees.specs.Recipes.{tree}

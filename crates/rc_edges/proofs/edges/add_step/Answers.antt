@@ -1,7 +1,7 @@
 use Rattle.std.proofs.Common.{refl, inl, [], ◌∷◌}
 use Rattle.rc_edges.proofs.GiveLaws.{get_each, gives_after, may_give}
-use Rattle.rc_edges.proofs.MadeLaws.{made_kept, whenever}
-use Rattle.rc_edges.specs.Steps.{step_at}
+use Rattle.rc_router_sets.proofs.MadeLaws.{made_kept, whenever}
+use Rattle.rc_router_sets.specs.Steps.{step_at}
 use Rattle.rc_edges.proofs.edges.add_step.Goals as goal
 
 pub step_set-requires-clause-may : goal.step_set-requires-clause-may

@@ -2,12 +2,12 @@ use Rattle.std.proofs.Common.{ap, sym, ◌∙◌, subst, ◌+◌, ◌<◌, ◌++
 use Rattle.rc_base.specs.declared.position.Pos.TheVariants.{Entering}
 use Rattle.rc_config.specs.Lawful.{IsPosition}
 use Rattle.rc_config.specs.Members.{positions}
-use Rattle.rc_edges.proofs.JoinLaws.{take-whole}
+use Rattle.rc_router_sets.proofs.JoinLaws.{take-whole}
 use Rattle.rc_edges.proofs.RowLaws.{row_like}
 use Rattle.rc_edges.proofs.TargetLaws.{given_all, given_none, leads_is, may_get_it, step, target_led, target_once}
-use Rattle.rc_edges.specs.Edges.{towards, union}
+use Rattle.rc_router_sets.specs.Edges.{towards, union}
 use Rattle.rc_edges.specs.Given.{IsRow, given_by, given_onto, joined, with_sets}
-use Rattle.rc_edges.specs.Sent.{hops_at}
+use Rattle.rc_router_sets.specs.Sent.{hops_at}
 use Rattle.rc_places.proofs.PlaceLaws.{number_there}
 use Rattle.rc_places.specs.Places.{number_of}
 use Rattle.rc_trees.specs.Recipes.{parts, tree}

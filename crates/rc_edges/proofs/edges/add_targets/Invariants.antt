@@ -1,8 +1,8 @@
 use Rattle.std.proofs.Common.{length, take}
 use Rattle.rc_config.specs.Members.{positions}
 use Rattle.rc_edges.specs.Given.{IsRow, given_onto, joined}
-use Rattle.rc_edges.specs.Made.{IsMade}
-use Rattle.rc_edges.specs.Sent.{hops_at}
+use Rattle.rc_router_sets.specs.Made.{IsMade}
+use Rattle.rc_router_sets.specs.Sent.{hops_at}
 use Rattle.rc_nodes.specs.Seats.{Keeps}
 use Rattle.rc_edges.proofs.edges.add_targets.Given as goal
 

@@ -1,9 +1,9 @@
 use Rattle.std.proofs.Common.{◌≡◌, Bool, ap, sym, ◌∙◌, false, true, [], ◌∷◌}
 use Rattle.rc_edges.proofs.GiveLaws.{get_like, gives_like_if, towards_linked, towards_taker}
-use Rattle.rc_edges.specs.Edges.{onto_link, towards}
+use Rattle.rc_router_sets.specs.Edges.{onto_link, towards}
 use Rattle.rc_edges.specs.Given.{leads_onto}
-use Rattle.rc_edges.specs.Sent.{leaving}
-use Rattle.rc_edges.specs.Steps.{device}
+use Rattle.rc_router_sets.specs.Sent.{leaving}
+use Rattle.rc_router_sets.specs.Steps.{device}
 use Rattle.rc_route.specs.declared.route.Hop.{Hop}
 use Rattle.rc_route.specs.declared.route.Hop.TheVariants.{Via}
 use Rattle.rc_edges.proofs.edges.add_towards.Goals as goal

@@ -1,17 +1,17 @@
 use Rattle.std.proofs.Common.{sym, subst}
-use Rattle.rc_edges.proofs.JoinLaws.{known_like, may_like, may_and, operated, piece}
-use Rattle.rc_edges.proofs.MadeLaws.{made_kept, whenever}
-use Rattle.rc_edges.proofs.UseLaws.{accepted_is}
+use Rattle.rc_router_sets.proofs.JoinLaws.{known_like, may_like, may_and, operated, piece}
+use Rattle.rc_router_sets.proofs.MadeLaws.{made_kept, whenever}
+use Rattle.rc_router_sets.proofs.UseLaws.{accepted_is}
 use Rattle.rc_base.specs.declared.ending.Kind.TheVariants.{Accepted}
-use Rattle.rc_edges.specs.Endings.{end}
-use Rattle.rc_edges.specs.Sent.{let_in, to_router}
+use Rattle.rc_router_sets.specs.Endings.{end}
+use Rattle.rc_router_sets.specs.Sent.{let_in, to_router}
 use Rattle.rc_nodes.specs.Seats.{SeatKnows}
 use Rattle.rc_trees.proofs.PartLaws.{and-first, and-second}
 use Rattle.rc_trees.specs.Combine as trees
 use Rattle.rc_trees.specs.Recipes as recipes
 use Rattle.rc_trees.specs.Recipes.{parts, tree}
 use Rattle.rc_trees.specs.Trees.{HasNodes}
-use Rattle.rc_walk.specs.Moves.{router_of}
+use Rattle.rc_moves.specs.Moves.{router_of}
 use Rattle.rc_edges.proofs.endings.accepted_set.Goals as goal
 
 pub let_in_set-requires-clause-may : goal.let_in_set-requires-clause-may

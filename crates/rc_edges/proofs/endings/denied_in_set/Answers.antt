@@ -1,9 +1,9 @@
 use Rattle.std.proofs.Common.{sym, subst}
 use Rattle.rc_base.specs.declared.ending.Kind.TheVariants.{DeniedIn}
-use Rattle.rc_edges.proofs.JoinLaws.{known_like, may_like, may_minus, operated, piece}
-use Rattle.rc_edges.proofs.UseLaws.{denied_in_is}
-use Rattle.rc_edges.specs.Endings.{end}
-use Rattle.rc_edges.specs.Sent.{let_in}
+use Rattle.rc_router_sets.proofs.JoinLaws.{known_like, may_like, may_minus, operated, piece}
+use Rattle.rc_router_sets.proofs.UseLaws.{denied_in_is}
+use Rattle.rc_router_sets.specs.Endings.{end}
+use Rattle.rc_router_sets.specs.Sent.{let_in}
 use Rattle.rc_nodes.proofs.KnownLaws.{knows_always}
 use Rattle.rc_nodes.specs.Seats.{SeatKnows}
 use Rattle.rc_trees.proofs.PartLaws.{minus-second}

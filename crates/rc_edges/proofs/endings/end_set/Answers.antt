@@ -1,16 +1,16 @@
 use Rattle.std.proofs.Common.{sym}
 use Rattle.std.specs.List.{flat_map}
 use Rattle.rc_edges.proofs.EndLaws.{no_route_is, null_routed_is, over_hops_is}
-use Rattle.rc_edges.proofs.JoinLaws.{known_like, may_like}
-use Rattle.rc_edges.proofs.MadeLaws.{made_kept, whenever}
-use Rattle.rc_edges.specs.Edges.{union}
-use Rattle.rc_edges.specs.Endings.{end}
-use Rattle.rc_edges.specs.Ends.{ends_over}
-use Rattle.rc_edges.specs.Sent.{forwarded, hops_at, sent}
+use Rattle.rc_router_sets.proofs.JoinLaws.{known_like, may_like}
+use Rattle.rc_router_sets.proofs.MadeLaws.{made_kept, whenever}
+use Rattle.rc_router_sets.specs.Edges.{union}
+use Rattle.rc_router_sets.specs.Endings.{end}
+use Rattle.rc_router_sets.specs.Ends.{ends_over}
+use Rattle.rc_router_sets.specs.Sent.{forwarded, hops_at, sent}
 use Rattle.rc_route.specs.declared.route.Hop.TheVariants.{Null}
 use Rattle.rc_sets.specs.Regions.{hop_set}
 use Rattle.rc_trees.specs.Recipes.{without}
-use Rattle.rc_walk.specs.Moves.{fib_of, router_of}
+use Rattle.rc_moves.specs.Moves.{fib_of, router_of}
 use Rattle.rc_edges.proofs.endings.end_set.Goals as goal
 
 pub returns-in-DeniedIn-clause-made : goal.returns-in-DeniedIn-clause-made

@@ -1,13 +1,13 @@
 use Rattle.std.proofs.Common.{◌≡◌, ap, sym, ◌∙◌, subst, take, Some, slice_get, ◌≤◌, length, arith}
 use Rattle.rc_edges.proofs.EndLaws.{without_may, without_next, without-uses}
-use Rattle.rc_edges.proofs.JoinLaws.{may_minus, piece, take-whole}
-use Rattle.rc_edges.proofs.MadeLaws.{made_kept}
-use Rattle.rc_edges.specs.Sent.{forwarded, hops_at}
+use Rattle.rc_router_sets.proofs.JoinLaws.{may_minus, piece, take-whole}
+use Rattle.rc_router_sets.proofs.MadeLaws.{made_kept}
+use Rattle.rc_router_sets.specs.Sent.{forwarded, hops_at}
 use Rattle.rc_nodes.specs.Seats.{SeatKnows}
 use Rattle.rc_sets.specs.Regions.{hop_set}
 use Rattle.rc_trees.proofs.PartLaws.{minus-second}
 use Rattle.rc_trees.specs.Recipes.{minus, tree, without}
-use Rattle.rc_walk.specs.Moves.{fib_of, router_of}
+use Rattle.rc_moves.specs.Moves.{fib_of, router_of}
 use Rattle.rc_edges.proofs.endings.no_route_set.Goals as goal
 
 pub forwarded_set-requires-clause-may : goal.forwarded_set-requires-clause-may

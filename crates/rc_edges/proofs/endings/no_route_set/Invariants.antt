@@ -1,10 +1,10 @@
 use Rattle.std.proofs.Common.{take}
 use Rattle.rc_sets.specs.Regions.{hop_set}
 use Rattle.rc_trees.specs.Recipes.{tree, without}
-use Rattle.rc_edges.specs.Made.{IsMade}
-use Rattle.rc_edges.specs.Sent.{forwarded, hops_at}
+use Rattle.rc_router_sets.specs.Made.{IsMade}
+use Rattle.rc_router_sets.specs.Sent.{forwarded, hops_at}
 use Rattle.rc_nodes.specs.Seats.{Keeps, SeatKnows}
-use Rattle.rc_walk.specs.Moves.{fib_of, router_of}
+use Rattle.rc_moves.specs.Moves.{fib_of, router_of}
 use Rattle.rc_edges.proofs.endings.no_route_set.Given as goal
 
 abbrev pub invariant-loop-index : goal.invariant-loop-index

@@ -1,8 +1,8 @@
 use Rattle.std.proofs.Common.{ℕ, List, sym, subst}
-use Rattle.rc_edges.proofs.JoinLaws.{known_like, may_like, may_and, operated, piece}
-use Rattle.rc_edges.proofs.MadeLaws.{made_kept, whenever}
-use Rattle.rc_edges.proofs.UseLaws.{sent_is}
-use Rattle.rc_edges.specs.Sent.{forwarded, sent}
+use Rattle.rc_router_sets.proofs.JoinLaws.{known_like, may_like, may_and, operated, piece}
+use Rattle.rc_router_sets.proofs.MadeLaws.{made_kept, whenever}
+use Rattle.rc_router_sets.proofs.UseLaws.{sent_is}
+use Rattle.rc_router_sets.specs.Sent.{forwarded, sent}
 use Rattle.rc_route.specs.declared.route.Hop.TheVariants.{Null}
 use Rattle.rc_sets.specs.Regions.{hop_set}
 use Rattle.rc_sets.specs.Stretches.{AreStretches}
@@ -12,7 +12,7 @@ use Rattle.rc_trees.specs.Combine as trees
 use Rattle.rc_trees.specs.Recipes as recipes
 use Rattle.rc_trees.specs.Recipes.{parts, tree}
 use Rattle.rc_trees.specs.Trees.{HasNodes}
-use Rattle.rc_walk.specs.Moves.{fib_of, router_of}
+use Rattle.rc_moves.specs.Moves.{fib_of, router_of}
 use Rattle.rc_edges.proofs.endings.null_routed_set.Goals as goal
 
 pub forwarded_set-requires-clause-may : goal.forwarded_set-requires-clause-may

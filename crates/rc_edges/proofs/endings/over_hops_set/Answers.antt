@@ -2,9 +2,9 @@ use Rattle.std.proofs.Common.{◌≡◌, ap, sym, ◌∙◌, subst, Some, ◌+�
 use Rattle.std.specs.List.{flat_map, slice_get}
 use Rattle.rc_nodes.proofs.KnownLaws.{knows_never}
 use Rattle.rc_nodes.specs.Seats.{SeatKnows}
-use Rattle.rc_edges.specs.Edges.{union}
-use Rattle.rc_edges.specs.Ends.{ends_over}
-use Rattle.rc_edges.specs.Sent.{hops_at}
+use Rattle.rc_router_sets.specs.Edges.{union}
+use Rattle.rc_router_sets.specs.Ends.{ends_over}
+use Rattle.rc_router_sets.specs.Sent.{hops_at}
 use Rattle.rc_trees.specs.Recipes.{tree}
 use Rattle.rc_edges.proofs.endings.over_hops_set.Goals as goal
 

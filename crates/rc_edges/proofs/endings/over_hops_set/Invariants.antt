@@ -1,10 +1,10 @@
 use Rattle.std.proofs.Common.{take}
 use Rattle.std.specs.List.{flat_map}
-use Rattle.rc_edges.specs.Edges.{union}
-use Rattle.rc_edges.specs.Ends.{ends_over}
+use Rattle.rc_router_sets.specs.Edges.{union}
+use Rattle.rc_router_sets.specs.Ends.{ends_over}
 use Rattle.rc_trees.specs.Recipes.{tree}
-use Rattle.rc_edges.specs.Made.{IsMade}
-use Rattle.rc_edges.specs.Sent.{hops_at}
+use Rattle.rc_router_sets.specs.Made.{IsMade}
+use Rattle.rc_router_sets.specs.Sent.{hops_at}
 use Rattle.rc_nodes.specs.Seats.{Keeps, SeatKnows}
 use Rattle.rc_edges.proofs.endings.over_hops_set.Given as goal
 

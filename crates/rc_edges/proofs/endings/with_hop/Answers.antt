@@ -1,14 +1,14 @@
 use Rattle.std.proofs.Common.{subst}
 use Rattle.std.specs.List.{flat_map}
 use Rattle.rc_edges.proofs.EndLaws.{joined_may, more_may, nothing_more, one_more_is}
-use Rattle.rc_edges.proofs.JoinLaws.{known_like, may_or, operated}
-use Rattle.rc_edges.proofs.MadeLaws.{made_kept, whenever}
-use Rattle.rc_edges.proofs.StepLaws.{no_step, one_step}
+use Rattle.rc_router_sets.proofs.JoinLaws.{known_like, may_or, operated}
+use Rattle.rc_router_sets.proofs.MadeLaws.{made_kept, whenever}
+use Rattle.rc_router_sets.proofs.StepLaws.{no_step, one_step}
 use Rattle.std.proofs.Common.{take, ◌+◌}
-use Rattle.rc_edges.specs.Edges.{union}
-use Rattle.rc_edges.specs.Ends.{ends_over}
-use Rattle.rc_edges.specs.Sent.{hops_at}
-use Rattle.rc_edges.specs.Steps.{step_at}
+use Rattle.rc_router_sets.specs.Edges.{union}
+use Rattle.rc_router_sets.specs.Ends.{ends_over}
+use Rattle.rc_router_sets.specs.Sent.{hops_at}
+use Rattle.rc_router_sets.specs.Steps.{step_at}
 use Rattle.rc_nodes.specs.Seats.{SeatKnows}
 use Rattle.rc_trees.specs.Combine as trees
 use Rattle.rc_trees.specs.Recipes as recipes

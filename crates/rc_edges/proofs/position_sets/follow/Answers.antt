@@ -2,7 +2,7 @@ use Rattle.std.proofs.Common.{subst, ap, sym, ◌∙◌, length}
 use Rattle.rc_config.specs.Members.{positions}
 use Rattle.rc_edges.proofs.LikeLaws.{like}
 use Rattle.rc_edges.proofs.MakingLaws.{sending_like}
-use Rattle.rc_edges.specs.Edges.{edge}
+use Rattle.rc_router_sets.specs.Edges.{edge}
 use Rattle.rc_edges.specs.Given.{IsRow, joined, nothing}
 use Rattle.rc_edges.specs.Likes.{is_like}
 use Rattle.rc_places.specs.Places.{position_at}

@@ -1,6 +1,6 @@
 use Rattle.std.proofs.Common.{rules, ◌≡◌, ap, sym, ◌∙◌, subst, length, replicate, None}
 use Rattle.rc_edges.proofs.MakingLaws.{nothing_made}
-use Rattle.rc_edges.specs.HopParts.{no_parts}
+use Rattle.rc_router_sets.specs.HopParts.{no_parts}
 use Rattle.rc_sets.specs.Regions.{hops_in}
 use Rattle.rc_sets.specs.Stretches.{AreStretches}
 use Rattle.rc_edges.proofs.position_sets.made_of.Goals as goal

@@ -1,6 +1,6 @@
 use Rattle.std.proofs.Common.{sym, subst, MatchOption}
 use Rattle.std.specs.Bool.{Decides}
-use Rattle.rc_walk.specs.Moves.{plane_of}
+use Rattle.rc_moves.specs.Moves.{plane_of}
 use Rattle.rc_walk.specs.ShortestWalks.{IsShortestWalk, NoWalkEnds}
 use Rattle.rc_failures.specs.Failures.{Arrives}
 use Rattle.rc_failures.proofs.ArrivalLaws.{arrives_where_found}

@@ -4,7 +4,7 @@ use Rattle.rc_base.specs.declared.ending.Ends.{Ends}
 use Rattle.rc_base.specs.Positions.{is_among}
 use Rattle.rc_config.specs.Members.{positions}
 use Rattle.rc_edges.specs.Prepare.{ends_at}
-use Rattle.rc_edges.specs.Query.{query_nodes, reaching}
+use Rattle.rc_router_sets.specs.Query.{query_nodes, reaching}
 use Rattle.rc_jobs.specs.Flows.{KnowsFlows, flows_of, real_endings}
 use Rattle.rc_jobs.specs.Kept.{flows_kept}
 use Rattle.rc_nodes.specs.Seats.{SeatKnows}

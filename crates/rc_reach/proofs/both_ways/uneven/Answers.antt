@@ -1,5 +1,5 @@
 use Rattle.std.proofs.lemmas.Result.{IfOk-weaker}
-use Rattle.rc_edges.specs.Planes.{IsPlane}
+use Rattle.rc_router_sets.specs.Planes.{IsPlane}
 use Rattle.rc_nodes.specs.Seats.{SeatKnows}
 use Rattle.rc_trees.specs.Recipes.{tree}
 use Rattle.rc_trees.specs.Trees.{Tree}

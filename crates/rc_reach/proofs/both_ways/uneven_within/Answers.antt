@@ -10,7 +10,7 @@ use Rattle.rc_places.proofs.PlaceLaws.{few_positions}
 use Rattle.rc_reach.specs.Uneven.{arrivals, failures}
 use Rattle.rc_reach.proofs.JoinLaws.{place_rounds}
 use Rattle.rc_nodes.specs.Seats.{SeatView, Keeps}
-use Rattle.rc_reach.specs.Known.{MayCome}
+use Rattle.rc_reach.specs.Rounds.{MayCome}
 use Rattle.rc_reach.proofs.UnevenLaws.{arrivals_may, ended_so, may_prepare_all}
 use Rattle.rc_reach.proofs.both_ways.uneven_within.Goals as goal
 

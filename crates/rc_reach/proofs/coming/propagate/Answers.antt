@@ -1,10 +1,10 @@
 use Rattle.std.proofs.Common.{rules, length}
 use Rattle.rc_edges.specs.Prepare.{edge_at}
 use Rattle.rc_reach.specs.Rounds.{reached_at}
-use Rattle.rc_reach.proofs.ComingLaws.{first_after}
+use Rattle.rc_spread.proofs.ComingLaws.{first_after}
 use Rattle.rc_reach.proofs.JoinLaws.{place_next}
 use Rattle.rc_reach.proofs.PlaceJoins.{place_first}
-use Rattle.rc_reach.proofs.StillLaws.{gathered_still}
+use Rattle.rc_spread.proofs.StillLaws.{gathered_still}
 use Rattle.rc_reach.proofs.coming.propagate.Goals as goal
 
 pub all_rounds-requires-clause-first : goal.all_rounds-requires-clause-first

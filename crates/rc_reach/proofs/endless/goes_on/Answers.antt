@@ -1,7 +1,7 @@
 use Rattle.std.proofs.Common.{rules, length}
 use Rattle.rc_edges.specs.Prepare.{edge_at}
-use Rattle.rc_reach.proofs.GoingLaws.{all_go_on}
-use Rattle.rc_reach.proofs.StillLaws.{onward_still}
+use Rattle.rc_spread.proofs.GoingLaws.{all_go_on}
+use Rattle.rc_spread.proofs.StillLaws.{onward_still}
 use Rattle.rc_reach.proofs.endless.goes_on.Goals as goal
 
 pub all_rounds-work-requires-clause-first : goal.all_rounds-work-requires-clause-first

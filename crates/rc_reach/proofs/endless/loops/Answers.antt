@@ -1,7 +1,7 @@
 use Rattle.std.proofs.lemmas.Result.{IfOk-weaker}
-use Rattle.rc_walk.specs.Walks.{IsLooping}
+use Rattle.rc_moves.specs.Walks.{IsLooping}
 use Rattle.rc_reach.specs.Loops.{looping}
-use Rattle.rc_edges.specs.Planes.{IsPlane}
+use Rattle.rc_router_sets.specs.Planes.{IsPlane}
 use Rattle.rc_nodes.specs.Seats.{SeatKnows}
 use Rattle.rc_trees.specs.Recipes.{tree}
 use Rattle.rc_trees.specs.Trees.{Tree}

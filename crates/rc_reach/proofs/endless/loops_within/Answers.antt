@@ -3,7 +3,7 @@ use Rattle.std.proofs.lemmas.Result.{IfOk-at_ok}
 use Rattle.rc_base.specs.declared.ending.Ends.{Ends}
 use Rattle.rc_reach.specs.Loops.{looping}
 use Rattle.rc_config.specs.Members.{positions}
-use Rattle.rc_edges.specs.Planes.{IsPlane}
+use Rattle.rc_router_sets.specs.Planes.{IsPlane}
 use Rattle.rc_edges.specs.Prepare.{MayPrepare, edge_at, stops_at}
 use Rattle.rc_jobs.specs.Flows.{IsPrepared, KnowsEdges}
 use Rattle.rc_jobs.specs.declared.flow.Flow.{Flow}
@@ -11,13 +11,13 @@ use Rattle.rc_nodes.specs.Seats.{SeatKnows}
 use Rattle.rc_nodes.specs.declared.words.Ref.{Ref}
 use Rattle.rc_places.proofs.PlaceLaws.{few_positions, number_there}
 use Rattle.rc_places.specs.Places.{number_of}
-use Rattle.rc_reach.specs.Known.{KnowsShare}
+use Rattle.rc_spread.specs.Known.{KnowsShare}
 use Rattle.rc_trees.specs.Recipes.{tree}
-use Rattle.rc_reach.specs.Onward.{MayGoOn, onward, turned}
-use Rattle.rc_reach.specs.Turned.{AreOut, AreWithin}
+use Rattle.rc_spread.specs.Onward.{MayGoOn, onward, turned}
+use Rattle.rc_spread.specs.Turned.{AreOut, AreWithin}
 use Rattle.rc_reach.proofs.OnwardJoins.{may_go_on, place_loops}
-use Rattle.rc_reach.proofs.Rounding.{known_at}
-use Rattle.rc_reach.proofs.TurnLaws.{are_within, knows_out}
+use Rattle.rc_spread.proofs.Rounding.{known_at}
+use Rattle.rc_spread.proofs.TurnLaws.{are_within, knows_out}
 use Rattle.rc_reach.proofs.UnevenLaws.{may_prepare_loops}
 use Rattle.rc_reach.proofs.endless.loops_within.Goals as goal
 

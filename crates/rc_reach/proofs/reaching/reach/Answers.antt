@@ -4,8 +4,8 @@ use Rattle.std.proofs.lemmas.Result.{IfOk-weaker}
 use Rattle.rc_base.specs.Endings.{all_kinds}
 use Rattle.rc_base.specs.Positions.{is_among}
 use Rattle.rc_edges.proofs.PrepareLaws.{may_prepare}
-use Rattle.rc_edges.specs.Planes.{IsPlane}
-use Rattle.rc_edges.specs.Query.{reaching}
+use Rattle.rc_router_sets.specs.Planes.{IsPlane}
+use Rattle.rc_router_sets.specs.Query.{reaching}
 use Rattle.rc_nodes.proofs.KnownLaws.{knows_never}
 use Rattle.rc_nodes.specs.Seats.{SeatKnows}
 use Rattle.rc_reach.proofs.AskedLaws.{none_reaches, one_asked}

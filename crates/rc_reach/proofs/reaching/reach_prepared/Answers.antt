@@ -3,12 +3,13 @@ use Rattle.std.proofs.lemmas.Result.{IfOk-at_ok}
 use Rattle.rc_bdd.specs.Work.{IsCause}
 use Rattle.rc_config.specs.Members.{positions}
 use Rattle.rc_edges.specs.Prepare.{edge_at, ends_at, stops_at}
-use Rattle.rc_edges.specs.Query.{reaching}
+use Rattle.rc_router_sets.specs.Query.{reaching}
 use Rattle.rc_base.specs.Positions.{is_among}
 use Rattle.rc_jobs.specs.Flows.{IsPrepared, KnowsFlows, flows_of, real_endings}
 use Rattle.rc_nodes.specs.Seats.{SeatView, IsSeatOf, SeatKnows}
 use Rattle.rc_places.proofs.PlaceLaws.{few_positions}
-use Rattle.rc_reach.specs.Known.{KnowsShare, MayCome}
+use Rattle.rc_reach.specs.Rounds.{MayCome}
+use Rattle.rc_spread.specs.Known.{KnowsShare}
 use Rattle.rc_reach.specs.Rounds.{reached_at}
 use Rattle.rc_trees.specs.Recipes.{tree}
 use Rattle.rc_trees.specs.Trees.{Tree}

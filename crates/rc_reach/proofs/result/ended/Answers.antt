@@ -4,7 +4,7 @@ use Rattle.rc_base.specs.Positions.{is_among}
 use Rattle.rc_config.specs.Members.{positions}
 use Rattle.rc_edges.specs.Prepare.{ends_at}
 use Rattle.rc_jobs.specs.Flows.{KnowsFlows, flows_of, real_endings}
-use Rattle.rc_reach.specs.Known.{KnowsShare}
+use Rattle.rc_spread.specs.Known.{KnowsShare}
 use Rattle.rc_reach.specs.Rounds.{reached_at}
 use Rattle.rc_reach.proofs.result.ended.Goals as goal
 

@@ -3,12 +3,12 @@ use Rattle.std.proofs.lemmas.Result.{IfOk-weaker}
 use Rattle.rc_base.specs.Positions.{is_among}
 use Rattle.rc_config.specs.Members.{positions}
 use Rattle.rc_edges.specs.Prepare.{ends_at}
-use Rattle.rc_edges.specs.Query.{reaching}
+use Rattle.rc_router_sets.specs.Query.{reaching}
 use Rattle.rc_jobs.specs.Flows.{KnowsFlows, flows_of, real_endings}
 use Rattle.rc_nodes.specs.Seats.{SeatKnows}
 use Rattle.rc_reach.specs.Rounds.{reached_at}
 use Rattle.rc_trees.specs.Recipes.{tree}
-use Rattle.rc_reach.proofs.EndLaws.{ends_sent, ends_gathered, may_gather_ends}
+use Rattle.rc_spread.proofs.EndLaws.{ends_sent, ends_gathered, may_gather_ends}
 use Rattle.rc_reach.proofs.JoinLaws.{place_end, place_result}
 use Rattle.rc_reach.proofs.result.reaching_set.Goals as goal
 

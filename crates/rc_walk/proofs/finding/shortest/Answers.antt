@@ -1,6 +1,6 @@
 use Rattle.std.proofs.Common.{List, sym, subst, ◌∙◌}
 use Rattle.rc_base.specs.declared.position.Pos.{Pos}
-use Rattle.rc_walk.specs.declared.walk.Stop.TheVariants.{At}
+use Rattle.rc_moves.specs.declared.walk.Stop.TheVariants.{At}
 use Rattle.rc_walk.specs.ShortestWalks.{IsShortestWalk}
 use Rattle.rc_walk.proofs.ShortestLaws.{found_walk, none_found}
 use Rattle.rc_walk.proofs.finding.shortest.Goals as goal

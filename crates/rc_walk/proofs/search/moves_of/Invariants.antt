@@ -1,5 +1,5 @@
 use Rattle.std.proofs.Common.{◌≡◌, ◌++◌, length}
-use Rattle.rc_walk.specs.Moves.{moves}
+use Rattle.rc_moves.specs.Moves.{moves}
 use Rattle.rc_walk.proofs.search.moves_of.Given as goal
 
 abbrev pub invariant-loop-next : goal.invariant-loop-next

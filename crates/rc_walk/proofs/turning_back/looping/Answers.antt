@@ -1,6 +1,6 @@
 use Rattle.std.proofs.Common.{List, sym, subst, ◌∙◌}
 use Rattle.rc_base.specs.declared.position.Pos.{Pos}
-use Rattle.rc_walk.specs.declared.walk.Stop.TheVariants.{Loop}
+use Rattle.rc_moves.specs.declared.walk.Stop.TheVariants.{Loop}
 use Rattle.rc_walk.specs.Loops.{IsShortestLoop}
 use Rattle.rc_walk.proofs.AllLaws.{reaches_all}
 use Rattle.rc_walk.proofs.LassoLaws.{first_of_lassos, no_lasso}

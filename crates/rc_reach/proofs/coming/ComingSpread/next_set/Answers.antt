@@ -3,7 +3,7 @@ use Rattle.std.proofs.lemmas.Result.{IfOk-weaker}
 use Rattle.rc_nodes.specs.Seats.{SeatKnows}
 use Rattle.rc_jobs.specs.Flows.{no_header}
 use Rattle.rc_reach.specs.Rounds.{reached_at}
-use Rattle.rc_reach.proofs.ComingLaws.{are_sent, comes_next, may_gather}
+use Rattle.rc_spread.proofs.ComingLaws.{are_sent, comes_next, may_gather}
 use Rattle.rc_reach.proofs.JoinLaws.{place_next}
 use Rattle.rc_reach.proofs.coming.ComingSpread.next_set.Goals as goal
 

@@ -4,9 +4,9 @@ use Rattle.rc_edges.specs.Prepare.{edge_at}
 use Rattle.rc_jobs.specs.declared.flow.Flow.{Flow}
 use Rattle.rc_nodes.specs.Seats.{SeatKnows}
 use Rattle.rc_jobs.specs.Flows.{no_header}
-use Rattle.rc_reach.specs.Onward.{onward}
-use Rattle.rc_reach.proofs.GoingLaws.{flows_within, goes_on_next, may_onward, onward_sent, stays_as_it_is}
-use Rattle.rc_reach.proofs.Rounding.{known_at}
+use Rattle.rc_spread.specs.Onward.{onward}
+use Rattle.rc_spread.proofs.GoingLaws.{flows_within, goes_on_next, may_onward, onward_sent, stays_as_it_is}
+use Rattle.rc_spread.proofs.Rounding.{known_at}
 use Rattle.rc_reach.proofs.going_on.GoingOnSpread.next_set.Goals as goal
 
 pub are_settled-requires : goal.are_settled-requires

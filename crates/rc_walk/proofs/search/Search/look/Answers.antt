@@ -1,8 +1,8 @@
 use Rattle.std.proofs.Common.{rules, ◌≡◌, ◌+◌, ◌<◌, length, slice_index_or, ap, sym, ◌∙◌, arith}
 use Rattle.std.specs.List.{slice_get}
-use Rattle.rc_walk.specs.Moves.{moves}
+use Rattle.rc_moves.specs.Moves.{moves}
 use Rattle.rc_walk.specs.Searching.{Entry}
-use Rattle.rc_walk.specs.declared.walk.Move.{Move}
+use Rattle.rc_moves.specs.declared.walk.Move.{Move}
 use Rattle.rc_walk.proofs.SearchState.{get_read, here_is, looked_on}
 use Rattle.rc_walk.proofs.search.Search.look.Goals as goal
 

@@ -1,5 +1,5 @@
 use Rattle.std.proofs.Common.{◌≡◌}
-use Rattle.rc_walk.specs.Moves.{moves}
+use Rattle.rc_moves.specs.Moves.{moves}
 use Rattle.rc_walk.specs.Searching.{IsUnderWay}
 use Rattle.rc_walk.proofs.search.Search.look.Given as goal
 

@@ -1,5 +1,0 @@
-use Rattle.rc_edges.proofs.StepLaws.{rank}
-use Rattle.rc_edges.proofs.hop_sets.+step_set.Given as goal
-
-abbrev pub decreases-step_set : goal.decreases-step_set
-decreases-step_set g l = rank l.step

@@ -1,0 +1,4 @@
+pub mod PositionLaws
+pub mod BoundLaws
+pub mod NetworkLaws
+pub mod PlaneLaws

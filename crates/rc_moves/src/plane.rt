@@ -1,0 +1,122 @@
+//! What forwards packets.
+ghost use Rattle.std.specs.Prelude.{◌≡◌, All, IfOk, map, slice_get};
+ghost use Rattle.std.specs.Option.{option_copied};
+ghost use Rattle.rc_fib.specs.Entries.{IsFib};
+ghost use Rattle.rc_fib.specs.Forwarding.{resolved, resolved_hops};
+ghost use Rattle.rc_route.specs.Tables.{IsRouterState};
+ghost use Rattle.rc_route.specs.declared.state.RouterState.{RouterState as Known};
+ghost use Rattle.rc_topology.specs.Ports.{links_of};
+
+use rc_base::{Addr, Items, RouterId};
+use rc_config::Network;
+use rc_fib::Fib;
+use rc_route::{Hop, State};
+use rc_topology::Links;
+use std::alloc::{AllocError, Global};
+use std::collections::VecDeque;
+use std::marker::Model;
+
+/// A network, its links, and each router's table prepared for look-ups.
+pub struct Plane<'a> {
+    network: &'a Network,
+    links: &'a Links,
+    fibs: Items<Fib>,
+}
+
+/// By a function of its own, so that what holds a plane drops its tables by one call.
+impl<'a> Drop for Plane<'a> {
+    fn drop(self) {
+        let Plane {
+            network: _,
+            links: _,
+            fibs: _,
+        } = self;
+    }
+}
+
+impl<'a> Model for Plane<'a> {
+    ghost use Rattle.rc_moves.specs.Moves.{DataPlane, ArePrepared};
+
+    ghost Value = { DataPlane };
+
+    ghost view = { λ p. record { network = p.network.now; links = p.links.now; fibs = p.fibs } };
+
+    ghost invariant = { λ p. ArePrepared p.fibs };
+}
+
+/// The tables of a state, prepared for look-ups.
+fn fibs_of(alloc: Global, state: State) -> Result<Items<Fib>, AllocError>
+    requires { All IsRouterState state }
+    ensures value { IfOk result (λ fibs. fibs ≡ map (λ (s : Known). resolved s.table) state) }
+    ensures in_order { IfOk result (All IsFib) }
+{
+    let mut fibs = Vec::with_capacity(alloc, state.len())?;
+    let mut left = VecDeque::from(state.into_vec());
+    while let Some(known) = left.pop_front() {
+        fibs.push(Fib::from_table(alloc, known.into_table())?)?;
+    }
+    Ok(Items::from_vec(fibs))
+}
+
+impl<'a> Plane<'a> {
+    ghost use Rattle.rc_moves.specs.Moves.{ArePrepared, plane_of, fib_of};
+
+    /// A network in a state, whose tables it takes over, with the network's links. It errs only where memory runs out.
+    pub fn of(
+        alloc: Global,
+        net: &'a Network,
+        links: &'a Links,
+        state: State,
+    ) -> Result<Plane<'a>, AllocError>
+        requires state { All IsRouterState state }
+        requires links { links.now ≡ links_of net.now }
+        ensures { IfOk result (λ plane. plane ≡ plane_of net.now state) }
+    {
+        let fibs = fibs_of(alloc, state)?;
+        Ok(Plane {
+            network: net,
+            links,
+            fibs,
+        })
+    }
+
+    /// The network.
+    pub fn network(&self) -> &Network
+        ensures { result.now ≡ self.now.network }
+    {
+        self.network
+    }
+
+    /// Its links.
+    pub fn links(&self) -> &Links
+        ensures { result.now ≡ self.now.links }
+    {
+        self.links
+    }
+
+    /// The prepared tables of all routers: each is in order, and each of their hops says where a packet goes.
+    pub fn fibs(&self) -> &[Fib]
+        ensures value { result.now ≡ self.now.fibs }
+        ensures prepared { ArePrepared self.now.fibs }
+    {
+        self.fibs.as_slice()
+    }
+
+    /// The prepared table of a router, or `None` exactly where the network has none of this index.
+    pub fn fib(&self, router: RouterId) -> Option<&Fib>
+        ensures { option_copied result ≡ slice_get self.now.fibs router }
+    {
+        self.fibs.as_slice().get(router.index())
+    }
+
+    /// The hops of an address by the table of a router.
+    pub(crate) fn hops(&self, router: RouterId, addr: Addr) -> &[Hop]
+        ensures { result.now ≡ resolved_hops (fib_of self.now router) addr }
+    {
+        let fib = self.fib(router);
+        match fib {
+            Some(fib) => fib.hops(addr),
+            None => &[],
+        }
+    }
+}

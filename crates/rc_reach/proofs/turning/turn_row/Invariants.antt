@@ -1,6 +1,0 @@
-use Rattle.std.proofs.Common.{take}
-use Rattle.rc_reach.specs.Turned.{AreTurned}
-use Rattle.rc_reach.proofs.turning.turn_row.Given as goal
-
-abbrev pub invariant-loop-flow : goal.invariant-loop-flow
-invariant-loop-flow l = AreTurned l.fn.out.items (take l.flow-index l.flows) l.onto l.out.items

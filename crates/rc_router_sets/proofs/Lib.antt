@@ -1,0 +1,19 @@
+pub mod SentLaws
+mod Tests
+pub mod MemberLaws
+pub mod HopMoveLaws
+pub mod EdgeLaws
+pub mod EndingLaws
+pub mod MoveLaws
+pub mod PlaneLaws
+pub mod ReducedLaws
+pub mod QueryLaws
+pub mod PositionLaws
+pub mod ReachedLaws
+pub mod ResultLaws
+pub mod JoinLaws
+pub mod PieceLaws
+pub mod MadeLaws
+pub mod GroupLaws
+pub mod UseLaws
+pub mod StepLaws

@@ -1,0 +1,11 @@
+pub mod Sent
+pub mod Edges
+pub mod Endings
+pub mod Planes
+pub mod MoveTests
+pub mod Query
+pub mod Steps
+pub mod HopParts
+pub mod Made
+pub mod Ends
+pub mod Rows

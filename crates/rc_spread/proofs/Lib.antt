@@ -1,0 +1,10 @@
+pub mod PositionLaws
+pub mod GatherLaws
+pub mod StillLaws
+pub mod Gathering
+pub mod RealLaws
+pub mod Rounding
+pub mod ComingLaws
+pub mod EndLaws
+pub mod GoingLaws
+pub mod TurnLaws

@@ -1,0 +1,5 @@
+pub mod Gathered
+pub mod Known
+pub mod Kept
+pub mod Onward
+pub mod Turned

@@ -1,0 +1,37 @@
+//! What comes together at one position.
+ghost use Rattle.std.specs.Prelude.{◌≡◌, ℕ, List, IfOk, IfErr};
+ghost use Rattle.rc_bdd.specs.Work.{IsCause};
+ghost use Rattle.rc_nodes.specs.Seats.{IsSeatOf, Keeps, SeatKnows};
+ghost use Rattle.rc_spread.specs.Known.{AreSent, MayGatherRefs};
+ghost use Rattle.rc_spread.specs.Gathered.{gathered};
+ghost use Rattle.rc_trees.specs.Trees.{Tree};
+
+use rc_bdd::{SetError, Work};
+use rc_jobs::Flow;
+use rc_nodes::{May, Nodes, Ref};
+
+/// What stands somewhere, with all that positions with something fresh send there.
+pub fn gathered_set<M: May>(
+    work: &mut Work<M>,
+    nodes: &Nodes<M>,
+    sets: &[Ref],
+    fresh: &[bool],
+    flows: &[Flow],
+    here: Ref,
+) -> Result<Ref, SetError>
+    requires seat { IsSeatOf nodes.now work.old }
+    requires may { MayGatherRefs nodes.now work.old sets.now fresh.now flows.now here.index }
+    ensures seat { IsSeatOf nodes.now work.new }
+    ensures keeps { Keeps work.old work.new }
+    ensures made { IfOk result (λ r. (of : ℕ → Tree) (start : Tree) (through : List (ℕ × Tree)) → AreSent work.old sets.now fresh.now flows.now here.index of start through → SeatKnows work.new r.index (gathered of start through)) }
+    ensures cause { IfErr result (IsCause nodes.now work.new) }
+{
+    let mut set = here;
+    for flow in flows {
+        if fresh[flow.from] {
+            let passed = work.and(nodes, sets[flow.from], flow.set)?;
+            set = work.or(nodes, set, passed)?;
+        }
+    }
+    Ok(set)
+}

@@ -1,0 +1,23 @@
+//! Sets of headers at positions that are made in rounds, each round from the sets of the one before, by workers at once.
+//!
+//! It stands on the workers of rc_jobs, and knows of positions only their numbers. The layer above says how one set is made (`Spread`), and
+//! knows that all sets are those after as many rounds as there are positions, for every number of workers; it may know that what comes
+//! together at a position is what stood there with all that is sent.
+//!
+//! The crate goes one way: what comes together at a position (`gather`); sets that are made in rounds (`spread`), a round of them
+//! (`round`), what stands before the first one and what a round changed (`first`), and all rounds (`rounds`); and the flows out of
+//! positions, of those into them (`turning`).
+#![tactic(auto)]
+
+mod first;
+mod gather;
+mod round;
+mod rounds;
+mod spread;
+mod turning;
+
+pub use first::{first_fresh, first_sets};
+pub use gather::gathered_set;
+pub use rounds::all_rounds;
+pub use spread::Spread;
+pub use turning::flows_out;

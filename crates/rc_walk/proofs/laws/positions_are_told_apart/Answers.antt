@@ -1,5 +1,0 @@
-use Rattle.rc_walk.proofs.PositionLaws.{same_position-Decides}
-use Rattle.rc_walk.proofs.laws.positions_are_told_apart.Goals as goal
-
-pub returns : goal.returns
-returns c = same_position-Decides
