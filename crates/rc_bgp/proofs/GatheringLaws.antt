@@ -1,5 +1,5 @@
 -- Of all candidates of a router, gathered path by path, those of a prefix are the candidates for it.
-use Rattle.std.proofs.Common.{refl, ◌≡◌, ap, sym, ◌∙◌, subst, ℕ, ◌+◌, ◌<◌, length, get_or, drop, append_assoc, Bool, true, false, not, cond, ◌&&◌, ◌||◌, List, [], ◌∷◌, ◌++◌, map, filter, append-nil, All, Option, Some, None, option_and_then}
+use Rattle.std.proofs.Common.{refl, ◌≡◌, ap, sym, ◌∙◌, ℕ, ◌+◌, ◌<◌, length, get_or, drop, append_assoc, Bool, true, false, not, cond, ◌&&◌, ◌||◌, List, [], ◌∷◌, ◌++◌, map, filter, append-nil, All, Option, Some, None, option_and_then}
 use Rattle.std.specs.List.{AllByRecursion, cons_option, filter_map, find, flat_map, fold, list_any}
 use Rattle.std.specs.List.Sorted.{IsStrictlySortedBy}
 use Rattle.std.specs.Option.{option_map, option_to_list}

@@ -11,5 +11,6 @@ mod PartLaws
 mod ListedLaws
 mod AlikeLaws
 mod GatheringLaws
+mod TellingLaws
 mod UpLaws
 mod InterfaceLaws

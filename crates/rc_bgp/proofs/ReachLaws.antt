@@ -1,13 +1,11 @@
--- The longest prefix of an address as a scan, and resolving level by level.
-use Rattle.std.proofs.Common.{refl, ◌≡◌, ap, sym, ◌∙◌, ℕ, suc, ◌+◌, ◌-◌, ◌<◌, ◌≤◌, Bool, true, false, cond, ◌||◌, ◌&&◌, List, [], ◌∷◌, ◌++◌, map, append-nil, Option, Some, None, nat_lt, arith}
-use Rattle.std.specs.List.{filter, flat_map, list_any, reduce, cons_option}
+-- Resolving level by level.
+use Rattle.std.proofs.Common.{refl, ◌≡◌, ap, sym, ◌∙◌, ℕ, suc, ◌+◌, ◌-◌, ◌<◌, ◌≤◌, Bool, true, false, cond, ◌||◌, List, [], ◌∷◌, map, Option, Some, None, arith}
+use Rattle.std.specs.List.{flat_map, list_any, cons_option}
 use Rattle.std.specs.Option.{option_map, option_map_or}
 use Rattle.std.specs.Ordering.{nat_cmp}
 use Rattle.std.specs.FinMap.{nat_cmp-IsAntisymmetric}
-use Rattle.std.proofs.lemmas.List.Sums.{fold-append}
 use Rattle.std.proofs.lemmas.List.Folds.{list_any-append}
 use Rattle.rc_base.specs.Lists.{in_order}
-use Rattle.rc_base.specs.Prefix.{contains}
 use Rattle.rc_base.proofs.OrderedLaws.{any-in_order}
 use Rattle.rc_base.proofs.FirstSeenLaws.{any-first_seen}
 use Rattle.rc_route.specs.Hops.{same_hop}
@@ -17,44 +15,8 @@ use Rattle.rc_route.specs.declared.route.Hop.TheVariants.{Null, Dev, Via}
 use Rattle.rc_route.specs.declared.route.Route.{Route}
 use Rattle.rc_fib.specs.Entries.{gateway_of}
 use Rattle.rc_fib.specs.Forwarding.{has_interface, hops_within, longest, resolve_all, resolve_hop, with_gateway}
-use Rattle.rc_bgp.specs.Levels.{longer, is_direct, gateways, gateways_of}
+use Rattle.rc_bgp.specs.Levels.{is_direct, gateways, gateways_of}
 use Rattle.rc_bgp.specs.Reaching.{metric_to, reaches}
-
--- ---- the longest as a scan
-
-filter_append : {X : Type 0} (q : X → Bool) (xs ys : List X) → filter q (xs ++ ys) ≡ filter q xs ++ filter q ys
-filter_append q [] ys = refl
-filter_append {X} q (x ∷ xs) ys = by (q x) (filter_append q xs ys)
-  where
-    by : (b : Bool) → filter q (xs ++ ys) ≡ filter q xs ++ filter q ys → cond b (x ∷ filter q (xs ++ ys)) (filter q (xs ++ ys)) ≡ cond b (x ∷ filter q xs) (filter q xs) ++ filter q ys
-    by true e = ap (λ t. x ∷ t) e
-    by false e = e
-
-abbrev pick : Route → Route → Route
-pick x y = cond (nat_lt x.prefix.len y.prefix.len) y x
-
-reduce_more : (xs : List Route) (y : Route) → reduce pick (xs ++ y ∷ []) ≡ Some (option_map_or (λ x. pick x y) (reduce pick xs) y)
-reduce_more [] y = refl
-reduce_more (x ∷ xs) y = ap Some (fold-append pick x xs (y ∷ []))
-
--- one route more
-pub longest_more : (table : List Route) (r : Route) (a : ℕ) → longest (table ++ r ∷ []) a ≡ longer a (longest table a) r
-longest_more table r a = ap (reduce pick) (filter_append (λ (x : Route). contains x.prefix a) table (r ∷ [])) ∙ by (contains r.prefix a)
-  where
-    left : List Route
-    left = filter (λ (x : Route). contains x.prefix a) table
-
-    chosen : (o : Option Route) → Some (option_map_or (λ x. pick x r) o r) ≡ cond (option_map_or (λ (f : Route). nat_lt f.prefix.len r.prefix.len) o true) (Some r) o
-    chosen None = refl
-    chosen (Some x) = at (nat_lt x.prefix.len r.prefix.len)
-      where
-        at : (b : Bool) → Some (cond b r x) ≡ cond b (Some r) (Some x)
-        at true = refl
-        at false = refl
-
-    by : (b : Bool) → reduce pick (left ++ cond b (r ∷ []) []) ≡ cond (b && option_map_or (λ (f : Route). nat_lt f.prefix.len r.prefix.len) (reduce pick left) true) (Some r) (reduce pick left)
-    by true = reduce_more left r ∙ chosen (reduce pick left)
-    by false = ap (reduce pick) (append-nil left)
 
 -- ---- level by level
 

@@ -23,6 +23,7 @@ use Rattle.rc_bgp_session.specs.Nets.{ip, subnet, gigabit, gigabit_1, on, peer, 
 use Rattle.rc_bgp.specs.Originating.{by_networks}
 use Rattle.rc_bgp.specs.Sessions.{configured_sessions, sessions}
 use Rattle.rc_bgp.specs.Speakers.{speakers}
+use Rattle.rc_bgp.specs.Telling.{offered, told_inside}
 use Rattle.rc_bgp_session.specs.declared.session.Session.{Session}
 
 -- ---- `network 10.0.9.0 mask 255.255.255.0`
@@ -141,6 +142,17 @@ second_hears = refl
 pub third_does_not : best_paths chain chain_sessions (chain_state (heard_inside ∷ [])) 2 ≡ []
 unfolding best_paths hops_within multi_places
 third_does_not = refl
+
+-- R1 may tell its own path inside, and R2 none, since an internal peer told it
+pub told_once_inside : told_inside chain_sessions (chain_state (heard_inside ∷ [])) ≡ Some (map alone (ninth 0 ByNetwork ∷ [])) ∷ Some [] ∷ Some [] ∷ []
+told_once_inside = refl
+
+-- of routers without internal peers nothing is listed, and all their paths are gone through
+pub none_told_inside : told_inside one_session (state []) ≡ None ∷ None ∷ []
+none_told_inside = refl
+
+pub all_offered_outside : offered (None ∷ None ∷ []) (state []) (external 0 (ip 12 1) 1 (ip 12 2)) ≡ map alone (ninth 0 ByNetwork ∷ [])
+all_offered_outside = refl
 
 -- ---- candidates stand by prefix: what the router originates first, then by sender
 

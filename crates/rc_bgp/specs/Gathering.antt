@@ -1,5 +1,5 @@
 -- The candidates of a router, path by path as its senders tell them.
-use Rattle.std.specs.Prelude.{ℕ, Bool, not, ◌&&◌, ◌||◌, if◌then◌else◌, List, [], ◌∷◌, ◌++◌, Option, Some, None, option_and_then}
+use Rattle.std.specs.Prelude.{Bool, not, ◌&&◌, ◌||◌, if◌then◌else◌, List, [], ◌∷◌, ◌++◌, Option, Some, None, option_and_then}
 use Rattle.std.specs.List.{filter_map, flat_map, fold}
 use Rattle.std.specs.Option.{option_to_list}
 use Rattle.rc_base.specs.Groups.{with_thing}

@@ -1,19 +1,11 @@
 -- Resolving an address level by level: the address, then the gateways of its route, then those of theirs.
-use Rattle.std.specs.Prelude.{ℕ, nat_lt, Bool, true, ◌&&◌, if◌then◌else◌, List, [], Option, Some}
+use Rattle.std.specs.Prelude.{ℕ, Bool, List, []}
 use Rattle.std.specs.List.{filter_map, list_any}
 use Rattle.std.specs.Option.{option_map_or}
-use Rattle.rc_base.specs.Prefix.{contains}
 use Rattle.rc_fib.specs.Entries.{gateway_of}
 use Rattle.rc_fib.specs.Forwarding.{has_interface, longest}
 use Rattle.rc_route.specs.declared.route.Hop.{Hop}
 use Rattle.rc_route.specs.declared.route.Route.{Route}
-
--- a route holds the address, and is longer than the one that was found
-abbrev pub is_longer : Route → ℕ → Option Route → Bool
-is_longer r a found = contains r.prefix a && option_map_or (λ (f : Route). nat_lt f.prefix.len r.prefix.len) found true
-
-abbrev pub longer : ℕ → Option Route → Route → Option Route
-longer a found r = if is_longer r a found then Some r else found
 
 -- the hops of the route of an address
 abbrev pub first_hops : List Route → ℕ → List Hop

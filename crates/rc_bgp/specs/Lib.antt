@@ -9,6 +9,7 @@ pub mod Redistributing
 pub mod AllOriginated
 pub mod Maximum
 pub mod Candidates
+pub mod Telling
 pub mod Gathering
 pub mod Learning
 pub mod Updating

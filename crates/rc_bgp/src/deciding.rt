@@ -7,6 +7,7 @@ ghost use Rattle.rc_base.specs.Prefix.{prefix_cmp};
 ghost use Rattle.rc_bgp_decide.specs.Decision.{best_path};
 ghost use Rattle.rc_route.specs.Tables.{IsBestList, IsPathList, IsRouterState};
 ghost use Rattle.rc_bgp.specs.Candidates as spec;
+ghost use Rattle.rc_bgp.specs.Telling.{AreListed, told_inside};
 
 use crate::all_originated::own_paths;
 use crate::further::further;
@@ -17,7 +18,7 @@ use crate::originating::{insert, listed};
 use crate::resolver::Resolver;
 use crate::router_state::{paths_of, table_of};
 use crate::up::{received, up_sessions};
-use crate::{ConfiguredSessions, Session, Sessions};
+use crate::{ConfiguredSessions, Inside, Session, Sessions};
 use rc_as_path::AsPath;
 use rc_base::{Items, Prefix, RouterId};
 use rc_bgp_decide::best;
@@ -217,30 +218,34 @@ fn all_best(
     alloc: Global,
     net: &Network,
     state: &State,
+    inside: &Inside,
     most: MaximumPaths,
     resolver: &mut Resolver<'_>,
     own: &[Items<BgpPath>],
     sessions: &[Session],
 ) -> Result<Items<Best>, AllocError>
     requires state { All IsRouterState state.now }
+    requires inside { AreListed inside.now state.now }
     requires own { All IsPathList own.now }
     ensures { IfOk result (λ paths. paths ≡ spec.all_best net.now state.now most resolver.old own.now sessions.now) }
 {
-    let rows = candidates_by_prefix(alloc, net, state, resolver, own, sessions)?;
+    let rows = candidates_by_prefix(alloc, net, state, inside, resolver, own, sessions)?;
     best_of_each(alloc, most, rows.into_rows())
 }
 
 /// The best paths of a router after a state: for each prefix that has a candidate the best of them (RFC 4271 s.9.1), by address,
 /// then length. It errs only where memory runs out.
-#[tactic(auto, unfolding(crate::specs::Candidates::best_paths))]
+#[tactic(auto, using(crate::proofs::TellingLaws::told_is_listed), unfolding(crate::specs::Candidates::best_paths))]
 pub(crate) fn best_paths(
     alloc: Global,
     net: &Network,
     sessions: &ConfiguredSessions,
     previous: &State,
+    inside: &Inside,
     router: RouterId,
 ) -> Result<Items<Best>, AllocError>
-    requires { All IsRouterState previous.now }
+    requires previous { All IsRouterState previous.now }
+    requires inside { inside.now ≡ told_inside sessions.now previous.now }
     ensures value { IfOk result (λ paths. paths ≡ spec.best_paths net.now sessions.now previous.now router) }
     ensures in_order { IfOk result IsBestList }
 {
@@ -252,6 +257,7 @@ pub(crate) fn best_paths(
         alloc,
         net,
         previous,
+        inside,
         maximum_of(net, router),
         &mut resolver,
         own.as_slice(),

@@ -3,18 +3,19 @@ ghost use Rattle.std.specs.Prelude.{◌≡◌, [], All, IfOk, List, OnOk};
 ghost use Rattle.std.specs.List.{filter_map, flat_map};
 ghost use Rattle.std.specs.Option.{option_to_list};
 ghost use Rattle.rc_base.specs.Groups.{with_thing};
-ghost use Rattle.rc_bgp_decide.specs.Decision.{is_internal};
-ghost use Rattle.rc_route.specs.Tables.{IsPathList, IsRouterState};
+ghost use Rattle.rc_route.specs.Tables.{IsRouterState};
 ghost use Rattle.rc_route.specs.declared.path.BgpPath.{BgpPath as Path};
 ghost use Rattle.rc_bgp.specs.Gathering as spec;
+ghost use Rattle.rc_bgp.specs.RouterStates.{paths_of};
+ghost use Rattle.rc_bgp.specs.Telling.{AreListed};
 
 use crate::hearing::{heard_path, path_heard};
 use crate::resolver::Resolver;
-use crate::router_state::paths_of;
-use crate::{Session, export};
+use crate::telling::{is_internal, offered};
+use crate::{Inside, Session, export};
 use rc_base::{Items, Prefix, PrefixMap};
 use rc_config::Network;
-use rc_route::{Best, BgpPath, PathSource, State};
+use rc_route::{Best, BgpPath, State};
 use std::alloc::{AllocError, Global};
 
 /// Paths under their prefixes, those of one in the order in which they came.
@@ -89,15 +90,6 @@ fn add_own(
         add_copies(alloc, rows, paths.as_slice())?;
     }
     Ok(())
-}
-
-fn is_internal(source: PathSource) -> bool
-    ensures { result ≡ is_internal source }
-{
-    match source {
-        PathSource::Internal => true,
-        _ => false,
-    }
 }
 
 /// Whether a best path of the sender may go over a session, apart from 0.0.0.0/0.
@@ -177,25 +169,46 @@ fn add_all_told(
     Ok(())
 }
 
+/// Puts what a router hears over a session of all best paths of the sender, apart from 0.0.0.0/0, under their prefixes.
+#[tactic(auto, using(crate::proofs::TellingLaws::told_all))]
+fn add_offered(
+    alloc: Global,
+    net: &Network,
+    state: &State,
+    inside: &Inside,
+    resolver: &mut Resolver<'_>,
+    session: &Session,
+    rows: &mut PathsByPrefix,
+) -> Result<(), AllocError>
+    requires state { All IsRouterState state.now }
+    requires inside { AreListed inside.now state.now }
+    ensures value { OnOk result (rows.new ≡ spec.with_paths rows.old (filter_map (spec.told_of net.now resolver.old session.now) (paths_of state.now session.now.sender))) }
+    ensures same { OnOk result (resolver.new ≡ resolver.old) }
+{
+    let paths = offered(inside, state, session);
+    add_all_told(alloc, net, resolver, session, paths, rows)
+}
+
 /// Puts all that a router hears over a session under its prefixes.
 #[tactic(auto, using(crate::proofs::GatheringLaws::in_two_parts))]
 fn add_over(
     alloc: Global,
     net: &Network,
     state: &State,
+    inside: &Inside,
     resolver: &mut Resolver<'_>,
     session: &Session,
     rows: &mut PathsByPrefix,
 ) -> Result<(), AllocError>
-    requires { All IsRouterState state.now }
+    requires state { All IsRouterState state.now }
+    requires inside { AreListed inside.now state.now }
     ensures value { OnOk result (rows.new ≡ spec.with_paths rows.old (spec.heard_over net.now resolver.old state.now session.now)) }
     ensures same { OnOk result (resolver.new ≡ resolver.old) }
 {
     let prefix = Prefix::default_route();
     let default = path_heard(alloc, net, state, resolver, session, &prefix)?;
     add_some(alloc, rows, default)?;
-    let paths = paths_of(state, session.sender);
-    add_all_told(alloc, net, resolver, session, paths, rows)
+    add_offered(alloc, net, state, inside, resolver, session, rows)
 }
 
 /// Puts all that a router hears over some sessions under its prefixes.
@@ -203,15 +216,17 @@ fn add_over_all(
     alloc: Global,
     net: &Network,
     state: &State,
+    inside: &Inside,
     resolver: &mut Resolver<'_>,
     sessions: &[Session],
     rows: &mut PathsByPrefix,
 ) -> Result<(), AllocError>
-    requires { All IsRouterState state.now }
+    requires state { All IsRouterState state.now }
+    requires inside { AreListed inside.now state.now }
     ensures { OnOk result (rows.new ≡ spec.with_paths rows.old (flat_map (spec.heard_over net.now resolver.old state.now) sessions.now)) }
 {
     for session in sessions {
-        add_over(alloc, net, state, resolver, session, rows)?;
+        add_over(alloc, net, state, inside, resolver, session, rows)?;
     }
     Ok(())
 }
@@ -222,15 +237,17 @@ pub(crate) fn candidates_by_prefix(
     alloc: Global,
     net: &Network,
     state: &State,
+    inside: &Inside,
     resolver: &mut Resolver<'_>,
     own: &[Items<BgpPath>],
     sessions: &[Session],
 ) -> Result<PathsByPrefix, AllocError>
-    requires { All IsRouterState state.now }
+    requires state { All IsRouterState state.now }
+    requires inside { AreListed inside.now state.now }
     ensures { IfOk result (λ rows. rows ≡ spec.with_paths [] (spec.gathered net.now resolver.old state.now own.now sessions.now)) }
 {
     let mut rows = PrefixMap::new(alloc);
     add_own(alloc, &mut rows, own)?;
-    add_over_all(alloc, net, state, resolver, sessions, &mut rows)?;
+    add_over_all(alloc, net, state, inside, resolver, sessions, &mut rows)?;
     Ok(rows)
 }

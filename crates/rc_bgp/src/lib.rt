@@ -34,6 +34,7 @@ mod router_state;
 mod same_inputs;
 mod speaker;
 mod statement;
+mod telling;
 mod up;
 mod updating;
 
@@ -43,4 +44,5 @@ pub use learning::learned_route;
 pub use pairing::{ConfiguredSessions, configured_sessions};
 pub use rc_bgp_session::{Session, export, import};
 pub use round_paths::{first_paths, renewed_paths};
+pub use telling::{Inside, told_inside};
 pub use up::{Sessions, sessions};

@@ -1,4 +1,4 @@
-//! Whether an address resolves in a table that isn't prepared, and the metric of the route to it.
+//! Whether an address resolves in a table, and the metric of the route to it: a table is in order, so a look-up is a bisection.
 ghost use Rattle.std.specs.Prelude.{◌≡◌, IfOk, OnOk, Some};
 ghost use Rattle.std.specs.List.{fold, flat_map, list_any};
 ghost use Rattle.std.specs.Option.{option_copied};
@@ -6,50 +6,26 @@ ghost use Rattle.std.specs.Ordering.{nat_cmp};
 ghost use Rattle.std.specs.BTreeSet.{keys, insert_key};
 ghost use Rattle.rc_base.specs.Lists.{in_order};
 ghost use Rattle.rc_fib.specs.Forwarding.{has_interface, longest};
+ghost use Rattle.rc_route.specs.Tables.{IsTable};
 ghost use Rattle.rc_bgp.specs.Reaching as spec;
 ghost use Rattle.rc_bgp.specs.Levels as level;
 
 use rc_base::{Addr, Items};
 use rc_route::{Hop, Route};
+use rc_trie::{longest_in, read_prefixes};
 use std::alloc::{AllocError, Global};
 use std::collections::BTreeSet;
 
 /// How many look-ups may follow one another.
 const DEPTH: usize = 16;
 
-/// Whether a route holds an address, and is longer than the one that was found.
-fn is_longer(route: &Route, addr: Addr, found: Option<&Route>) -> bool
-    ensures { result ≡ level.is_longer route.now addr (option_copied found.entry) }
-{
-    if !route.prefix.contains(addr) {
-        return false;
-    }
-    match found {
-        Some(found) => found.prefix.len() < route.prefix.len(),
-        None => true,
-    }
-}
-
-/// The longer of the route that was found and one more.
-fn longer<'a>(addr: Addr, found: Option<&'a Route>, route: &'a Route) -> Option<&'a Route>
-    ensures { option_copied result ≡ level.longer addr (option_copied found.entry) route.now }
-{
-    if is_longer(route, addr, found) {
-        Some(route)
-    } else {
-        found
-    }
-}
-
-/// The route of the longest prefix that holds an address (RFC 1812 s.5.2.4.3).
+/// The route of the longest prefix that holds an address (RFC 1812 s.5.2.4.3), by bisection.
 fn longest_route(table: &[Route], addr: Addr) -> Option<&Route>
+    requires { IsTable table.now }
     ensures { option_copied result ≡ longest table.now addr }
 {
-    let mut found = None;
-    for route in table {
-        found = longer(addr, found, route);
-    }
-    found
+    read_prefixes(table);
+    longest_in(table, addr)
 }
 
 /// Whether a hop names an interface.
@@ -65,6 +41,7 @@ fn has_interface(hop: &Hop) -> bool
 
 /// The hops of the route of an address.
 fn first_hops(table: &[Route], addr: Addr) -> &[Hop]
+    requires { IsTable table.now }
     ensures { result.now ≡ level.first_hops table.now addr }
 {
     let found = longest_route(table, addr);
@@ -83,6 +60,7 @@ fn some_interface(hops: &[Hop]) -> bool
 
 /// Whether a hop of the route of an address names an interface.
 fn is_direct(table: &[Route], addr: Addr) -> bool
+    requires { IsTable table.now }
     ensures { result ≡ level.is_direct table.now addr }
 {
     some_interface(first_hops(table, addr))
@@ -115,6 +93,7 @@ fn gateway_set(
     table: &[Route],
     addresses: &[Addr],
 ) -> Result<BTreeSet<Addr>, AllocError>
+    requires { IsTable table.now }
     ensures { IfOk result (λ set. keys set ≡ in_order nat_cmp (flat_map (level.gateways_of table.now) addresses.now)) }
 {
     let mut set = BTreeSet::new(alloc);
@@ -137,13 +116,20 @@ fn listed(alloc: Global, set: BTreeSet<Addr>) -> Result<Vec<Addr>, AllocError>
 
 /// Whether one of some addresses is direct.
 fn some_direct(table: &[Route], addresses: &[Addr]) -> bool
+    requires { IsTable table.now }
     ensures { result ≡ list_any (level.is_direct table.now) addresses.now }
 {
-    addresses.iter().any(|addr| is_direct(table, *addr))
+    for addr in addresses {
+        if is_direct(table, *addr) {
+            return true;
+        }
+    }
+    false
 }
 
 /// Whether an address resolves by its gateways: level by level, so that each address is looked up once a level.
 fn reaches_on(alloc: Global, table: &[Route], addr: Addr) -> Result<bool, AllocError>
+    requires { IsTable table.now }
     ensures { IfOk result (λ is. is ≡ spec.reaches table.now addr) }
 {
     let mut front = Vec::new(alloc);
@@ -160,6 +146,7 @@ fn reaches_on(alloc: Global, table: &[Route], addr: Addr) -> Result<bool, AllocE
 
 /// Whether an address resolves in a table. Most do at once, which takes no memory.
 pub(crate) fn reaches(alloc: Global, table: &[Route], addr: Addr) -> Result<bool, AllocError>
+    requires { IsTable table.now }
     ensures { IfOk result (λ is. is ≡ spec.reaches table.now addr) }
 {
     if is_direct(table, addr) {
@@ -176,7 +163,8 @@ fn metric_over(
     addr: Addr,
     route: &Route,
 ) -> Result<Option<u32>, AllocError>
-    requires { longest table.now addr ≡ Some route.now }
+    requires table { IsTable table.now }
+    requires found { longest table.now addr ≡ Some route.now }
     ensures { IfOk result (λ metric. metric ≡ spec.metric_to table.now addr) }
 {
     if some_interface(route.hops.as_slice()) {
@@ -195,6 +183,7 @@ pub(crate) fn metric_to(
     table: &[Route],
     addr: Addr,
 ) -> Result<Option<u32>, AllocError>
+    requires { IsTable table.now }
     ensures { IfOk result (λ metric. metric ≡ spec.metric_to table.now addr) }
 {
     let found = longest_route(table, addr);

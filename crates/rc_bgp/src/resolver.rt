@@ -2,6 +2,7 @@
 ghost use Rattle.std.specs.Prelude.{◌≡◌, IfOk, OnOk, OnErr};
 ghost use Rattle.std.specs.Option.{option_map};
 ghost use Rattle.rc_config.specs.ByNumber.{placed, with_number};
+ghost use Rattle.rc_route.specs.Tables.{IsTable};
 ghost use Rattle.rc_bgp.specs.Reaching as spec;
 ghost use Rattle.rc_bgp.specs.Ways.{way_addr};
 
@@ -45,13 +46,13 @@ impl<'a> Drop for Resolver<'a> {
 impl<'a> Model for Resolver<'a> {
     ghost use Rattle.std.specs.Prelude.{List};
     ghost use Rattle.rc_route.specs.declared.route.Route.{Route};
-    ghost use Rattle.rc_bgp.specs.Ways.{AreWays};
+    ghost use Rattle.rc_bgp.specs.Ways.{IsAsked};
 
     ghost Value = { List Route };
 
     ghost view = { λ r. r.table.now };
 
-    ghost invariant = { λ r. AreWays r.table.now r.known };
+    ghost invariant = { λ r. IsAsked r.table.now r.known };
 }
 
 /// The metric that is known of an address.
@@ -77,6 +78,7 @@ fn note(ways: &mut ByNumber<Way>, addr: Addr, metric: Option<u32>) -> Result<(),
 impl<'a> Resolver<'a> {
     /// A table of which nothing was asked. It takes no memory.
     pub(crate) fn new(alloc: Global, table: &'a [Route]) -> Resolver<'a>
+        requires { IsTable table.now }
         ensures { result ≡ table.now }
     {
         Resolver {

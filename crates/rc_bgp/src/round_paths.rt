@@ -10,6 +10,7 @@ ghost use Rattle.rc_bgp.specs.Changes.{AreChanges, AreUpdated, AreToldAmong, Cov
 ghost use Rattle.rc_bgp.specs.Changes as change_spec;
 ghost use Rattle.rc_bgp_session.specs.declared.session.Session.{Session as SessionModel};
 ghost use Rattle.rc_bgp.specs.RouterStates as known_spec;
+ghost use Rattle.rc_bgp.specs.Telling.{told_inside};
 
 use crate::all_originated::own_paths;
 use crate::deciding::{add_best_prefixes, best_paths};
@@ -20,7 +21,7 @@ use crate::router_state::{paths_of, table_of};
 use crate::same_inputs::reads_alike;
 use crate::up::up_sessions;
 use crate::updating::updated;
-use crate::{Changes, ConfiguredSessions, Renewed, Session};
+use crate::{Changes, ConfiguredSessions, Inside, Renewed, Session};
 use rc_base::{Items, Prefix, RouterId};
 use rc_config::Network;
 use rc_route::{Best, State, listed_at};
@@ -103,14 +104,16 @@ pub fn first_paths(
     net: &Network,
     sessions: &ConfiguredSessions,
     previous: &State,
+    inside: &Inside,
     router: RouterId,
 ) -> Result<Renewed, AllocError>
-    requires { All IsRouterState previous.now }
+    requires previous { All IsRouterState previous.now }
+    requires inside { inside.now ≡ told_inside sessions.now previous.now }
     ensures paths { IfOk result (λ r. r.paths ≡ spec.best_paths net.now sessions.now previous.now router) }
     ensures in_order { IfOk result (λ r. IsBestList r.paths) }
     ensures changed { IfOk result (λ r. CoversChange r.changed (known_spec.paths_of previous.now router) r.paths) }
 {
-    let paths = best_paths(alloc, net, sessions, previous, router)?;
+    let paths = best_paths(alloc, net, sessions, previous, inside, router)?;
     beside(alloc, paths_of(previous, router), paths)
 }
 
@@ -194,12 +197,14 @@ pub fn renewed_paths(
     earlier: &State,
     changes: &Changes,
     previous: &State,
+    inside: &Inside,
     router: RouterId,
 ) -> Result<Renewed, AllocError>
     requires earlier { All IsRouterState earlier.now }
     requires previous { All IsRouterState previous.now }
     requires known { known_spec.paths_of previous.now router ≡ spec.best_paths net.now sessions.now earlier.now router }
     requires changes { AreChanges changes.now earlier.now previous.now }
+    requires inside { inside.now ≡ told_inside sessions.now previous.now }
     ensures paths { IfOk result (λ r. r.paths ≡ spec.best_paths net.now sessions.now previous.now router) }
     ensures in_order { IfOk result (λ r. IsBestList r.paths) }
     ensures changed { IfOk result (λ r. CoversChange r.changed (known_spec.paths_of previous.now router) r.paths) }
@@ -208,5 +213,5 @@ pub fn renewed_paths(
         let made = updated_paths(alloc, net, sessions, changes, previous, router)?;
         return Ok(made);
     }
-    first_paths(alloc, net, sessions, previous, router)
+    first_paths(alloc, net, sessions, previous, inside, router)
 }

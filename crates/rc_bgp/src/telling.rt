@@ -1,0 +1,118 @@
+//! What routers may tell inside of their ASes, listed once for all who hear it.
+ghost use Rattle.std.specs.List.{list_any};
+ghost use Rattle.std.specs.Prelude.{◌≡◌, All, IfOk, unwrap_or};
+ghost use Rattle.rc_bgp_decide.specs.Decision.{is_internal};
+ghost use Rattle.rc_bgp.specs.Telling as spec;
+ghost use Rattle.rc_route.specs.Tables.{IsRouterState};
+
+use crate::router_state::paths_of;
+use crate::up::sessions_of;
+use crate::{ConfiguredSessions, Session};
+use rc_base::{Items, RouterId};
+use rc_route::{Best, PathSource, State};
+use std::alloc::{AllocError, Global};
+
+/// For each router, in order, what it may tell its internal peers, where it has such peers.
+pub type Inside = Items<Option<Items<Best>>>;
+
+/// Whether a path came from a peer in the router's own AS.
+pub(crate) fn is_internal(source: PathSource) -> bool
+    ensures { result ≡ is_internal source }
+{
+    match source {
+        PathSource::Internal => true,
+        _ => false,
+    }
+}
+
+/// Those of some best paths that may be told to an internal peer.
+fn not_heard_inside(alloc: Global, paths: &[Best]) -> Result<Items<Best>, AllocError>
+    ensures { IfOk result (λ told. told ≡ spec.may_tell paths.now) }
+{
+    let mut told = Items::new(alloc);
+    for best in paths {
+        if !is_internal(best.path.source) {
+            told.push(best.copy()?)?;
+        }
+    }
+    Ok(told)
+}
+
+/// Whether one of some sessions is internal.
+fn some_internal(sessions: &[Session]) -> bool
+    ensures { result ≡ list_any spec.is_inside sessions.now }
+{
+    for session in sessions {
+        if !session.is_external {
+            return true;
+        }
+    }
+    false
+}
+
+/// Whether some session to a router is internal.
+fn has_internal(sessions: &ConfiguredSessions, router: RouterId) -> bool
+    ensures { result ≡ spec.has_internal sessions.now router }
+{
+    some_internal(sessions_of(sessions, router))
+}
+
+/// What is listed of a router.
+fn listed_of(
+    alloc: Global,
+    sessions: &ConfiguredSessions,
+    state: &State,
+    router: RouterId,
+) -> Result<Option<Items<Best>>, AllocError>
+    requires { All IsRouterState state.now }
+    ensures { IfOk result (λ listed. listed ≡ spec.listed_of sessions.now state.now router) }
+{
+    if !has_internal(sessions, router) {
+        return Ok(None);
+    }
+    let told = not_heard_inside(alloc, paths_of(state, router))?;
+    Ok(Some(told))
+}
+
+/// What each router may tell its internal peers of what it knows in a state, once for all of them: its best paths but those that an
+/// internal peer told it (RFC 4271 s.9.2.1). Of a router without internal peers nothing is listed. It errs only where memory runs out.
+pub fn told_inside(
+    alloc: Global,
+    sessions: &ConfiguredSessions,
+    state: &State,
+) -> Result<Inside, AllocError>
+    requires { All IsRouterState state.now }
+    ensures { IfOk result (λ all. all ≡ spec.told_inside sessions.now state.now) }
+{
+    let mut all = Items::new(alloc);
+    for index in 0..sessions.len() {
+        all.push(listed_of(alloc, sessions, state, RouterId::at(index))?)?;
+    }
+    Ok(all)
+}
+
+/// What is listed of a router, or all its paths where nothing is.
+fn listed_or<'a>(listed: &'a Option<Items<Best>>, paths: &'a [Best]) -> &'a [Best]
+    ensures { result.now ≡ unwrap_or listed.now paths.now }
+{
+    match listed {
+        Some(listed) => listed.as_slice(),
+        None => paths,
+    }
+}
+
+/// Best paths of a session's sender, among which are all that it may tell over the session.
+pub(crate) fn offered<'a>(all: &'a Inside, state: &'a State, session: &Session) -> &'a [Best]
+    requires { All IsRouterState state.now }
+    ensures { result.now ≡ spec.offered all.now state.now session.now }
+{
+    let paths = paths_of(state, session.sender);
+    if session.is_external {
+        return paths;
+    }
+    let found = all.as_slice().get(session.sender.index());
+    match found {
+        Some(listed) => listed_or(listed, paths),
+        None => paths,
+    }
+}
