@@ -16,3 +16,4 @@ pub mod OneAnswer
 mod ShareLaws
 mod HopLaws
 mod SummaryLaws
+pub mod HoldingLaws

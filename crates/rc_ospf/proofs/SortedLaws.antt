@@ -87,7 +87,7 @@ default_sorted (row ∷ rows) up = by (is_default row.prefix) refl
     by true is = up
     by false is = ((default_first row.prefix is, less is (map row_prefix rows) up.0), up)
 
-route_keeps : (m : OspfRouter) (p : Cidr) (inside : List Offered) (s : Summaries) (route : Route) → internal_route_to m p inside s ≡ Some route → route.prefix ≡ p
+pub route_keeps : (m : OspfRouter) (p : Cidr) (inside : List Offered) (s : Summaries) (route : Route) → internal_route_to m p inside s ≡ Some route → route.prefix ≡ p
 route_keeps m p inside s route is = by_own (list_any (is_offered_by m.router) inside) is
   where
     by_inter : (w : Option (Way ℕ)) → option_map (internal_route_over OspfIa p) w ≡ Some route → route.prefix ≡ p
@@ -108,7 +108,7 @@ internal_table routers adverts m = kept_order row_prefix route_prefix (internal_
     (λ row route is. route_keeps m row.prefix row.offers (summaries_of routers (is_default row.prefix) row.offers) route is)
     (with_default (offered_rows adverts)) (default_sorted (offered_rows adverts) (rows_sorted adverts))
 
-each_table : (routers : List OspfRouter) (adverts : List Advert) (ms : List OspfRouter) → AllByRecursion IsTable (map (internal_routes routers adverts) ms)
+pub each_table : (routers : List OspfRouter) (adverts : List Advert) (ms : List OspfRouter) → AllByRecursion IsTable (map (internal_routes routers adverts) ms)
 each_table routers adverts [] = tt
 each_table routers adverts (m ∷ ms) = (internal_table routers adverts m, each_table routers adverts ms)
 

@@ -1,7 +1,7 @@
 -- What OSPF gives without a state: the routes of each router inside and between areas, and its paths to AS boundary routers.
-use Rattle.std.specs.Prelude.{◌≡◌, ℕ, Bool, List, [], All, map, length, slice_get, unwrap_or}
+use Rattle.std.specs.Prelude.{◌≡◌, ℕ, Bool, List, [], All, map, filter, length, slice_get, unwrap_or, Option, Some, None}
 use Rattle.std.specs.List.{flat_map, list_any}
-use Rattle.rc_base.specs.Prefix.{Cidr, same_prefix}
+use Rattle.rc_base.specs.Prefix.{Cidr, contains, same_prefix}
 use Rattle.rc_config.specs.Members.{router_ids}
 use Rattle.rc_config.specs.declared.network.Network.{Network}
 use Rattle.rc_topology.specs.Topology.{Topology}
@@ -34,6 +34,27 @@ pub record IsInternal (net : Network) (i : Internal) : Type 0 where
   pub routes : i.routes ≡ map (internal_routes routers (adverts_in net)) routers
   pub boundaries : i.boundaries ≡ map (boundary_paths net routers) routers
   pub own : i.own ≡ map (own_prefixes net) (router_ids net)
+
+-- those of some routes whose prefix holds an address
+abbrev pub holding : ℕ → List Route → List Route
+holding a routes = filter (λ (x : Route). contains x.prefix a) routes
+
+-- the same with those routes alone whose prefix holds an address
+abbrev pub internal_at : ℕ → Internal → Internal
+internal_at a i = record i { routes = map (holding a) i.routes }
+
+-- what OSPF gives without a state, of whose routes those alone are there whose prefix holds an address
+abbrev pub IsInternalAt : Network → ℕ → Internal → Type 0
+IsInternalAt net a i = (whole : Internal) × IsInternal net whole × (i ≡ internal_at a whole)
+
+-- all routes of each router, or those at the address that is asked for
+abbrev pub tables_asked : Option ℕ → List (List Route) → List (List Route)
+tables_asked None tables = tables
+tables_asked (Some a) tables = map (holding a) tables
+
+-- the same for both
+abbrev pub IsInternalAsked : Network → Option ℕ → Internal → Type 0
+IsInternalAsked net asked i = (whole : Internal) × IsInternal net whole × (i ≡ record whole { routes = tables_asked asked whole.routes })
 
 -- no cost reaches 2^27, so that none wraps, nor does one with a metric from outside of the AS added
 pub record HasSmallSums (i : Internal) : Type 0 where

@@ -19,6 +19,7 @@ pub mod Internal
 pub mod Plain
 pub mod InterfaceRows
 pub mod RouteRows
+pub mod AddressRows
 pub mod AreaRows
 pub mod SummaryRows
 pub mod BoundaryRows

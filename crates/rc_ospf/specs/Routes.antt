@@ -3,7 +3,7 @@ use Rattle.std.specs.Prelude.{ℕ, ◌^◌, ◌<◌, Bool, false, if◌then◌el
 use Rattle.std.specs.List.{filter_map, flat_map, list_any}
 use Rattle.std.specs.Option.{option_map, option_or}
 use Rattle.rc_base.specs.Lists.{in_order}
-use Rattle.rc_base.specs.Prefix.{Cidr, prefix_cmp, same_prefix, default_prefix, is_default}
+use Rattle.rc_base.specs.Prefix.{Cidr, contains, prefix_cmp, same_prefix, default_prefix, is_default}
 use Rattle.rc_config.specs.declared.network.Network.{Network}
 use Rattle.rc_route.specs.Hops.{hop_cmp}
 use Rattle.rc_route.specs.declared.route.Route.{Route}
@@ -47,6 +47,15 @@ with_default rows = if starts_with_default rows then rows else default_row ∷ r
 
 abbrev pub internal_route_over : Source → Cidr → Way ℕ → Route
 internal_route_over source p w = record { prefix = p; source = source; distance = 110; metric = w.cost; hops = in_order hop_cmp w.hops }
+
+-- those of some rows whose prefix holds an address
+abbrev pub rows_holding : ℕ → List Row → List Row
+rows_holding a rows = filter (λ (row : Row). contains row.prefix a) rows
+
+-- all rows, or those of the address that is asked for
+abbrev pub rows_asked : Option ℕ → List Row → List Row
+rows_asked None rows = rows
+rows_asked (Some a) rows = rows_holding a rows
 
 -- its metric, with one from outside of the AS added (below 2^24), stays below 2^32
 abbrev pub IsShortRoute : Route → Type 0

@@ -1,5 +1,5 @@
 //! Prefixes with all that is offered of them.
-ghost use Rattle.std.specs.Prelude.{◌≡◌, IfOk, map};
+ghost use Rattle.std.specs.Prelude.{◌≡◌, ◌++◌, ◌∷◌, [], IfOk, OnOk, map};
 ghost use Rattle.rc_ospf.specs.ByPrefix.{destination_of};
 ghost use Rattle.rc_ospf.specs.Members.{known};
 ghost use Rattle.rc_ospf.specs.Routes as spec;
@@ -9,8 +9,9 @@ use crate::member::{Member, StubAreas};
 use crate::shares::{Makes, made_by};
 use crate::summaries::{Summaries, summaries_of, to_be_asked};
 use crate::{Offer, Row};
-use rc_base::{Items, Prefix};
+use rc_base::{Addr, Items, Prefix};
 use std::alloc::{AllocError, Global};
+use std::collections::VecDeque;
 use std::thread::Threads;
 
 /// A prefix with all that is offered of it: by interfaces inside their areas, and by border routers as summaries.
@@ -82,6 +83,43 @@ fn with_default(alloc: Global, rows: Items<Row>) -> Result<Items<Row>, AllocErro
     Ok(Items::from_vec(rows))
 }
 
+/// Puts a row at the end of some, where its prefix holds the address.
+fn push_holding(held: &mut Items<Row>, row: Row, address: Addr) -> Result<(), AllocError>
+    ensures { OnOk result (held.new ≡ held.old ++ spec.rows_holding address (row ∷ [])) }
+{
+    if row.prefix.contains(address) {
+        held.push(row)
+    } else {
+        Ok(())
+    }
+}
+
+/// Those of some rows whose prefix holds the address.
+fn rows_holding(alloc: Global, rows: Items<Row>, address: Addr) -> Result<Items<Row>, AllocError>
+    ensures { IfOk result (λ held. held ≡ spec.rows_holding address rows) }
+{
+    let mut held = Items::new(alloc);
+    let mut left = VecDeque::from(rows.into_vec());
+    while let Some(row) = left.pop_front() {
+        push_holding(&mut held, row, address)?;
+    }
+    Ok(held)
+}
+
+/// All rows, or those whose prefix holds the address that is asked for.
+fn rows_asked(
+    alloc: Global,
+    rows: Items<Row>,
+    asked: Option<Addr>,
+) -> Result<Items<Row>, AllocError>
+    ensures { IfOk result (λ left. left ≡ spec.rows_asked asked rows) }
+{
+    match asked {
+        Some(address) => rows_holding(alloc, rows, address),
+        None => Ok(rows),
+    }
+}
+
 /// The routers that may summarise what is offered.
 #[derive(Drop)]
 struct Summarising<'a> {
@@ -110,18 +148,20 @@ impl<'a> Makes for Summarising<'a> {
     }
 }
 
-/// The prefixes of rows with all that is offered of them, and the default route in front where it has no row. It errs only
-/// where memory runs out.
+/// The prefixes of rows with all that is offered of them, and the default route in front where it has no row; where an address is
+/// asked for, those that hold it. It errs only where memory runs out.
 pub(crate) fn destinations<R: Threads + Sync>(
     rt: &R,
     alloc: Global,
     members: &[Member],
     rows: Items<Row>,
+    asked: Option<Addr>,
     workers: u32,
 ) -> Result<Items<Destination>, AllocError>
-    ensures { IfOk result (λ all. all ≡ map (destination_of (map (known Kept) members.now)) (spec.with_default rows)) }
+    ensures { IfOk result (λ all. all ≡ map (destination_of (map (known Kept) members.now)) (spec.rows_asked asked (spec.with_default rows))) }
 {
     let rows = with_default(alloc, rows)?;
+    let rows = rows_asked(alloc, rows, asked)?;
     let summarising = Summarising {
         members: to_be_asked(members, StubAreas::Kept),
     };

@@ -40,4 +40,4 @@ use offer::{Advert, Offer};
 use path::{AreaPaths, Path};
 use rc_ospf_interfaces::OspfInterface;
 use router_area::RouterArea;
-pub use tables::{internal, one_internal};
+pub use tables::{internal, internal_at, one_internal};

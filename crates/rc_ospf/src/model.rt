@@ -93,6 +93,19 @@ fn is_in(prefix: &Prefix, prefixes: &[Prefix]) -> bool
 }
 
 impl Internal {
+    /// The links alone.
+    pub fn into_links(self) -> Links
+        ensures { result ≡ self.links }
+    {
+        let Internal {
+            links,
+            routes: _,
+            boundaries: _,
+            own: _,
+        } = self;
+        links
+    }
+
     /// The routes of a router inside and between areas, of which it has none past the end.
     pub fn routes_of(&self, router: RouterId) -> &[Route]
         ensures { result.now ≡ spec.routes_of self.now router }

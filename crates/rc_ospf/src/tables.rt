@@ -7,7 +7,7 @@ ghost use Rattle.rc_ospf.specs.BoundaryForms.{target_of, boundary_paths};
 ghost use Rattle.rc_ospf.specs.Boundaries.{boundary_routers};
 ghost use Rattle.rc_ospf.specs.ByPrefix.{destination_of};
 ghost use Rattle.rc_ospf.specs.BoundaryPaths.{IsNear};
-ghost use Rattle.rc_ospf.specs.Internal.{adverts_in, steps_of, IsInternal, HasOneInternal, HasSmallSums};
+ghost use Rattle.rc_ospf.specs.Internal.{adverts_in, steps_of, IsInternal, IsInternalAsked, IsInternalAt, HasOneInternal, HasSmallSums, tables_asked};
 ghost use Rattle.rc_ospf.specs.Members.{known, AreMembers};
 ghost use Rattle.rc_ospf.specs.Routes as spec;
 ghost use Rattle.rc_ospf.specs.declared.member.StubAreas.TheVariants.{Kept, LeftOut};
@@ -19,7 +19,7 @@ use crate::own::own_prefixes;
 use crate::routes::routes_of;
 use crate::shares::{Makes, made_by};
 use crate::{Boundary, Internal, adjacencies, adverts, offers_by_prefix};
-use rc_base::{Items, Prefix, RouterId};
+use rc_base::{Addr, Items, Prefix, RouterId};
 use rc_config::Network;
 use rc_ospf_interfaces::ospf_interfaces;
 use rc_route::Table;
@@ -44,20 +44,22 @@ fn members_of<R: Threads + Sync>(
     members(rt, alloc, net, net.routers.len(), steps.as_slice(), workers)
 }
 
-/// Each prefix that is advertised, and the default route, with all that is offered of it.
+/// Each prefix that is advertised, and the default route, with all that is offered of it; where an address is asked for, those that
+/// hold it.
 fn destinations_of<R: Threads + Sync>(
     rt: &R,
     alloc: Global,
     net: &Network,
     members: &[Member],
+    asked: Option<Addr>,
     workers: u32,
 ) -> Result<Items<Destination>, AllocError>
-    ensures { IfOk result (λ all. all ≡ map (destination_of (map (known Kept) members.now)) (spec.with_default (spec.offered_rows (adverts_in net.now)))) }
+    ensures { IfOk result (λ all. all ≡ map (destination_of (map (known Kept) members.now)) (spec.rows_asked asked (spec.with_default (spec.offered_rows (adverts_in net.now))))) }
 {
     let interfaces = ospf_interfaces(alloc, net)?;
     let offered = adverts(alloc, net, interfaces.as_slice())?;
     let rows = offers_by_prefix(alloc, offered.as_slice())?;
-    destinations(rt, alloc, members, rows, workers)
+    destinations(rt, alloc, members, rows, asked, workers)
 }
 
 /// The destinations to which the routes of a router lead.
@@ -87,18 +89,19 @@ impl<'a> Makes for RoutesTo<'a> {
     }
 }
 
-/// The routes of each router.
+/// The routes of each router; where an address is asked for, those whose prefix holds it.
 fn tables<R: Threads + Sync>(
     rt: &R,
     alloc: Global,
     net: &Network,
     members: &[Member],
+    asked: Option<Addr>,
     workers: u32,
 ) -> Result<Items<Table>, AllocError>
     ensures short { IfOk result (All (All spec.IsShortRoute)) }
-    ensures value { IfOk result (λ tables. tables ≡ map (spec.internal_routes (map (known Kept) members.now) (adverts_in net.now)) (map (known Kept) members.now)) }
+    ensures value { IfOk result (λ tables. tables ≡ tables_asked asked (map (spec.internal_routes (map (known Kept) members.now) (adverts_in net.now)) (map (known Kept) members.now))) }
 {
-    let destinations = destinations_of(rt, alloc, net, members, workers)?;
+    let destinations = destinations_of(rt, alloc, net, members, asked, workers)?;
     let routes = RoutesTo {
         destinations: destinations.as_slice(),
     };
@@ -189,6 +192,33 @@ fn own<R: Threads + Sync>(
     made_by(rt, alloc, &prefixes, ids.as_slice(), workers)
 }
 
+/// What OSPF gives without a state; where an address is asked for, of the routes those whose prefix holds it.
+fn internal_asked<R: Threads + Sync>(
+    rt: &R,
+    alloc: Global,
+    net: &Network,
+    links: Links,
+    asked: Option<Addr>,
+    workers: u32,
+) -> Result<Internal, AllocError>
+    requires { IsLawful net.now }
+    ensures links { IfOk result (λ i. i.links ≡ links) }
+    ensures internal { IfOk result (IsInternalAsked net.now asked) }
+    ensures in_order { IfOk result (λ i. All IsTable i.routes) }
+    ensures small { IfOk result HasSmallSums }
+{
+    let members = members_of(rt, alloc, net, &links, workers)?;
+    let routes = tables(rt, alloc, net, members.as_slice(), asked, workers)?;
+    let boundaries = boundaries(rt, alloc, net, members.as_slice(), workers)?;
+    let own = own(rt, alloc, net, workers)?;
+    Ok(Internal {
+        links,
+        routes,
+        boundaries,
+        own,
+    })
+}
+
 /// What OSPF gives without a state in a network with these links (RFC 2328, sections 16.1, 16.2 and 16.4): the routes of each
 /// router inside and between areas, its paths to AS boundary routers, and the prefixes that it advertises itself. So many workers
 /// share the work; what they make doesn't depend on their number. It errs only where memory runs out.
@@ -205,16 +235,25 @@ pub fn internal<R: Threads + Sync>(
     ensures in_order { IfOk result (λ i. All IsTable i.routes) }
     ensures small { IfOk result HasSmallSums }
 {
-    let members = members_of(rt, alloc, net, &links, workers)?;
-    let routes = tables(rt, alloc, net, members.as_slice(), workers)?;
-    let boundaries = boundaries(rt, alloc, net, members.as_slice(), workers)?;
-    let own = own(rt, alloc, net, workers)?;
-    Ok(Internal {
-        links,
-        routes,
-        boundaries,
-        own,
-    })
+    internal_asked(rt, alloc, net, links, None, workers)
+}
+
+/// The same at an address: of the routes those alone whose prefix holds it. No other route is made. It errs only where memory runs out.
+pub fn internal_at<R: Threads + Sync>(
+    rt: &R,
+    alloc: Global,
+    net: &Network,
+    links: Links,
+    address: Addr,
+    workers: u32,
+) -> Result<Internal, AllocError>
+    requires { IsLawful net.now }
+    ensures links { IfOk result (λ i. i.links ≡ links) }
+    ensures internal { IfOk result (IsInternalAt net.now address) }
+    ensures in_order { IfOk result (λ i. All IsTable i.routes) }
+    ensures small { IfOk result HasSmallSums }
+{
+    internal_asked(rt, alloc, net, links, Some(address), workers)
 }
 
 /// A network with its links has one answer.

@@ -1,35 +1,7 @@
-use Rattle.std.proofs.Common.{◌∙◌, ap, sym, subst, map, List, All}
-use Rattle.std.specs.List.{filter_map}
-use Rattle.std.proofs.lemmas.List.{length-map}
-use Rattle.rc_route.specs.Tables.{IsTable}
-use Rattle.rc_ospf.specs.BoundaryForms.{target_of, path_of_target}
-use Rattle.rc_ospf.specs.Boundaries.{boundary_routers}
-use Rattle.rc_ospf.specs.Internal.{adverts_in, steps_of}
-use Rattle.rc_ospf.specs.Members.{known}
-use Rattle.rc_ospf.specs.Routes.{internal_routes}
-use Rattle.rc_ospf.specs.declared.member.Member.{Member}
-use Rattle.rc_ospf.specs.declared.member.StubAreas.TheVariants.{Kept, LeftOut}
-use Rattle.rc_ospf.proofs.MemberLaws.{ospf_routers, all_left_out}
-use Rattle.rc_ospf.proofs.SortedLaws.{all_tables}
-use Rattle.rc_ospf.proofs.TableLaws.{boundaries_are}
+use Rattle.std.proofs.Common.{sym, subst}
+use Rattle.std.proofs.lemmas.Result.{IfOk-weaker}
+use Rattle.rc_ospf.specs.Internal.{IsInternal}
 use Rattle.rc_ospf.proofs.tables.internal.Goals as goal
 
 pub returns-clause-internal : goal.returns-clause-internal
-returns-clause-internal g c =
-    let net = c.args.net.now in
-    let ms = c.in_ok-members.members in
-    let steps = steps_of net c.args.links in
-    let each = c.in_ok-members.ensures.each in
-    record {
-      routers = map (known Kept) ms;
-      as_many = length-map ms (known Kept) ∙ c.in_ok-members.ensures.as_many;
-      are_routers = ospf_routers net steps 0 ms each;
-      routes = c.in_ok-routes.ensures.value ∙ ap (λ (s : List Member). map (internal_routes (map (known Kept) s) (adverts_in net)) (map (known Kept) s)) c.as_slice.ensures;
-      boundaries = c.in_ok-boundaries.ensures.value
-          ∙ ap (λ (s : List Member). map (λ (m : Member). filter_map (path_of_target (known LeftOut m)) (map (target_of net (map (known LeftOut) s)) (boundary_routers net))) s) c.as_slice-2.ensures
-          ∙ boundaries_are net steps (map (known Kept) ms) (map (known LeftOut) ms) 0 ms each (all_left_out net steps 0 ms each);
-      own = c.in_ok-own.ensures;
-    }
-
-pub returns-clause-in_order : goal.returns-clause-in_order
-returns-clause-in_order g c = subst (All IsTable) (sym c.in_ok-routes.ensures.value) (all_tables _ _ _)
+returns-clause-internal g c = IfOk-weaker c.internal_asked.result _ (IsInternal c.args.net.now) (λ i is. subst (IsInternal c.args.net.now) (sym is.2) is.1) c.internal_asked.ensures.internal
