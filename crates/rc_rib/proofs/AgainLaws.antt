@@ -71,7 +71,7 @@ no_paths net all old r none silent =
 
 module _ (net : Network) (internal : Internal) (all : List (List Session)) (r : ℕ) (here : r < length net.routers) where
   -- what the router knows after a round
-  row : (old : List RouterState) → slice_get (next_state net internal old) r ≡ Some (next_router net internal old r)
+  pub row : (old : List RouterState) → slice_get (next_state net internal old) r ≡ Some (next_router net internal old r)
   row old =
       slice_get-map (next_router net internal old) (router_ids net) r ∙ ap (option_map (next_router net internal old)) (numbered (length net.routers) r here)
 
@@ -97,7 +97,7 @@ module _ (net : Network) (internal : Internal) (all : List (List Session)) (r : 
       by (Some file) e = ap (λ ss. best_paths net ss before r) (sym these)
 
   -- with this file, from its previous table, its best paths and what comes from outside of the AS
-  after : RouterText → List Route → List Best → List Route → RouterState
+  pub after : RouterText → List Route → List Best → List Route → RouterState
   after file table paths outside = record {
     table = best_routes (connected r file.interfaces ++ (static_routes (active_lines r file.interfaces (resolved table) file.static_routes) ++ (learned_routes paths ++ (routes_of internal r ++ to_others internal r outside))));
     paths = paths;
@@ -110,7 +110,7 @@ module _ (net : Network) (internal : Internal) (all : List (List Session)) (r : 
   }
 
   -- where it reads no other router
-  alone : (file : RouterText) → all ≡ configured_sessions net internal.links → ReadsNoOthers net internal all r → (old : List RouterState) → router_after net internal old r file ≡ after file (table_of old r) [] []
+  pub alone : (file : RouterText) → all ≡ configured_sessions net internal.links → ReadsNoOthers net internal all r → (old : List RouterState) → router_after net internal old r file ≡ after file (table_of old r) [] []
   unfolding after
   alone file these others old =
       ap (λ paths. after file (table_of old r) paths (external_routes internal (externals net old) r))
@@ -118,7 +118,7 @@ module _ (net : Network) (internal : Internal) (all : List (List Session)) (r : 
       ∙ ap (after file (table_of old r) []) (ap (λ bs. routes_over bs (externals net old)) others.no_boundaries ∙ nothing_outside (externals net old))
 
   -- without a line `ip route` it comes from the file alone
-  from_file : (file : RouterText) (t u : List Route) → file.static_routes ≡ [] → after file t [] [] ≡ after file u [] []
+  pub from_file : (file : RouterText) (t u : List Route) → file.static_routes ≡ [] → after file t [] [] ≡ after file u [] []
   unfolding after with_lines
   from_file file t u none = ap (with_lines file t) none ∙ sym (ap (with_lines file u) none)
 
@@ -143,7 +143,7 @@ nothing_changed state r s paths changed known same = record { elsewhere = λ p n
 
 -- ---- where no router changes, the state stays
 
-same_elements : {X : Type 0} (xs ys : List X) → ((k : ℕ) → slice_get xs k ≡ slice_get ys k) → xs ≡ ys
+pub same_elements : {X : Type 0} (xs ys : List X) → ((k : ℕ) → slice_get xs k ≡ slice_get ys k) → xs ≡ ys
 same_elements [] [] same = refl
 same_elements [] (y ∷ ys) same = absurd (cc (same 0))
 same_elements (x ∷ xs) [] same = absurd (cc (same 0))

@@ -87,7 +87,7 @@ of_reduced : (P : Route → Type 0) (xs : List Route) (r : Route) → AllByRecur
 of_reduced P [] r h e = absurd (none-some r e)
 of_reduced P (x ∷ xs) r h e = subst P (ap (λ o. unwrap_or o r) e) (fold-chosen P x xs h.0 h.1)
 
-same_by_test : (p q : Cidr) → same_prefix p q ≡ true → q ≡ p
+pub same_by_test : (p q : Cidr) → same_prefix p q ≡ true → q ≡ p
 same_by_test p q e = by (prefix_cmp p q) refl e
   where
     by : (o : Ordering) → prefix_cmp p q ≡ o → is_eq o ≡ true → q ≡ p
@@ -95,7 +95,7 @@ same_by_test p q e = by (prefix_cmp p q) refl e
     by Equal is e = sym (same_by_prefix_cmp p q is)
     by Greater is e = absurd (cc)
 
-preferred-prefix : (cs : List Route) → KeepsPrefix (λ p. preferred (routes_at p cs))
+pub preferred-prefix : (cs : List Route) → KeepsPrefix (λ p. preferred (routes_at p cs))
 preferred-prefix cs p r e = same_by_test p r.prefix (of_reduced (λ (x : Route). same_prefix p x.prefix ≡ true) (routes_at p cs) r (all-routes_at p cs) e)
 
 -- one route for each prefix, by address, then length

@@ -1,4 +1,5 @@
 mod AgainLaws
+pub mod AloneLaws
 pub mod ConnectedLaws
 mod BestLaws
 pub mod MergingLaws
@@ -6,3 +7,5 @@ mod OrderLaws
 mod TableLaws
 mod StaticLaws
 mod LearnedLaws
+mod HeldLaws
+pub mod AtAddressLaws

@@ -1,7 +1,7 @@
 -- A router that knows the same again.
 use Rattle.std.specs.Prelude.{◌≡◌, ◌⊎◌, ℕ, ◌<◌, List, [], Some, None, IfSome, length, slice_get}
 use Rattle.rc_bgp.specs.RouterStates.{table_of}
-use Rattle.rc_bgp.specs.Sessions.{sessions_of}
+use Rattle.rc_bgp.specs.Sessions.{configured_sessions, sessions_of}
 use Rattle.rc_bgp_session.specs.declared.session.Session.{Session}
 use Rattle.rc_config.specs.Members.{router_at}
 use Rattle.rc_config.specs.declared.network.Network.{Network}
@@ -30,3 +30,12 @@ pub record IsUnchanged (net : Network) (internal : Internal) (sessions : List (L
 -- so it is of each router
 abbrev pub AreUnchanged : Network → Internal → List (List Session) → List RouterState → List RouterState → Type 0
 AreUnchanged net internal sessions state before = (r : ℕ) → r < length net.routers → (s : RouterState) × IsUnchanged net internal sessions state before r s
+
+-- it reads no other router, and no line of it reads its own table: its table is that of its file and of OSPF, whatever anybody knows
+pub record ReadsNothing (net : Network) (internal : Internal) (router : ℕ) : Type 0 where
+  pub others : ReadsNoOthers net internal (configured_sessions net internal.links) router
+  pub lines : HasNoLines net router
+
+-- so it is of each router
+abbrev pub AllReadNothing : Network → Internal → Type 0
+AllReadNothing net internal = (r : ℕ) → r < length net.routers → ReadsNothing net internal r

@@ -4,6 +4,7 @@ use Rattle.std.specs.List.Sorted.{IsStrictlySortedBy}
 use Rattle.rc_base.specs.Prefix.{Cidr, prefix_cmp}
 use Rattle.rc_bgp.specs.Changes.{AreChanges}
 use Rattle.rc_bgp.specs.Sessions.{configured_sessions}
+use Rattle.rc_bgp.specs.Telling.{told_inside}
 use Rattle.rc_config.specs.Lawful.{IsLawful}
 use Rattle.rc_config.specs.declared.network.Network.{Network}
 use Rattle.rc_external.specs.Externals.{externals, IsByPrefix}
@@ -20,8 +21,8 @@ pub record IsEarlier (net : Network) (internal : Internal) (state earlier : List
   pub in_order : All IsRouterState earlier
   pub told : AreChanges changes earlier state
 
--- sessions are the configured ones of the network over its links, externals those of the state before; all that is to be in order is; and
--- where there was a round earlier yet, the state before came from it
+-- sessions are the configured ones of the network over its links; externals, and what routers may tell inside, are those of the state
+-- before; all that is to be in order is; and where there was a round earlier yet, the state before came from it
 pub record AreInputs (i : Inputs) : Type 0 where
   pub lawful : IsLawful i.network.now
   pub state : IsStateOf (length i.network.now.routers) i.previous.now
@@ -30,4 +31,5 @@ pub record AreInputs (i : Inputs) : Type 0 where
   pub sessions : i.sessions.now ≡ configured_sessions i.network.now i.internal.now.links
   pub externals : i.externals.now ≡ externals i.network.now i.previous.now
   pub by_prefix : IsByPrefix i.externals.now
+  pub inside : i.inside.now ≡ told_inside i.sessions.now i.previous.now
   pub earlier : IfSome i.earlier (λ (e : Earlier). IsEarlier i.network.now i.internal.now i.previous.now e.state.now e.changes.now)

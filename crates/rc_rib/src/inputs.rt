@@ -1,5 +1,5 @@
 //! What tables are made from.
-use rc_bgp::{Changes, ConfiguredSessions};
+use rc_bgp::{Changes, ConfiguredSessions, Inside};
 use rc_config::Network;
 use rc_external::Externals;
 use rc_ospf::Internal;
@@ -23,6 +23,8 @@ pub struct Inputs<'a> {
     pub sessions: &'a ConfiguredSessions,
     /// What AS boundary routers send of the tables of the round before.
     pub externals: &'a Externals,
+    /// What each router may tell its internal BGP peers of what it knows after the round before.
+    pub inside: &'a Inside,
     /// What each router knows after the round before.
     pub previous: &'a State,
     /// What there was a round earlier yet, where there was such a round. Who read the same then knows the same again.

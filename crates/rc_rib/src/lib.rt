@@ -6,6 +6,7 @@
 #![tactic(auto)]
 
 mod active;
+mod alone;
 mod connected_routes;
 mod grouping;
 mod inputs;
@@ -17,6 +18,7 @@ mod outside;
 mod rows;
 mod settled;
 
+pub use alone::all_read_nothing;
 pub use inputs::{Earlier, Inputs};
 pub use made::Made;
 pub use next::table;

@@ -190,6 +190,7 @@ fn paths_after(alloc: Global, inputs: &Inputs<'_>, router: RouterId) -> Result<R
             inputs.network,
             inputs.sessions,
             inputs.previous,
+            inputs.inside,
             router,
         ),
         Some(earlier) => renewed_paths(
@@ -199,6 +200,7 @@ fn paths_after(alloc: Global, inputs: &Inputs<'_>, router: RouterId) -> Result<R
             earlier.state,
             earlier.changes,
             inputs.previous,
+            inputs.inside,
             router,
         ),
     }
@@ -260,7 +262,7 @@ fn again(alloc: Global, known: &RouterState) -> Result<Made, AllocError>
 }
 
 /// Whether a router has no line `ip route`.
-fn has_no_lines(net: &Network, router: RouterId) -> bool
+pub(crate) fn has_no_lines(net: &Network, router: RouterId) -> bool
     ensures { IsTrue result → HasNoLines net.now router }
 {
     let found = net.router_at(router);
@@ -271,7 +273,7 @@ fn has_no_lines(net: &Network, router: RouterId) -> bool
 }
 
 /// Whether a router has no BGP process.
-fn has_no_process(net: &Network, router: RouterId) -> bool
+pub(crate) fn has_no_process(net: &Network, router: RouterId) -> bool
     ensures { IsTrue result → IfSome (router_at net.now router) (λ file. file.bgp ≡ None) }
 {
     let found = net.router_at(router);
@@ -282,7 +284,7 @@ fn has_no_process(net: &Network, router: RouterId) -> bool
 }
 
 /// Whether no session to a router is configured.
-fn has_no_sessions(sessions: &ConfiguredSessions, router: RouterId) -> bool
+pub(crate) fn has_no_sessions(sessions: &ConfiguredSessions, router: RouterId) -> bool
     ensures { IsTrue result → sessions_of sessions.now router ≡ [] }
 {
     let found = sessions.as_slice().get(router.index());
@@ -293,7 +295,7 @@ fn has_no_sessions(sessions: &ConfiguredSessions, router: RouterId) -> bool
 }
 
 /// Whether a router has no path to an AS boundary router.
-fn has_no_boundaries(internal: &Internal, router: RouterId) -> bool
+pub(crate) fn has_no_boundaries(internal: &Internal, router: RouterId) -> bool
     ensures { IsTrue result → boundaries_of internal.now router ≡ [] }
 {
     internal.boundaries_of(router).is_empty()
