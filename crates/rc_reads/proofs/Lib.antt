@@ -1,0 +1,10 @@
+mod ListLaws
+mod SessionLaws
+mod PathLaws
+mod BoundaryLaws
+mod OutsideLaws
+mod ReadLaws
+mod NameLaws
+pub mod OwnLaws
+mod SameLaws
+mod StayedLaws

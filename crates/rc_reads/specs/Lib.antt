@@ -1,0 +1,4 @@
+pub mod Reads
+pub mod Nexts
+pub mod ReadsRows
+pub mod Stayed

@@ -1,0 +1,39 @@
+-- Who knows the same in two states: the one after a round, and the one before it.
+use Rattle.std.specs.Prelude.{◌≡◌, ◌⊎◌, ℕ, ◌<◌, Bool, true, List, [], Some, length, slice_get}
+use Rattle.std.specs.List.{AllByRecursion}
+use Rattle.rc_bgp.specs.Sessions.{sessions_of}
+use Rattle.rc_bgp_session.specs.declared.session.Session.{Session}
+use Rattle.rc_config.specs.declared.network.Network.{Network}
+use Rattle.rc_ospf.specs.Boundaries.{is_boundary}
+use Rattle.rc_ospf.specs.Internal.{boundaries_of}
+use Rattle.rc_ospf.specs.declared.model.Internal.{Internal}
+use Rattle.rc_reads.specs.declared.stayed.Stayed.{Stayed}
+use Rattle.rc_route.specs.declared.state.RouterState.{RouterState}
+
+-- both states know something of the router, and the same table
+pub record HasSameTable (old now : List RouterState) (r : ℕ) : Type 0 where
+  pub before : RouterState
+  pub after : RouterState
+  pub known_before : slice_get old r ≡ Some before
+  pub known_after : slice_get now r ≡ Some after
+  pub table : before.table ≡ after.table
+
+-- the flag of a router is set only where both states tell the same of it
+abbrev pub AreFlagged : List Bool → List RouterState → List RouterState → Type 0
+AreFlagged flags old now = (s : ℕ) → slice_get flags s ≡ Some true → slice_get old s ≡ slice_get now s
+
+-- the flags of all AS boundary routers are set
+abbrev pub BoundariesAreFlagged : Network → List Bool → Type 0
+BoundariesAreFlagged net flags = (s : ℕ) → s < length net.routers → is_boundary net s ≡ true → slice_get flags s ≡ Some true
+
+-- flags are set only where both states tell the same: of a router, and of each AS boundary router
+pub record HaveStayed (net : Network) (stayed : Stayed) (old now : List RouterState) : Type 0 where
+  pub routers : AreFlagged stayed.routers old now
+  pub boundaries : stayed.boundaries ≡ true → BoundariesAreFlagged net stayed.routers
+
+-- By these flags both states tell the same of the router and of the sender of each session to it. So they do of each AS boundary router,
+-- or the router has no path to one.
+pub record ReadsTheSame (internal : Internal) (sessions : List (List Session)) (stayed : Stayed) (r : ℕ) : Type 0 where
+  pub itself : slice_get stayed.routers r ≡ Some true
+  pub senders : AllByRecursion (λ (s : Session). slice_get stayed.routers s.sender ≡ Some true) (sessions_of sessions r)
+  pub boundaries : (stayed.boundaries ≡ true) ⊎ (boundaries_of internal r ≡ [])
