@@ -6,6 +6,7 @@ use Rattle.std.proofs.lemmas.List.Elements.{All-map}
 use Rattle.rc_base.specs.Prefix.{Cidr, prefix_cmp}
 use Rattle.rc_base.proofs.OrderedLaws.{in_order-sorted, prefix_cmp_total}
 use Rattle.rc_bgp.specs.Sessions.{configured_sessions}
+use Rattle.rc_bgp.specs.Telling.{told_inside}
 use Rattle.rc_bgp_session.specs.declared.session.Session.{Session}
 use Rattle.rc_config.specs.Lawful.{IsLawful}
 use Rattle.rc_config.specs.Members.{router_ids}
@@ -18,6 +19,7 @@ use Rattle.rc_ospf_interfaces.specs.Interfaces.{interfaces_at}
 use Rattle.rc_ospf.specs.Routes.{advert_prefix, own_prefixes}
 use Rattle.rc_ospf.specs.declared.model.Internal.{Internal}
 use Rattle.rc_route.specs.Tables.{IsStateOf, IsTable}
+use Rattle.rc_route.specs.declared.best.Best.{Best}
 use Rattle.rc_route.specs.declared.state.RouterState.{RouterState}
 use Rattle.rc_rib.specs.Inputs.{AreInputs, IsEarlier}
 use Rattle.rc_rib.specs.declared.inputs.Earlier.{Earlier}
@@ -36,8 +38,8 @@ pub told_earlier : (net : Network) (internal : Internal) (state : List RouterSta
 told_earlier net internal state None has old changes told is = tt
 told_earlier net internal state (Some e) has old changes told is = subst (λ s. IsEarlier net internal state s e.changes.now) (sym told.1) (subst (IsEarlier net internal state old) (sym told.2) (is told.0))
 
-module _ (i : Inputs) (net : Network) (internal : Internal) (all : List (List Session)) (rows : List ExternalRow) (state : List RouterState)
-    (same_net : i.network.now ≡ net) (same_internal : i.internal.now ≡ internal) (same_sessions : i.sessions.now ≡ all) (same_rows : i.externals.now ≡ rows) (same_state : i.previous.now ≡ state) where
+module _ (i : Inputs) (net : Network) (internal : Internal) (all : List (List Session)) (rows : List ExternalRow) (listed : List (Option (List Best))) (state : List RouterState)
+    (same_net : i.network.now ≡ net) (same_internal : i.internal.now ≡ internal) (same_sessions : i.sessions.now ≡ all) (same_rows : i.externals.now ≡ rows) (same_listed : i.inside.now ≡ listed) (same_state : i.previous.now ≡ state) where
   earlier_read : IfSome i.earlier (λ (e : Earlier). IsEarlier net internal state e.state.now e.changes.now) → IfSome i.earlier (λ (e : Earlier). IsEarlier i.network.now i.internal.now i.previous.now e.state.now e.changes.now)
   earlier_read = by i.earlier
     where
@@ -47,8 +49,8 @@ module _ (i : Inputs) (net : Network) (internal : Internal) (all : List (List Se
           subst (λ (n : Network). IsEarlier n i.internal.now i.previous.now e.state.now e.changes.now) (sym same_net)
           (subst (λ (x : Internal). IsEarlier net x i.previous.now e.state.now e.changes.now) (sym same_internal) (subst (λ s. IsEarlier net internal s e.state.now e.changes.now) (sym same_state) is))
 
-  pub are_inputs : IsSetting net internal all → IsStateOf (length net.routers) state → rows ≡ externals net state → IsByPrefix rows → IfSome i.earlier (λ (e : Earlier). IsEarlier net internal state e.state.now e.changes.now) → AreInputs i
-  are_inputs s ordered made by_prefix earlier = record {
+  pub are_inputs : IsSetting net internal all → IsStateOf (length net.routers) state → rows ≡ externals net state → IsByPrefix rows → listed ≡ told_inside all state → IfSome i.earlier (λ (e : Earlier). IsEarlier net internal state e.state.now e.changes.now) → AreInputs i
+  are_inputs s ordered made by_prefix told earlier = record {
     lawful = subst IsLawful (sym same_net) s.lawful;
     state = subst (λ (n : Network). IsStateOf (length n.routers) i.previous.now) (sym same_net) (subst (IsStateOf (length net.routers)) (sym same_state) ordered);
     routes = subst (λ (x : Internal). All IsTable x.routes) (sym same_internal) s.routes;
@@ -56,5 +58,6 @@ module _ (i : Inputs) (net : Network) (internal : Internal) (all : List (List Se
     sessions = same_sessions ∙ s.sessions ∙ sym (λ k. configured_sessions (same_net k) (same_internal k).links);
     externals = same_rows ∙ made ∙ sym (λ k. externals (same_net k) (same_state k));
     by_prefix = subst IsByPrefix (sym same_rows) by_prefix;
+    inside = same_listed ∙ told ∙ sym (λ k. told_inside (same_sessions k) (same_state k));
     earlier = earlier_read earlier;
   }

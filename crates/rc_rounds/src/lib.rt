@@ -14,5 +14,6 @@ mod rounds;
 mod shares;
 mod silent;
 
+pub use rc_reads::{Next, Reads, next_of, reads};
 pub use rc_route::Outcome;
 pub use rounds::{one_outcome, rounds_of, run_rounds};

@@ -14,7 +14,7 @@ use crate::Outcome;
 use crate::parts::{Round, Setting};
 use crate::round::{empty_state, next_state};
 use rc_base::Items;
-use rc_bgp::{Changes, ConfiguredSessions};
+use rc_bgp::{Changes, ConfiguredSessions, told_inside};
 use rc_config::Network;
 use rc_external::externals;
 use rc_ospf::Internal;
@@ -159,6 +159,7 @@ impl Progress {
         ensures changes { IfOk result (λ p. IfSome p.1 (λ r. AreChanges r.changes self.now.last r.state)) }
     {
         let externals = externals(alloc, net, &self.last)?;
+        let inside = told_inside(alloc, sessions, &self.last)?;
         let setting = Setting {
             network: net,
             internal,
@@ -168,13 +169,14 @@ impl Progress {
             changes: &self.changes,
         };
         let phase = self.done + 1;
-        if setting.is_settled(&self.last, &self.before) {
+        if setting.is_settled(&inside, &self.last, &self.before) {
             return Ok((Passed::in_turn(gate, phase, 0, workers), None));
         }
         let (passed, round) = next_state(
             rt,
             alloc,
             &setting,
+            &inside,
             &self.last,
             &self.before,
             workers,

@@ -11,6 +11,7 @@ ghost use Rattle.rc_rounds.specs.Parts.{AreRead};
 use crate::parts::{Round, Setting};
 use crate::shares::next_shares;
 use rc_base::Items;
+use rc_bgp::Inside;
 use rc_config::Network;
 use rc_outside::{Gate, Passed};
 use rc_rib::Made;
@@ -59,13 +60,14 @@ pub(crate) fn next_state<R: Threads + Sync, G: Gate>(
     rt: &R,
     alloc: Global,
     setting: &Setting<'_>,
+    inside: &Inside,
     read: &State,
     earlier: &State,
     workers: u32,
     phase: u32,
     gate: &G,
 ) -> (Passed, Result<Round, AllocError>)
-    requires read { AreRead setting.now read.now earlier.now }
+    requires read { AreRead setting.now inside.now read.now earlier.now }
     requires some_workers { 1 ≤ workers }
     requires few_workers { workers ≤ 64 }
     ensures passed { result.0 ≡ passage phase 0 workers }
@@ -73,7 +75,9 @@ pub(crate) fn next_state<R: Threads + Sync, G: Gate>(
     ensures in_order { IfOk result.1 (λ r. IsStateOf (length setting.now.network.now.routers) r.state) }
     ensures changes { IfOk result.1 (λ r. AreChanges r.changes read.now r.state) }
 {
-    let (passed, all) = next_shares(rt, alloc, setting, read, earlier, workers, phase, gate);
+    let (passed, all) = next_shares(
+        rt, alloc, setting, inside, read, earlier, workers, phase, gate,
+    );
     let all = match all {
         Ok(all) => all,
         Err(error) => return (passed, Err(error)),

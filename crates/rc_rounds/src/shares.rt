@@ -11,7 +11,7 @@ ghost use Rattle.rc_shares.specs.Stretches.{IsStretch};
 
 use crate::parts::Setting;
 use rc_base::{Items, RouterId};
-use rc_bgp::Changes;
+use rc_bgp::{Changes, Inside};
 use rc_outside::{Gate, Passed};
 use rc_rib::{Earlier, Inputs, Made, is_settled, table};
 use rc_route::State;
@@ -32,7 +32,7 @@ fn earlier_of<'a>(has_earlier: bool, state: &'a State, changes: &'a Changes) -> 
 
 /// What makes anew what each router knows, from what all workers read: this, what a round reads, and what was read a round earlier.
 /// These are parts, so that each by itself is shown to be shared by workers.
-pub(crate) trait Makes<B>: Sync {
+pub(crate) trait Makes<B, I>: Sync {
     ghost use Rattle.std.specs.Prelude.{ℕ};
     ghost use Rattle.rc_rib.specs.declared.made.Made.{Made as Known};
 
@@ -40,7 +40,7 @@ pub(crate) trait Makes<B>: Sync {
     ghost count: { Self → ℕ };
 
     /// What is read is as it has to be.
-    ghost ready: { Self → B → B → Type 0 };
+    ghost ready: { Self → I → B → B → Type 0 };
 
     /// That this is made of a router then, by its index.
     ghost makes: { Self → B → ℕ → Known → Type 0 };
@@ -50,16 +50,23 @@ pub(crate) trait Makes<B>: Sync {
         ensures { result ≡ count self.now };
 
     /// What a router knows then.
-    fn make(&self, read: &B, earlier: &B, alloc: Global, router: usize) -> Result<Made, AllocError>
-        requires ready { ready self.now read.now earlier.now }
+    fn make(
+        &self,
+        inside: &I,
+        read: &B,
+        earlier: &B,
+        alloc: Global,
+        router: usize,
+    ) -> Result<Made, AllocError>
+        requires ready { ready self.now inside.now read.now earlier.now }
         requires router { router < count self.now }
         ensures { IfOk result (makes self.now read.now router) };
 }
 
 impl<'a> Setting<'a> {
     /// Whether the next round changes nothing, as can be told without making it.
-    pub fn is_settled(&self, read: &State, earlier: &State) -> bool
-        requires { AreRead self.now read.now earlier.now }
+    pub fn is_settled(&self, inside: &Inside, read: &State, earlier: &State) -> bool
+        requires { AreRead self.now inside.now read.now earlier.now }
         ensures { IsTrue result → next_state self.now.network.now self.now.internal.now read.now ≡ read.now }
     {
         let inputs = Inputs {
@@ -67,6 +74,7 @@ impl<'a> Setting<'a> {
             internal: self.internal,
             sessions: self.sessions,
             externals: self.externals,
+            inside,
             previous: read,
             earlier: earlier_of(self.has_earlier, earlier, self.changes),
         };
@@ -74,7 +82,7 @@ impl<'a> Setting<'a> {
     }
 }
 
-impl<'a> Makes<State> for Setting<'a> {
+impl<'a> Makes<State, Inside> for Setting<'a> {
     ghost use Rattle.std.specs.Prelude.{length};
     ghost use Rattle.rc_rounds.specs.Parts.{IsReady};
     ghost use Rattle.rc_rounds.specs.Shares.{IsMade};
@@ -93,12 +101,13 @@ impl<'a> Makes<State> for Setting<'a> {
 
     fn make(
         &self,
+        inside: &Inside,
         read: &State,
         earlier: &State,
         alloc: Global,
         router: usize,
     ) -> Result<Made, AllocError>
-        requires ready { IsReady self.now read.now earlier.now }
+        requires ready { IsReady self.now inside.now read.now earlier.now }
         requires router { router < length self.now.network.now.routers }
         ensures { IfOk result (IsMade self.now.network.now self.now.internal.now read.now router) }
     {
@@ -107,6 +116,7 @@ impl<'a> Makes<State> for Setting<'a> {
             internal: self.internal,
             sessions: self.sessions,
             externals: self.externals,
+            inside,
             previous: read,
             earlier: earlier_of(self.has_earlier, earlier, self.changes),
         };
@@ -116,18 +126,19 @@ impl<'a> Makes<State> for Setting<'a> {
 
 /// The routers of a network, of each of which is made what it knows then.
 #[derive(Drop)]
-struct Routers<'a, W, B> {
+struct Routers<'a, W, B, I> {
     round: &'a W,
+    inside: &'a I,
     read: &'a B,
     earlier: &'a B,
 }
 
-impl<'a, W: Makes<B>, B: Sync> Each for Routers<'a, W, B> {
+impl<'a, W: Makes<B, I>, B: Sync, I: Sync> Each for Routers<'a, W, B, I> {
     type Made = Made;
 
     ghost count = { λ s. W.count s.round.now };
 
-    ghost ready = { λ s. W.ready s.round.now s.read.now s.earlier.now };
+    ghost ready = { λ s. W.ready s.round.now s.inside.now s.read.now s.earlier.now };
 
     ghost makes = { λ s. W.makes s.round.now s.read.now };
 
@@ -140,28 +151,31 @@ impl<'a, W: Makes<B>, B: Sync> Each for Routers<'a, W, B> {
     }
 
     fn make(&self, alloc: Global, item: usize) -> Result<Made, AllocError> {
-        self.round.make(self.read, self.earlier, alloc, item)
+        self.round
+            .make(self.inside, self.read, self.earlier, alloc, item)
     }
 }
 
 /// What all routers know then, and that all workers have passed the gate.
-pub(crate) fn all_shares<R: Threads + Sync, W: Makes<B>, B: Sync, G: Gate>(
+pub(crate) fn all_shares<R: Threads + Sync, W: Makes<B, I>, B: Sync, I: Sync, G: Gate>(
     rt: &R,
     alloc: Global,
     round: &W,
+    inside: &I,
     read: &B,
     earlier: &B,
     workers: u32,
     phase: u32,
     gate: &G,
 ) -> (Passed, Result<Items<Made>, AllocError>)
-    requires ready { W.ready round.now read.now earlier.now }
+    requires ready { W.ready round.now inside.now read.now earlier.now }
     requires some_workers { 1 ≤ workers }
     ensures passed { result.0 ≡ passage phase 0 workers }
     ensures stretch { IfOk result.1 (IsStretch (W.makes round.now read.now) 0 (W.count round.now)) }
 {
     let routers = Routers {
         round,
+        inside,
         read,
         earlier,
     };
@@ -173,16 +187,19 @@ pub(crate) fn next_shares<R: Threads + Sync, G: Gate>(
     rt: &R,
     alloc: Global,
     setting: &Setting<'_>,
+    inside: &Inside,
     read: &State,
     earlier: &State,
     workers: u32,
     phase: u32,
     gate: &G,
 ) -> (Passed, Result<Items<Made>, AllocError>)
-    requires ready { IsReady setting.now read.now earlier.now }
+    requires ready { IsReady setting.now inside.now read.now earlier.now }
     requires some_workers { 1 ≤ workers }
     ensures passed { result.0 ≡ passage phase 0 workers }
     ensures stretch { IfOk result.1 (IsStretch (IsMade setting.now.network.now setting.now.internal.now read.now) 0 (length setting.now.network.now.routers)) }
 {
-    all_shares(rt, alloc, setting, read, earlier, workers, phase, gate)
+    all_shares(
+        rt, alloc, setting, inside, read, earlier, workers, phase, gate,
+    )
 }

@@ -1,12 +1,12 @@
 use Rattle.std.proofs.Common.{refl}
 use Rattle.rc_rounds.specs.Parts.{AreRead, IsReady}
 use Rattle.rc_rounds.proofs.SettingLaws.{are_inputs, told_earlier}
-use Rattle.rc_rounds.proofs.shares.SettingMakesState.make.Goals as goal
+use Rattle.rc_rounds.proofs.shares.SettingMakesStateInside.make.Goals as goal
 
 pub table-requires-clause-inputs : goal.table-requires-clause-inputs
 unfolding IsReady
 table-requires-clause-inputs c =
     let s = c.args.self.now in
-    let r : AreRead s c.args.read.now c.args.earlier.now = c.requires.ready in
-    are_inputs _ s.network.now s.internal.now s.sessions.now s.externals.now c.args.read.now refl refl refl refl refl r.setting r.state r.externals r.by_prefix
+    let r : AreRead s c.args.inside.now c.args.read.now c.args.earlier.now = c.requires.ready in
+    are_inputs _ s.network.now s.internal.now s.sessions.now s.externals.now c.args.inside.now c.args.read.now refl refl refl refl refl refl r.setting r.state r.externals r.by_prefix r.listed
     (told_earlier s.network.now s.internal.now c.args.read.now c.earlier_of.result s.has_earlier c.args.earlier.now s.changes.now c.earlier_of.ensures r.earlier)
