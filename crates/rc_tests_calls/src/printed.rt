@@ -1,10 +1,10 @@
 //! In how many calls lines, tables and walks go out, and sinks that fail.
 use rc_base::{Addr, IfId, Items, Pos, Prefix, RouterId};
 use rc_config::{Named, Network};
+use rc_moves::{Stop, Walk};
 use rc_outside::MemSink;
 use rc_report::{Buffer, Part, put_line, put_routes, put_walk};
 use rc_route::{Hop, Hops, Route, Source, Table};
-use rc_walk::{Stop, Walk};
 use std::alloc::{AllocError, Global};
 use std::process::Abort;
 use std::test::Fail;
