@@ -6,10 +6,10 @@ import tempfile
 import time
 
 HERE = os.path.dirname(os.path.realpath(__file__))
-# Where `rt ci` leaves the proved program, and where `./netcheck` keeps it.
+# The program of the environment, else where `rt ci` leaves the proved one, and where `./netcheck` keeps it.
 PLACES = [os.path.join(HERE, place) for place in ("../crates/netcheck/out/netcheck", "../.netcheck/proved/netcheck")]
 BUILT = [place for place in PLACES if os.access(place, os.X_OK)]
-PROGRAM = max(BUILT, key=os.path.getmtime, default=None)
+PROGRAM = os.environ.get("NETCHECK") or max(BUILT, key=os.path.getmtime, default=None)
 MB = 1_000_000
 SMALL = "255.255.255.252"
 RING = 10 << 24
