@@ -18,8 +18,6 @@ mod hostile;
 #[cfg(test)]
 mod pairs;
 #[cfg(test)]
-mod reads;
-#[cfg(test)]
 mod refusals;
 #[cfg(test)]
 mod small_tables;
