@@ -3,5 +3,6 @@ pub mod CheckpointLaws
 mod RoundLaws
 mod ProgressLaws
 mod SettingLaws
+mod KnownLaws
 mod SilentLaws
 pub mod OutcomeLaws

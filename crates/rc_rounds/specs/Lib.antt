@@ -1,4 +1,5 @@
 pub mod Rounds
+pub mod AtAddress
 pub mod Silent
 pub mod Setting
 pub mod Shares

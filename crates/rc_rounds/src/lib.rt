@@ -6,6 +6,7 @@
 //! after all rounds, of which there is one, whatever the number of workers.
 #![tactic(auto)]
 
+mod at_address;
 mod leaving;
 mod parts;
 mod progress;
@@ -14,6 +15,7 @@ mod rounds;
 mod shares;
 mod silent;
 
+pub use at_address::{KnownAt, known_at};
 pub use rc_reads::{Next, Reads, next_of, reads};
 pub use rc_route::Outcome;
 pub use rounds::{one_outcome, rounds_of, run_rounds};
