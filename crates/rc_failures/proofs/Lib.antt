@@ -1,3 +1,5 @@
 mod ArrivalLaws
 mod RowLaws
+mod AgreeLaws
+mod AnalysisLaws
 pub mod OneList

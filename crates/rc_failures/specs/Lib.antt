@@ -1,3 +1,4 @@
+pub mod AtAddress
 pub mod Failures
 pub mod Shares
 pub mod Rows

@@ -8,6 +8,7 @@
 mod analysing;
 mod laws;
 mod packet;
+mod plain;
 mod rows;
 mod sharing;
 

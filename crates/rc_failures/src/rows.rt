@@ -6,7 +6,7 @@ ghost use Rattle.rc_shares.specs.Stretches.{IsStretch};
 ghost use Rattle.rc_failures.specs.Failures.{IsFailRow};
 ghost use Rattle.rc_failures.specs.Shares.{IsRowAt};
 
-use crate::analysing::analysis_of;
+use crate::analysing::{Analysed, analysis_of};
 use crate::packet::Packet;
 use rc_base::Items;
 use rc_config::{Network, Pair};
@@ -29,7 +29,7 @@ fn row_of<R: Threads + Sync>(
     ensures { IfOk result (IsFailRow net.now limit packet.now.place packet.now.header packet.now.ends pair.now) }
 {
     let cut = net.with_cut(alloc, pair.first, pair.second)?;
-    let (end, arrives) = analysis_of(rt, alloc, &cut, limit, packet)?;
+    let Analysed { end, arrives } = analysis_of(rt, alloc, &cut, limit, packet)?;
     Ok(FailRow {
         first: pair.first,
         second: pair.second,

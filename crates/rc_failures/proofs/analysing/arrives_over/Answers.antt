@@ -4,7 +4,7 @@ use Rattle.rc_moves.specs.Moves.{plane_of}
 use Rattle.rc_walk.specs.ShortestWalks.{IsShortestWalk, NoWalkEnds}
 use Rattle.rc_failures.specs.Failures.{Arrives}
 use Rattle.rc_failures.proofs.ArrivalLaws.{arrives_where_found}
-use Rattle.rc_failures.proofs.analysing.arrives_in.Goals as goal
+use Rattle.rc_failures.proofs.analysing.arrives_over.Goals as goal
 
 pub returns : goal.returns
 returns c =
