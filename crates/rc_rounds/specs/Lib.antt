@@ -1,7 +1,7 @@
 pub mod Rounds
 pub mod Silent
 pub mod Setting
-pub mod Shares
+pub mod Renewing
 pub mod Parts
 pub mod Progress
 pub mod Rows
