@@ -7,4 +7,4 @@ mod ReadLaws
 mod NameLaws
 pub mod OwnLaws
 mod SameLaws
-mod StayedLaws
+pub mod StayedLaws

@@ -1,6 +1,8 @@
 -- Who knows the same in two states: the one after a round, and the one before it.
-use Rattle.std.specs.Prelude.{◌≡◌, ◌⊎◌, ℕ, ◌<◌, Bool, true, List, [], Some, length, slice_get}
+use Rattle.std.specs.Prelude.{◌≡◌, ◌⊎◌, ℕ, ◌<◌, Bool, true, List, [], Option, Some, MatchOption, length, slice_get}
 use Rattle.std.specs.List.{AllByRecursion}
+use Rattle.rc_bgp.specs.Changes.{CoversChange}
+use Rattle.rc_bgp.specs.RouterStates.{paths_of}
 use Rattle.rc_bgp.specs.Sessions.{sessions_of}
 use Rattle.rc_bgp_session.specs.declared.session.Session.{Session}
 use Rattle.rc_config.specs.declared.network.Network.{Network}
@@ -8,6 +10,9 @@ use Rattle.rc_ospf.specs.Boundaries.{is_boundary}
 use Rattle.rc_ospf.specs.Internal.{boundaries_of}
 use Rattle.rc_ospf.specs.declared.model.Internal.{Internal}
 use Rattle.rc_reads.specs.declared.stayed.Stayed.{Stayed}
+use Rattle.rc_rib.specs.Next.{next_router}
+use Rattle.rc_rib.specs.declared.made.Made.{Made}
+use Rattle.rc_route.specs.Tables.{IsRouterState}
 use Rattle.rc_route.specs.declared.state.RouterState.{RouterState}
 
 -- both states know something of the router, and the same table
@@ -37,3 +42,20 @@ pub record ReadsTheSame (internal : Internal) (sessions : List (List Session)) (
   pub itself : slice_get stayed.routers r ≡ Some true
   pub senders : AllByRecursion (λ (s : Session). slice_get stayed.routers s.sender ≡ Some true) (sessions_of sessions r)
   pub boundaries : (stayed.boundaries ≡ true) ⊎ (boundaries_of internal r ≡ [])
+
+-- ---- what a round makes of a router
+
+-- the flag of the router is set, and what it knows in the state it knows again after a round from there
+pub record KnowsAgain (net : Network) (internal : Internal) (flags : List Bool) (now : List RouterState) (r : ℕ) : Type 0 where
+  pub flag : slice_get flags r ≡ Some true
+  pub same : slice_get now r ≡ Some (next_router net internal now r)
+
+-- this is what the router knows after a round from the state, in order, and all is told that changed in its best paths
+pub record IsMade (net : Network) (internal : Internal) (now : List RouterState) (r : ℕ) (m : Made) : Type 0 where
+  pub state : m.state ≡ next_router net internal now r
+  pub in_order : IsRouterState m.state
+  pub changed : CoversChange m.changed (paths_of now r) m.state.paths
+
+-- what is made anew of the router is that, and where nothing is, it knows the same again
+abbrev pub IsMadeAnew : Network → Internal → List Bool → List RouterState → ℕ → Option Made → Type 0
+IsMadeAnew net internal flags now r made = MatchOption made (KnowsAgain net internal flags now r) (IsMade net internal now r)

@@ -7,7 +7,7 @@ ghost use Rattle.rc_bgp.specs.Sessions.{sessions_of};
 ghost use Rattle.rc_bgp_session.specs.declared.session.Session.{Session as SessionModel};
 ghost use Rattle.rc_config.specs.Lawful.{IsRouter};
 ghost use Rattle.rc_ospf.specs.Internal.{boundaries_of};
-ghost use Rattle.rc_reads.specs.Stayed.{HaveStayed, ReadsTheSame};
+ghost use Rattle.rc_reads.specs.Stayed.{HaveStayed, IsMadeAnew, ReadsTheSame};
 ghost use Rattle.rc_rib.specs.Inputs.{AreInputs};
 ghost use Rattle.rc_rib.specs.Next.{next_router};
 ghost use Rattle.rc_rib.specs.declared.inputs.Earlier.{Earlier};
@@ -77,7 +77,7 @@ fn kept<'a>(inputs: &Inputs<'a>, stayed: &Stayed, router: RouterId) -> Option<&'
     requires inputs { AreInputs inputs.now }
     requires router { IsRouter inputs.now.network.now router }
     requires stayed { IfSome inputs.now.earlier (λ (e : Earlier). HaveStayed inputs.now.network.now stayed.now e.state.now inputs.now.previous.now) }
-    ensures { IfSome result (λ s. (slice_get inputs.now.previous.now router ≡ Some s.now) × (s.now ≡ next_router inputs.now.network.now inputs.now.internal.now inputs.now.previous.now router)) }
+    ensures { IfSome result (λ s. (slice_get inputs.now.previous.now router ≡ Some s.now) × (s.now ≡ next_router inputs.now.network.now inputs.now.internal.now inputs.now.previous.now router) × (slice_get stayed.now.routers router ≡ Some true)) }
 {
     match &inputs.earlier {
         None => None,
@@ -116,5 +116,28 @@ pub fn table_again(
     match known {
         Some(known) => again(alloc, known),
         None => table(alloc, inputs, router),
+    }
+}
+
+/// What is made anew of a router in a round, and `None` where nothing that it reads changed in the round before: then it knows the same
+/// again, and who makes the rounds has that already. It errs only where memory runs out.
+pub fn table_anew(
+    alloc: Global,
+    inputs: &Inputs<'_>,
+    stayed: &Stayed,
+    router: RouterId,
+) -> Result<Option<Made>, AllocError>
+    requires inputs { AreInputs inputs.now }
+    requires router { IsRouter inputs.now.network.now router }
+    requires stayed { IfSome inputs.now.earlier (λ (e : Earlier). HaveStayed inputs.now.network.now stayed.now e.state.now inputs.now.previous.now) }
+    ensures { IfOk result (IsMadeAnew inputs.now.network.now inputs.now.internal.now stayed.now.routers inputs.now.previous.now router) }
+{
+    let known = kept(inputs, stayed, router);
+    match known {
+        Some(_known) => Ok(None),
+        None => {
+            let made = table(alloc, inputs, router)?;
+            Ok(Some(made))
+        }
     }
 }

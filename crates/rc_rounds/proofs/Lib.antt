@@ -1,4 +1,5 @@
 mod ShareLaws
+mod RenewingLaws
 pub mod CheckpointLaws
 mod RoundLaws
 mod ProgressLaws

@@ -1,5 +1,5 @@
 -- What is kept of the rounds, one round further.
-use Rattle.std.proofs.Common.{refl, ◌≡◌, ◌≢◌, ◌⊎◌, inl, inr, sym, ap, ◌∙◌, subst, ℕ, ◌+◌, ◌-◌, ◌≤◌, ◌<◌, ◌==◌, Bool, true, false, if◌then◌else◌, List, length, arith}
+use Rattle.std.proofs.Common.{refl, ◌≡◌, ◌≢◌, ◌⊎◌, inl, inr, sym, ap, ◌∙◌, subst, ℕ, ◌+◌, ◌-◌, ◌≤◌, ◌<◌, ◌==◌, Bool, true, false, if◌then◌else◌, ◌&&◌, not, List, [], Option, map, length, arith}
 use Rattle.std.proofs.lemmas.Bool.Decides.{Decides-eqb}
 use Rattle.std.proofs.Math.Decide.{dec_lt}
 use Rattle.rc_base.specs.Prefix.{Cidr}
@@ -10,14 +10,19 @@ use Rattle.rc_route.specs.Tables.{IsStateOf}
 use Rattle.rc_route.specs.declared.state.RouterState.{RouterState}
 use Rattle.rc_rib.specs.Inputs.{IsEarlier}
 use Rattle.rc_rib.specs.Next.{next_state}
+use Rattle.rc_rib.specs.declared.made.Made.{Made}
+use Rattle.rc_rounds.specs.declared.round.Round.{Round}
 use Rattle.rc_rounds.specs.declared.progress.Progress.{Progress}
-use Rattle.rc_rounds.specs.Progress.{IsProgress, IsPowerBelow, checkpoint_state}
+use Rattle.rc_rounds.specs.Progress.{IsProgress, IsPowerBelow, IsRound, IsUnderWay, checkpoint_state, lends, lent, without_lent}
+use Rattle.rc_rounds.specs.Renewing.{AreMadeAnew, all_renewed}
 use Rattle.rc_rounds.specs.Rounds.{state_after, GoesOn, EndsAs}
-use Rattle.rc_route.specs.declared.outcome.Outcome.TheVariants.{Repeats}
+use Rattle.rc_route.specs.declared.outcome.Outcome.TheVariants.{Fixed, Repeats}
 use Rattle.rc_rounds.proofs.CheckpointLaws.{power-is}
+use Rattle.rc_rounds.proofs.RenewingLaws.{all_as_made}
 use Rattle.rc_rounds.proofs.RoundLaws.{next_is, further, changed, went_on}
+use Rattle.rc_rounds.proofs.ShareLaws.{all_in_order, all_made, all_told}
 
-module _ (net : Network) (internal : Internal) (p : Progress) (at : IsProgress net internal p) where
+module _ (net : Network) (internal : Internal) (p : Progress) (at : IsUnderWay net internal p) where
   -- the state that is kept of the checkpoint is its state
   pub checkpoint_state-is : checkpoint_state p ≡ state_after net internal p.checkpoint
   checkpoint_state-is = by (p.checkpoint == p.done) refl
@@ -25,7 +30,7 @@ module _ (net : Network) (internal : Internal) (p : Progress) (at : IsProgress n
       earlier : (b : Bool) → (p.checkpoint + 1 == p.done) ≡ b → p.checkpoint < p.done → (if b then p.before else p.kept) ≡ state_after net internal p.checkpoint
       earlier true e less =
           let same : p.checkpoint + 1 ≡ p.done = (Decides-eqb (p.checkpoint + 1) p.done).0 e in
-          at.before (omega arith) ∙ ap (state_after net internal) (let one : p.done - 1 ≡ p.checkpoint = omega arith in one)
+          at.before same
       earlier false e less =
           let sooner : p.checkpoint + 1 < p.done = pick (dec_lt (p.checkpoint + 1) p.done) in
           at.kept sooner
@@ -49,13 +54,6 @@ module _ (net : Network) (internal : Internal) (p : Progress) (at : IsProgress n
               let told : (p.checkpoint == p.done) ≡ true = (Decides-eqb p.checkpoint p.done).1 same in
               absurd (cc (e, told))
 
-  -- the last state is made from the one before
-  pub last_is_next : 1 ≤ p.done → IsEarlier net internal p.last p.before p.changes
-  last_is_next some =
-      let more : p.done - 1 + 1 ≡ p.done = omega arith in
-      let made = next_is net internal (p.done - 1) (next_state net internal p.before) p.before refl (at.before some) in
-      record { made = at.last ∙ ap (state_after net internal) (sym more) ∙ sym made; in_order = at.before_in_order; told = at.changes some }
-
   -- the rounds go on where the next state is neither
   pub goes_on : (next : List RouterState) → next ≡ next_state net internal p.last → next ≢ p.last → next ≢ checkpoint_state p → GoesOn net internal (p.done + 1)
   goes_on next made changes is_new =
@@ -67,6 +65,13 @@ module _ (net : Network) (internal : Internal) (p : Progress) (at : IsProgress n
       let new = next_is net internal p.done next p.last made at.last in
       subst (λ j. EndsAs net internal limit (Repeats p.checkpoint j)) (sym e)
       (omega arith, omega (arith, e, within), at.earlier, power-is (p.done + 1) p.checkpoint at.checkpoint, changed net internal p.done next p.last new at.last changes, sym new ∙ same ∙ checkpoint_state-is)
+
+  -- the next state is the last one: the rounds end there
+  pub ends_there : (next : List RouterState) → next ≡ next_state net internal p.last → next ≡ p.last → (limit k : ℕ) → k ≡ p.done + 1 → k ≤ limit → EndsAs net internal limit (Fixed k next)
+  ends_there next made same limit k e within =
+      let new = next_is net internal p.done next p.last made at.last in
+      let last : p.done ≡ p.done + 1 - 1 = omega arith in
+      subst (λ j. EndsAs net internal limit (Fixed j next)) (sym e) (omega arith, omega (arith, e, within), at.earlier, new, sym new ∙ same ∙ at.last ∙ ap (state_after net internal) last)
 
   -- one round further: the last state becomes the one before, and that one is kept where it is the checkpoint's
   module _ (next : List RouterState) (made : next ≡ next_state net internal p.last) (ordered : IsStateOf (length net.routers) next) (changes : List (List Cidr)) (told : AreChanges changes p.last next) (goes : GoesOn net internal (p.done + 1)) (c : ℕ) (power : IsPowerBelow (p.done + 1 + 1) c) (one_of_both : (c ≡ p.done + 1) ⊎ (c ≡ p.checkpoint)) where
@@ -84,17 +89,76 @@ module _ (net : Network) (internal : Internal) (p : Progress) (at : IsProgress n
     pub one_further : IsProgress net internal (record { done = p.done + 1; checkpoint = c; last = next; before = p.last; changes = changes; kept = if p.checkpoint + 1 == p.done then p.before else p.kept })
     unfolding kept
     one_further = record {
-      last = next_is net internal p.done next p.last made at.last;
-      in_order = ordered;
+      under_way = record {
+        last = next_is net internal p.done next p.last made at.last;
+        in_order = ordered;
+        before = λ same. at.last ∙ ap (state_after net internal) (let e : p.done ≡ c = omega (arith, same) in e);
+        checkpoint = power;
+        within = within one_of_both;
+        kept = λ less. elim one_of_both [ inl same ↦ absurd (let none : ⊥ = omega (arith, less, same) in none) | inr same ↦ stays same (omega (arith, less, same)) ];
+        earlier = further net internal (p.done + 1) at.earlier goes;
+      };
       before = λ some. at.last ∙ ap (state_after net internal) (let e : p.done ≡ p.done + 1 - 1 = omega arith in e);
-      checkpoint = power;
-      within = within one_of_both;
       before_in_order = at.in_order.each;
       changes = λ some. told;
-      kept = λ less. elim one_of_both [ inl same ↦ absurd (let none : ⊥ = omega (arith, less, same) in none) | inr same ↦ stays same (omega (arith, less, same)) ];
-      earlier = further net internal (p.done + 1) at.earlier goes;
     }
       where
         within : (c ≡ p.done + 1) ⊎ (c ≡ p.checkpoint) → c ≤ p.done + 1
         within (inl same) = omega (arith, same)
         within (inr same) = omega (arith, same, at.within)
+
+-- the last state is made from the one before
+pub last_is_next : (net : Network) (internal : Internal) (p : Progress) → IsProgress net internal p → 1 ≤ p.done → IsEarlier net internal p.last p.before p.changes
+last_is_next net internal p at some =
+    let more : p.done - 1 + 1 ≡ p.done = omega arith in
+    let made = next_is net internal (p.done - 1) (next_state net internal p.before) p.before refl (at.before some) in
+    record { made = at.under_way.last ∙ ap (state_after net internal) (sym more) ∙ sym made; in_order = at.before_in_order; told = at.changes some }
+
+-- ---- a round is put together
+
+and_false : (b : Bool) → (b && false) ≡ false
+and_false true = refl
+and_false false = refl
+
+-- the state before is no longer there, where the checkpoint doesn't keep it
+still_under_way : (net : Network) (internal : Internal) (p : Progress) → IsUnderWay net internal p → IsUnderWay net internal (without_lent p)
+still_under_way net internal p at = record {
+  last = at.last;
+  in_order = at.in_order;
+  before = λ same. (
+      let told : (p.checkpoint + 1 == p.done) ≡ true = (Decides-eqb (p.checkpoint + 1) p.done).1 same in
+      let none : lends p ≡ false = ap (λ b. not (p.done == 0) && not b) told ∙ and_false (not (p.done == 0)) in
+      ap (λ b. if b then [] else p.before) none ∙ at.before same);
+  checkpoint = at.checkpoint;
+  within = at.within;
+  kept = at.kept;
+  earlier = at.earlier;
+}
+
+pub is_round : (net : Network) (internal : Internal) (p rest : Progress) (round : Round) (fresh : List (Option Made)) → IsProgress net internal p → AreMadeAnew net internal p.last (lent p) fresh → rest ≡ without_lent p
+    → round.state ≡ map (λ (m : Made). m.state) (all_renewed fresh (lent p)) → round.changes ≡ map (λ (m : Made). m.changed) (all_renewed fresh (lent p)) → IsRound net internal p.done rest round
+is_round net internal p rest round fresh at are same state changes =
+    let made = all_as_made net internal p.last (lent p) fresh at.under_way.in_order.each are in
+    let ordered = all_in_order net internal p.last (all_renewed fresh (lent p)) round.state made state in
+    subst (λ (q : Progress). IsRound net internal p.done q round) (sym same) (record {
+      under_way = still_under_way net internal p at.under_way;
+      done = refl;
+      state = all_made net internal p.last (all_renewed fresh (lent p)) round.state made state;
+      in_order = ordered;
+      changes = all_told net internal p.last (all_renewed fresh (lent p)) round.state round.changes made at.under_way.in_order state changes;
+    })
+
+-- a round is made where a state is lent
+pub lends_some : (p : Progress) → lends p ≡ true → 1 ≤ p.done
+lends_some p is = by (p.done == 0) refl
+  where
+    by : (b : Bool) → (p.done == 0) ≡ b → 1 ≤ p.done
+    by true e = let none : lends p ≡ false = ap (λ b. not b && not (p.checkpoint + 1 == p.done)) e in absurd (cc (is, none))
+    by false e = pick (dec_lt 0 p.done)
+      where
+        pick : Dec (0 < p.done) → 1 ≤ p.done
+        pick (yes h) = omega (arith, h)
+        pick (no h) =
+            let same : p.done ≡ 0 = omega (arith, h) in
+            let told : (p.done == 0) ≡ true = (Decides-eqb p.done 0).1 same in
+            absurd (cc (e, told))

@@ -1,42 +1,45 @@
 -- What the routers of a round read, from what no round changes and the state before.
-use Rattle.std.proofs.Common.{◌≡◌, ◌∙◌, sym, subst, Bool, true, List, All, Option, Some, None, IfSome, length, map, get_or}
-use Rattle.std.specs.List.{flat_map}
+use Rattle.std.proofs.Common.{◌≡◌, ◌∙◌, sym, subst, ℕ, zero, suc, Bool, true, false, List, [], All, Option, Some, None, IfSome, length}
+use Rattle.std.specs.Prelude.{slice_get}
 use Rattle.std.specs.List.Sorted.{IsStrictlySortedBy}
-use Rattle.std.proofs.lemmas.List.Elements.{All-map}
 use Rattle.rc_base.specs.Prefix.{Cidr, prefix_cmp}
-use Rattle.rc_base.proofs.OrderedLaws.{in_order-sorted, prefix_cmp_total}
 use Rattle.rc_bgp.specs.Sessions.{configured_sessions}
 use Rattle.rc_bgp.specs.Telling.{told_inside}
 use Rattle.rc_bgp_session.specs.declared.session.Session.{Session}
 use Rattle.rc_config.specs.Lawful.{IsLawful}
-use Rattle.rc_config.specs.Members.{router_ids}
 use Rattle.rc_config.specs.declared.network.Network.{Network}
 use Rattle.rc_external.specs.Externals.{externals, IsByPrefix}
 use Rattle.rc_external.specs.declared.as_external.ExternalRow.{ExternalRow}
-use Rattle.rc_ospf.specs.Internal.{IsInternal}
-use Rattle.rc_ospf.specs.Adverts.{adverts_of}
-use Rattle.rc_ospf_interfaces.specs.Interfaces.{interfaces_at}
-use Rattle.rc_ospf.specs.Routes.{advert_prefix, own_prefixes}
 use Rattle.rc_ospf.specs.declared.model.Internal.{Internal}
 use Rattle.rc_route.specs.Tables.{IsStateOf, IsTable}
 use Rattle.rc_route.specs.declared.best.Best.{Best}
 use Rattle.rc_route.specs.declared.state.RouterState.{RouterState}
+use Rattle.rc_reads.specs.Stayed.{HaveStayed}
+use Rattle.rc_reads.specs.declared.stayed.Stayed.{Stayed}
 use Rattle.rc_rib.specs.Inputs.{AreInputs, IsEarlier}
 use Rattle.rc_rib.specs.declared.inputs.Earlier.{Earlier}
 use Rattle.rc_rib.specs.declared.inputs.Inputs.{Inputs}
 use Rattle.rc_rounds.specs.Setting.{IsSetting}
-
--- the prefixes that routers advertise themselves stand in order
-pub own_in_order : (net : Network) (i : Internal) → IsInternal net i → All (IsStrictlySortedBy prefix_cmp) i.own
-own_in_order net i is =
-    subst (All (IsStrictlySortedBy prefix_cmp)) (sym is.own)
-    (All-map (IsStrictlySortedBy prefix_cmp) (own_prefixes net) (router_ids net) (λ k d less. in_order-sorted prefix_cmp prefix_cmp_total (map advert_prefix (flat_map (adverts_of net) (interfaces_at net (get_or (router_ids net) k d))))))
 
 -- the state a round earlier and what changed since, where they are told
 pub told_earlier : (net : Network) (internal : Internal) (state : List RouterState) (o : Option Earlier) (has : Bool) (old : List RouterState) (changes : List (List Cidr))
     → IfSome o (λ (e : Earlier). (has ≡ true) × (e.state.now ≡ old) × (e.changes.now ≡ changes)) → (has ≡ true → IsEarlier net internal state old changes) → IfSome o (λ (e : Earlier). IsEarlier net internal state e.state.now e.changes.now)
 told_earlier net internal state None has old changes told is = tt
 told_earlier net internal state (Some e) has old changes told is = subst (λ s. IsEarlier net internal state s e.changes.now) (sym told.1) (subst (IsEarlier net internal state old) (sym told.2) (is told.0))
+
+-- where no flag is set
+pub nobody_stayed : (net : Network) (old now : List RouterState) → HaveStayed net (record { routers = []; boundaries = false }) old now
+nobody_stayed net old now = record { routers = none; boundaries = λ set. absurd (cc) }
+  where
+    none : (s : ℕ) → slice_get [] s ≡ Some true → slice_get old s ≡ slice_get now s
+    none zero set = absurd (cc)
+    none (suc s) set = absurd (cc)
+
+-- who knew the same after that round as before it
+pub told_stayed : (net : Network) (stayed : Stayed) (state : List RouterState) (o : Option Earlier) (has : Bool) (old : List RouterState) (changes : List (List Cidr))
+    → IfSome o (λ (e : Earlier). (has ≡ true) × (e.state.now ≡ old) × (e.changes.now ≡ changes)) → (has ≡ true → HaveStayed net stayed old state) → IfSome o (λ (e : Earlier). HaveStayed net stayed e.state.now state)
+told_stayed net stayed state None has old changes told have = tt
+told_stayed net stayed state (Some e) has old changes told have = subst (λ s. HaveStayed net stayed s state) (sym told.1) (have told.0)
 
 module _ (i : Inputs) (net : Network) (internal : Internal) (all : List (List Session)) (rows : List ExternalRow) (listed : List (Option (List Best))) (state : List RouterState)
     (same_net : i.network.now ≡ net) (same_internal : i.internal.now ≡ internal) (same_sessions : i.sessions.now ≡ all) (same_rows : i.externals.now ≡ rows) (same_listed : i.inside.now ≡ listed) (same_state : i.previous.now ≡ state) where

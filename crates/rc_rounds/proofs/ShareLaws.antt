@@ -16,7 +16,7 @@ use Rattle.rc_rib.specs.Next.{next_router, next_state}
 use Rattle.rc_rib.specs.declared.made.Made.{Made}
 use Rattle.rc_route.specs.Tables.{IsRouterState, IsStateOf, best_for}
 use Rattle.rc_rounds.specs.Rounds.{empty_state}
-use Rattle.rc_rounds.specs.Shares.{IsMade}
+use Rattle.rc_reads.specs.Stayed.{IsMade}
 use Rattle.rc_shares.specs.Stretches.{IsStretch}
 use Rattle.rc_shares.proofs.StretchLaws.{stretch_up}
 

@@ -2,6 +2,8 @@
 use Rattle.std.specs.Prelude.{◌≡◌, List, Option, length, true}
 use Rattle.rc_bgp.specs.Telling.{told_inside}
 use Rattle.rc_external.specs.Externals.{externals, IsByPrefix}
+use Rattle.rc_reads.specs.Stayed.{HaveStayed}
+use Rattle.rc_reads.specs.declared.stayed.Stayed.{Stayed}
 use Rattle.rc_rib.specs.Inputs.{IsEarlier}
 use Rattle.rc_route.specs.Tables.{IsStateOf}
 use Rattle.rc_route.specs.declared.best.Best.{Best}
@@ -19,6 +21,6 @@ pub record AreRead (s : Setting) (inside : List (Option (List Best))) (read befo
   pub listed : inside ≡ told_inside s.sessions.now read
   pub earlier : s.has_earlier ≡ true → IsEarlier s.network.now s.internal.now read before s.changes.now
 
--- the same, as workers hand it on
-unfoldable pub IsReady : Setting → List (Option (List Best)) → List RouterState → List RouterState → Type 0
-IsReady = AreRead
+-- the same, as workers hand it on, and who knew the same after that round as before it
+unfoldable pub IsReady : Setting → List (Option (List Best)) → Stayed → List RouterState → List RouterState → Type 0
+IsReady s inside stayed read before = AreRead s inside read before × (s.has_earlier ≡ true → HaveStayed s.network.now stayed before read)

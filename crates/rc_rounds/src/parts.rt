@@ -1,9 +1,10 @@
 //! What the workers of a round read beside states, and what a round makes.
+use rc_base::Items;
 use rc_bgp::{Changes, ConfiguredSessions};
 use rc_config::Network;
 use rc_external::Externals;
 use rc_ospf::Internal;
-use rc_route::State;
+use rc_rib::Made;
 
 /// What the workers of a round read beside the states of the round before and of the one earlier yet.
 #[derive(Drop)]
@@ -18,10 +19,5 @@ pub(crate) struct Setting<'a> {
     pub(crate) changes: &'a Changes,
 }
 
-/// What a round makes of all routers.
-#[derive(Drop)]
-pub(crate) struct Round {
-    pub(crate) state: State,
-    /// What changed in best paths from the state before.
-    pub(crate) changes: Changes,
-}
+/// What a round makes of all routers, each of which it makes anew where something changed that the router reads.
+pub(crate) type Fresh = Items<Option<Made>>;

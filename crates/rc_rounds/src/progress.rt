@@ -1,24 +1,28 @@
 //! What the rounds keep from one to the next.
-ghost use Rattle.std.specs.Prelude.{◌≡◌, ◌+◌, ◌≤◌, ◌<◌, ◌⊎◌, IfOk, IfSome, MatchOption, length, if◌then◌else◌};
+ghost use Rattle.std.specs.Prelude.{◌≡◌, ◌+◌, ◌≤◌, ◌<◌, ◌⊎◌, [], All, IfOk, MatchOption, length, if◌then◌else◌};
 ghost use Rattle.rc_bgp.specs.Changes.{AreChanges};
 ghost use Rattle.rc_config.specs.declared.network.Network.{Network as NetworkModel};
 ghost use Rattle.rc_rib.specs.Next as rib;
 ghost use Rattle.rc_outside.specs.Gate.{passage};
 ghost use Rattle.rc_ospf.specs.declared.model.Internal.{Internal as InternalModel};
-ghost use Rattle.rc_route.specs.Tables.{IsStateOf};
-ghost use Rattle.rc_rounds.specs.Progress.{IsProgress, IsPowerBelow, IsSame, checkpoint_state};
+ghost use Rattle.rc_reads.specs.Stayed.{AreFlagged, HaveStayed};
+ghost use Rattle.rc_route.specs.Tables.{IsRouterState, IsStateOf};
+ghost use Rattle.rc_rounds.specs.Progress.{IsProgress, IsPowerBelow, IsRound, IsSame, IsUnderWay, checkpoint_state, lends, lent, without_lent};
+ghost use Rattle.rc_rounds.specs.Renewing.{AreMadeAnew};
 ghost use Rattle.rc_rounds.specs.Rounds.{GoesOn};
 ghost use Rattle.rc_rounds.specs.Setting.{IsSetting};
 
 use crate::Outcome;
-use crate::parts::{Round, Setting};
-use crate::round::{empty_state, next_state};
+use crate::parts::{Fresh, Setting};
+use crate::round::{Round, empty_state, put_together};
+use crate::shares::next_shares;
 use rc_base::Items;
 use rc_bgp::{Changes, ConfiguredSessions, told_inside};
 use rc_config::Network;
 use rc_external::externals;
 use rc_ospf::Internal;
 use rc_outside::{Gate, Passed};
+use rc_reads::{Stayed, who_stayed};
 use rc_route::{State, equal};
 use std::alloc::{AllocError, Global};
 use std::thread::Threads;
@@ -34,7 +38,8 @@ pub(crate) struct Progress {
     pub checkpoint: u32,
     /// The state after the last round.
     pub last: State,
-    /// The state of the round before the last one, where two are made: a router that reads the same as there isn't made anew.
+    /// The state of the round before the last one, where two are made: a router that reads the same as there isn't made anew, and knows what
+    /// it knew there. Where the checkpoint doesn't keep this state, it is taken apart for that.
     pub before: State,
     /// What changed in best paths from there to the last round, where two are made: only that is decided anew.
     pub changes: Changes,
@@ -91,6 +96,18 @@ fn kept_of(is_checkpoint: bool, leaving: State, kept: State) -> (State, State)
     }
 }
 
+/// The state before, where it isn't lent, and the one that is lent.
+fn lent_of(alloc: Global, lends: bool, before: State) -> (State, State)
+    ensures kept { result.0 ≡ (if lends then [] else before) }
+    ensures lent { result.1 ≡ (if lends then before else []) }
+{
+    if lends {
+        (Items::new(alloc), before)
+    } else {
+        (before, Items::new(alloc))
+    }
+}
+
 impl Progress {
     /// No round is made.
     pub fn start(alloc: Global, net: &Network) -> Result<Progress, AllocError>
@@ -136,8 +153,34 @@ impl Progress {
         Same::Neither
     }
 
-    /// What the next round makes; nothing where it changes nothing, as can be told without making it. Its number is the phase in which all
-    /// its workers have passed the gate.
+    /// Whether the state before is lent to the next round: a round is made, and the checkpoint doesn't keep that state.
+    fn lends(&self) -> bool
+        requires { self.now.checkpoint ≤ 100000 }
+        ensures { result ≡ lends self.now }
+    {
+        self.done != 0 && self.checkpoint + 1 != self.done
+    }
+
+    /// Who knew the same after the last round as before it, where the state before is lent; nobody where it isn't.
+    fn stayed(&self, alloc: Global, net: &Network) -> Result<Stayed, AllocError>
+        requires few { self.now.checkpoint ≤ 100000 }
+        requires changes { 1 ≤ self.now.done → AreChanges self.now.changes self.now.before self.now.last }
+        requires before { All IsRouterState self.now.before }
+        requires last { All IsRouterState self.now.last }
+        ensures have { IfOk result (λ s. HaveStayed net.now s self.now.before self.now.last) }
+        ensures lent { IfOk result (λ s. AreFlagged s.routers (lent self.now) self.now.last) }
+    {
+        if self.lends() {
+            return who_stayed(alloc, net, &self.changes, &self.before, &self.last);
+        }
+        Ok(Stayed {
+            routers: Items::new(alloc),
+            boundaries: false,
+        })
+    }
+
+    /// What the next round makes anew; nothing where it changes nothing, as can be told without making it. Its number is the phase in which
+    /// all its workers have passed the gate.
     pub fn next<R: Threads + Sync, G: Gate>(
         &self,
         rt: &R,
@@ -147,16 +190,14 @@ impl Progress {
         sessions: &ConfiguredSessions,
         workers: u32,
         gate: &G,
-    ) -> Result<(Passed, Option<Round>), AllocError>
+    ) -> Result<(Passed, Option<Fresh>), AllocError>
         requires setting { IsSetting net.now internal.now sessions.now }
         requires made { IsProgress net.now internal.now self.now }
         requires few { self.now.done < 100000 }
         requires some_workers { 1 ≤ workers }
         requires few_workers { workers ≤ 64 }
         ensures passed { IfOk result (λ p. p.0 ≡ passage (self.now.done + 1) 0 workers) }
-        ensures value { IfOk result (λ p. MatchOption p.1 (rib.next_state net.now internal.now self.now.last ≡ self.now.last) (λ r. r.state ≡ rib.next_state net.now internal.now self.now.last)) }
-        ensures in_order { IfOk result (λ p. IfSome p.1 (λ r. IsStateOf (length net.now.routers) r.state)) }
-        ensures changes { IfOk result (λ p. IfSome p.1 (λ r. AreChanges r.changes self.now.last r.state)) }
+        ensures value { IfOk result (λ p. MatchOption p.1 (rib.next_state net.now internal.now self.now.last ≡ self.now.last) (AreMadeAnew net.now internal.now self.now.last (lent self.now))) }
     {
         let externals = externals(alloc, net, &self.last)?;
         let inside = told_inside(alloc, sessions, &self.last)?;
@@ -172,18 +213,57 @@ impl Progress {
         if setting.is_settled(&inside, &self.last, &self.before) {
             return Ok((Passed::in_turn(gate, phase, 0, workers), None));
         }
-        let (passed, round) = next_state(
+        let stayed = self.stayed(alloc, net)?;
+        let (passed, fresh) = next_shares(
             rt,
             alloc,
             &setting,
             &inside,
+            &stayed,
             &self.last,
             &self.before,
             workers,
             phase,
             gate,
         );
-        Ok((passed, Some(round?)))
+        Ok((passed, Some(fresh?)))
+    }
+
+    /// The state before, where it is lent, and all else.
+    fn lend(self, alloc: Global) -> (Progress, State)
+        requires { self.checkpoint ≤ 100000 }
+        ensures rest { result.0 ≡ without_lent self }
+        ensures lent { result.1 ≡ lent self }
+    {
+        let lends = self.lends();
+        let Progress {
+            done,
+            checkpoint,
+            last,
+            before,
+            changes,
+            kept,
+        } = self;
+        let (before, lent) = lent_of(alloc, lends, before);
+        let rest = Progress {
+            done,
+            checkpoint,
+            last,
+            before,
+            changes,
+            kept,
+        };
+        (rest, lent)
+    }
+
+    /// What the next round makes, put together from what it makes anew and what routers know again, which is taken from the state before.
+    pub fn put_together(self, alloc: Global, fresh: Fresh) -> Result<(Progress, Round), AllocError>
+        requires { self.checkpoint ≤ 100000 }
+        ensures { (net : NetworkModel) (internal : InternalModel) → IsProgress net internal self → AreMadeAnew net internal self.last (lent self) fresh → IfOk result (λ p. IsRound net internal self.done p.0 p.1) }
+    {
+        let (rest, known) = self.lend(alloc);
+        let round = put_together(alloc, fresh, known)?;
+        Ok((rest, round))
     }
 
     /// The last state, at which the next round changes nothing.
@@ -207,7 +287,7 @@ impl Progress {
         requires few { self.done < 100000 }
         requires checkpoint { self.checkpoint ≤ 100000 }
         ensures done { result.0.done ≡ self.done + 1 }
-        ensures made { (net : NetworkModel) (internal : InternalModel) → IsProgress net internal self → IsStateOf (length net.routers) next → next ≡ rib.next_state net internal self.last → AreChanges changed self.last next → GoesOn net internal (self.done + 1) → IsProgress net internal result.0 }
+        ensures made { (net : NetworkModel) (internal : InternalModel) → IsUnderWay net internal self → IsStateOf (length net.routers) next → next ≡ rib.next_state net internal self.last → AreChanges changed self.last next → GoesOn net internal (self.done + 1) → IsProgress net internal result.0 }
     {
         let Progress {
             done,

@@ -10,7 +10,6 @@ ghost use Rattle.rc_rounds.specs.Silent.{AreAsked};
 
 use crate::Outcome;
 use crate::leaving::drop_state;
-use crate::parts::Round;
 use crate::progress::{Progress, Same};
 use crate::silent::links_asked;
 use rc_bgp::{ConfiguredSessions, configured_sessions};
@@ -102,20 +101,18 @@ fn rounds_within<R: Threads + Sync, G: Gate>(
 {
     let mut progress = Progress::start(alloc, net)?;
     for done in 0..limit {
-        let (_passed, round) = progress.next(rt, alloc, net, internal, sessions, workers, gate)?;
-        let Some(round) = round else {
+        let (_passed, fresh) = progress.next(rt, alloc, net, internal, sessions, workers, gate)?;
+        let Some(fresh) = fresh else {
             return Ok(progress.fixed());
         };
-        let Round {
-            state: next,
-            changes,
-        } = round;
-        let same = progress.same(&next);
+        let (rest, round) = progress.put_together(alloc, fresh)?;
+        let (next, changes) = round.without_left(rt, alloc, workers);
+        let same = rest.same(&next);
         match same {
             Same::Last => return Ok(Outcome::Fixed(done + 1, next)),
-            Same::Checkpoint => return Ok(Outcome::Repeats(progress.checkpoint, done + 1)),
+            Same::Checkpoint => return Ok(Outcome::Repeats(rest.checkpoint, done + 1)),
             Same::Neither => {
-                let (further, left) = progress.after(next, changes);
+                let (further, left) = rest.after(next, changes);
                 progress = further;
                 drop_state(rt, alloc, left, workers);
             }

@@ -6,14 +6,15 @@ ghost use Rattle.std.specs.Prelude.{◌≡◌, ◌≤◌, ◌<◌, IfOk, IfSome,
 ghost use Rattle.rc_rib.specs.Next.{next_state};
 ghost use Rattle.rc_rounds.specs.Parts.{AreRead, IsReady};
 ghost use Rattle.rc_outside.specs.Gate.{passage};
-ghost use Rattle.rc_rounds.specs.Shares.{IsMade};
+ghost use Rattle.rc_reads.specs.Stayed.{IsMadeAnew};
 ghost use Rattle.rc_shares.specs.Stretches.{IsStretch};
 
-use crate::parts::Setting;
-use rc_base::{Items, RouterId};
+use crate::parts::{Fresh, Setting};
+use rc_base::RouterId;
 use rc_bgp::{Changes, Inside};
 use rc_outside::{Gate, Passed};
-use rc_rib::{Earlier, Inputs, Made, is_settled, table};
+use rc_reads::{Stayed, table_anew};
+use rc_rib::{Earlier, Inputs, Made, is_settled};
 use rc_route::State;
 use rc_shares::{Each, each_at_once};
 use std::alloc::{AllocError, Global};
@@ -30,37 +31,39 @@ fn earlier_of<'a>(has_earlier: bool, state: &'a State, changes: &'a Changes) -> 
     }
 }
 
-/// What makes anew what each router knows, from what all workers read: this, what a round reads, and what was read a round earlier.
+/// What makes what each router knows next, from what all workers read: this, what a round reads, who stayed in the round before, and what
+/// was read a round earlier.
 /// These are parts, so that each by itself is shown to be shared by workers.
-pub(crate) trait Makes<B, I>: Sync {
-    ghost use Rattle.std.specs.Prelude.{ℕ};
+pub(crate) trait Makes<B, I, S>: Sync {
+    ghost use Rattle.std.specs.Prelude.{Option, ℕ};
     ghost use Rattle.rc_rib.specs.declared.made.Made.{Made as Known};
 
     /// How many routers there are.
     ghost count: { Self → ℕ };
 
     /// What is read is as it has to be.
-    ghost ready: { Self → I → B → B → Type 0 };
+    ghost ready: { Self → I → S → B → B → Type 0 };
 
     /// That this is made of a router then, by its index.
-    ghost makes: { Self → B → ℕ → Known → Type 0 };
+    ghost makes: { Self → S → B → ℕ → Option Known → Type 0 };
 
     /// How many routers there are.
     fn routers(&self) -> usize
         ensures { result ≡ count self.now };
 
-    /// What a router knows then.
+    /// What is made anew of a router.
     fn make(
         &self,
         inside: &I,
+        stayed: &S,
         read: &B,
         earlier: &B,
         alloc: Global,
         router: usize,
-    ) -> Result<Made, AllocError>
-        requires ready { ready self.now inside.now read.now earlier.now }
+    ) -> Result<Option<Made>, AllocError>
+        requires ready { ready self.now inside.now stayed.now read.now earlier.now }
         requires router { router < count self.now }
-        ensures { IfOk result (makes self.now read.now router) };
+        ensures { IfOk result (makes self.now stayed.now read.now router) };
 }
 
 impl<'a> Setting<'a> {
@@ -82,16 +85,16 @@ impl<'a> Setting<'a> {
     }
 }
 
-impl<'a> Makes<State, Inside> for Setting<'a> {
+impl<'a> Makes<State, Inside, Stayed> for Setting<'a> {
     ghost use Rattle.std.specs.Prelude.{length};
     ghost use Rattle.rc_rounds.specs.Parts.{IsReady};
-    ghost use Rattle.rc_rounds.specs.Shares.{IsMade};
+    ghost use Rattle.rc_reads.specs.Stayed.{IsMadeAnew};
 
     ghost count = { λ s. length s.network.now.routers };
 
     ghost ready = { IsReady };
 
-    ghost makes = { λ s b. IsMade s.network.now s.internal.now b };
+    ghost makes = { λ s stayed b. IsMadeAnew s.network.now s.internal.now stayed.routers b };
 
     fn routers(&self) -> usize
         ensures { result ≡ length self.now.network.now.routers }
@@ -102,14 +105,15 @@ impl<'a> Makes<State, Inside> for Setting<'a> {
     fn make(
         &self,
         inside: &Inside,
+        stayed: &Stayed,
         read: &State,
         earlier: &State,
         alloc: Global,
         router: usize,
-    ) -> Result<Made, AllocError>
-        requires ready { IsReady self.now inside.now read.now earlier.now }
+    ) -> Result<Option<Made>, AllocError>
+        requires ready { IsReady self.now inside.now stayed.now read.now earlier.now }
         requires router { router < length self.now.network.now.routers }
-        ensures { IfOk result (IsMade self.now.network.now self.now.internal.now read.now router) }
+        ensures { IfOk result (IsMadeAnew self.now.network.now self.now.internal.now stayed.now.routers read.now router) }
     {
         let inputs = Inputs {
             network: self.network,
@@ -120,27 +124,28 @@ impl<'a> Makes<State, Inside> for Setting<'a> {
             previous: read,
             earlier: earlier_of(self.has_earlier, earlier, self.changes),
         };
-        table(alloc, &inputs, RouterId::at(router))
+        table_anew(alloc, &inputs, stayed, RouterId::at(router))
     }
 }
 
-/// The routers of a network, of each of which is made what it knows then.
+/// The routers of a network, each of which is made anew where something changed that it reads.
 #[derive(Drop)]
-struct Routers<'a, W, B, I> {
+struct Routers<'a, W, B, I, S> {
     round: &'a W,
     inside: &'a I,
+    stayed: &'a S,
     read: &'a B,
     earlier: &'a B,
 }
 
-impl<'a, W: Makes<B, I>, B: Sync, I: Sync> Each for Routers<'a, W, B, I> {
-    type Made = Made;
+impl<'a, W: Makes<B, I, S>, B: Sync, I: Sync, S: Sync> Each for Routers<'a, W, B, I, S> {
+    type Made = Option<Made>;
 
     ghost count = { λ s. W.count s.round.now };
 
-    ghost ready = { λ s. W.ready s.round.now s.inside.now s.read.now s.earlier.now };
+    ghost ready = { λ s. W.ready s.round.now s.inside.now s.stayed.now s.read.now s.earlier.now };
 
-    ghost makes = { λ s. W.makes s.round.now s.read.now };
+    ghost makes = { λ s. W.makes s.round.now s.stayed.now s.read.now };
 
     fn items(&self) -> usize {
         self.round.routers()
@@ -150,56 +155,68 @@ impl<'a, W: Makes<B, I>, B: Sync, I: Sync> Each for Routers<'a, W, B, I> {
         1
     }
 
-    fn make(&self, alloc: Global, item: usize) -> Result<Made, AllocError> {
-        self.round
-            .make(self.inside, self.read, self.earlier, alloc, item)
+    fn make(&self, alloc: Global, item: usize) -> Result<Option<Made>, AllocError> {
+        self.round.make(
+            self.inside,
+            self.stayed,
+            self.read,
+            self.earlier,
+            alloc,
+            item,
+        )
     }
 }
 
-/// What all routers know then, and that all workers have passed the gate.
-pub(crate) fn all_shares<R: Threads + Sync, W: Makes<B, I>, B: Sync, I: Sync, G: Gate>(
+/// What is made anew of all routers, and that all workers have passed the gate.
+pub(crate) fn all_shares<R: Threads + Sync, W: Makes<B, I, S>, B: Sync, I: Sync, S: Sync, G: Gate>(
     rt: &R,
     alloc: Global,
     round: &W,
     inside: &I,
+    stayed: &S,
     read: &B,
     earlier: &B,
     workers: u32,
     phase: u32,
     gate: &G,
-) -> (Passed, Result<Items<Made>, AllocError>)
-    requires ready { W.ready round.now inside.now read.now earlier.now }
+) -> (Passed, Result<Fresh, AllocError>)
+    requires ready { W.ready round.now inside.now stayed.now read.now earlier.now }
     requires some_workers { 1 ≤ workers }
     ensures passed { result.0 ≡ passage phase 0 workers }
-    ensures stretch { IfOk result.1 (IsStretch (W.makes round.now read.now) 0 (W.count round.now)) }
+    ensures stretch { IfOk result.1 (IsStretch (W.makes round.now stayed.now read.now) 0 (W.count round.now)) }
 {
     let routers = Routers {
         round,
         inside,
+        stayed,
         read,
         earlier,
     };
     each_at_once(rt, alloc, &routers, workers, phase, gate)
 }
 
-/// What all routers know after a round in which all read these states, and that all workers have passed the gate.
+/// What is made anew of all routers in a round in which all read these states.
+///
+/// Workers share the routers and work at once. Each worker passes the gate before its work, also where its share is empty; in every
+/// outcome all have passed.
 pub(crate) fn next_shares<R: Threads + Sync, G: Gate>(
     rt: &R,
     alloc: Global,
     setting: &Setting<'_>,
     inside: &Inside,
+    stayed: &Stayed,
     read: &State,
     earlier: &State,
     workers: u32,
     phase: u32,
     gate: &G,
-) -> (Passed, Result<Items<Made>, AllocError>)
-    requires ready { IsReady setting.now inside.now read.now earlier.now }
+) -> (Passed, Result<Fresh, AllocError>)
+    requires ready { IsReady setting.now inside.now stayed.now read.now earlier.now }
     requires some_workers { 1 ≤ workers }
     ensures passed { result.0 ≡ passage phase 0 workers }
-    ensures stretch { IfOk result.1 (IsStretch (IsMade setting.now.network.now setting.now.internal.now read.now) 0 (length setting.now.network.now.routers)) }
+    ensures stretch { IfOk result.1 (IsStretch (IsMadeAnew setting.now.network.now setting.now.internal.now stayed.now.routers read.now) 0 (length setting.now.network.now.routers)) }
 {
     all_shares(
-        rt, alloc, setting, inside, read, earlier, workers, phase, gate,
+        rt, alloc, setting, inside, stayed, read, earlier, workers, phase, gate,
     )
 }

@@ -1,6 +1,6 @@
 use Rattle.std.proofs.lemmas.Result.{IfOk-weaker}
+use Rattle.rc_reads.proofs.OwnLaws.{own_in_order}
 use Rattle.rc_rounds.specs.Rounds.{IsOutcome}
-use Rattle.rc_rounds.proofs.SettingLaws.{own_in_order}
 use Rattle.rc_rounds.proofs.SilentLaws.{outcome_over}
 use Rattle.rc_rounds.proofs.rounds.rounds_of.Goals as goal
 
