@@ -17,3 +17,6 @@ mod ShareLaws
 mod HopLaws
 mod SummaryLaws
 pub mod HoldingLaws
+mod LeastWalks
+mod TowardsLaws
+mod Existence

@@ -24,4 +24,5 @@ pub mod AreaRows
 pub mod SummaryRows
 pub mod BoundaryRows
 pub mod Edges
+pub mod Towards
 pub mod Shares

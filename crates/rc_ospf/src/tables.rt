@@ -7,7 +7,7 @@ ghost use Rattle.rc_ospf.specs.BoundaryForms.{target_of, boundary_paths};
 ghost use Rattle.rc_ospf.specs.Boundaries.{boundary_routers};
 ghost use Rattle.rc_ospf.specs.ByPrefix.{destination_of};
 ghost use Rattle.rc_ospf.specs.BoundaryPaths.{IsNear};
-ghost use Rattle.rc_ospf.specs.Internal.{adverts_in, steps_of, IsInternal, IsInternalAsked, IsInternalAt, HasOneInternal, HasSmallSums, tables_asked};
+ghost use Rattle.rc_ospf.specs.Internal.{adverts_in, steps_of, IsInternal, IsInternalAsked, IsInternalAt, HasInternal, HasOneInternal, HasSmallSums, tables_asked};
 ghost use Rattle.rc_ospf.specs.Members.{known, AreMembers};
 ghost use Rattle.rc_ospf.specs.Routes as spec;
 ghost use Rattle.rc_ospf.specs.declared.member.StubAreas.TheVariants.{Kept, LeftOut};
@@ -259,4 +259,9 @@ pub fn internal_at<R: Threads + Sync>(
 /// A network with its links has one answer.
 pub fn one_internal()
     ensures { HasOneInternal }
+{}
+
+/// A network with any links has an answer.
+pub fn has_internal()
+    ensures { HasInternal }
 {}
