@@ -20,3 +20,6 @@ pub mod HoldingLaws
 mod LeastWalks
 mod TowardsLaws
 mod Existence
+mod TurnedLaws
+mod InwardLaws
+mod AskedLaws

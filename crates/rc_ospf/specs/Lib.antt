@@ -25,4 +25,6 @@ pub mod SummaryRows
 pub mod BoundaryRows
 pub mod Edges
 pub mod Towards
+pub mod Inward
+pub mod Asked
 pub mod Shares

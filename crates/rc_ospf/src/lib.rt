@@ -15,11 +15,13 @@
 mod adjacency;
 mod advertising;
 mod area;
+mod asked;
 mod best;
 mod boundary;
 mod destination;
 mod grouping;
 mod hops;
+mod inward;
 mod member;
 mod model;
 mod offer;
