@@ -48,7 +48,7 @@ module _ (a : ℕ) where
     holds_alike : (row : Row) (x : Route) → internal_route routers m row ≡ Some x → contains x.prefix a ≡ contains row.prefix a
     holds_alike row x is = ap (λ p. contains p a) (route_keeps m row.prefix row.offers (summaries_of routers (is_default row.prefix) row.offers) x is)
 
-    found_holding : (rows : List Row) → filter_map (internal_route routers m) (rows_holding a rows) ≡ holding a (filter_map (internal_route routers m) rows)
+    pub found_holding : (rows : List Row) → filter_map (internal_route routers m) (rows_holding a rows) ≡ holding a (filter_map (internal_route routers m) rows)
     found_holding [] = refl
     found_holding (row ∷ rows) = by (contains row.prefix a) refl (internal_route routers m row) refl (found_holding rows)
       where

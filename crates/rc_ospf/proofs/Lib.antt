@@ -17,3 +17,9 @@ mod ShareLaws
 mod HopLaws
 mod SummaryLaws
 pub mod HoldingLaws
+mod LeastWalks
+mod TowardsLaws
+mod Existence
+mod TurnedLaws
+mod InwardLaws
+mod AskedLaws

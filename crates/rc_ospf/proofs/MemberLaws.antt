@@ -8,8 +8,7 @@ use Rattle.rc_config.specs.declared.network.Network.{Network}
 use Rattle.rc_route.specs.declared.route.Hop.{Hop}
 use Rattle.rc_ospf.specs.Areas.{OspfRouter, AreOspfRouters, without_stubs}
 use Rattle.rc_ospf.specs.Edges.{IsFitStep, IsReachOfOthers}
-use Rattle.rc_ospf.specs.Members.{nowhere, reach_of, known, IsMember, AreMembers}
-use Rattle.rc_ospf.specs.Paths.{path_in}
+use Rattle.rc_ospf.specs.Members.{nowhere, reach_found, reach_of, known, IsMember, AreMembers}
 use Rattle.rc_ospf.specs.Shares.{AreMade}
 use Rattle.rc_ospf.specs.Walks.{LeastWalks, IsWalk, IsLeastWalk, AreLeastWalks, IsReach, walk_cost, first_hop}
 use Rattle.rc_ospf.specs.declared.adjacency.Step.{Step}
@@ -19,7 +18,7 @@ use Rattle.rc_ospf.specs.declared.router_area.RouterArea.{RouterArea}
 use Rattle.rc_ospf.proofs.Members.{contains_in}
 
 -- the least walk to the router itself has no steps, since each step costs something
-staying : (n : ℕ) (steps : List Step) (area r s : ℕ) → All (IsFitStep n) steps → r ≡ s → AreLeastWalks steps area r s nowhere
+pub staying : (n : ℕ) (steps : List Step) (area r s : ℕ) → All (IsFitStep n) steps → r ≡ s → AreLeastWalks steps area r s nowhere
 unfolding IsStrictlySortedBy
 staying n steps area r s fit same = record {
   cost = ([], record { is_walk = same; least = λ other is. omega arith }, refl);
@@ -34,13 +33,13 @@ staying n steps area r s fit same = record {
         let some : 1 ≤ x.cost = fits.least in
         let most : x.cost + walk_cost walk ≤ 0 = least.least [] same in omega (arith, some, most)
 
-pub reach_all : (n : ℕ) (steps : List Step) (m : Member) → All (IsFitStep n) steps → m.own ≡ nowhere → IsReachOfOthers steps m.router (path_in m.found) → IsReach steps m.router (reach_of m)
+pub reach_all : (n : ℕ) (steps : List Step) (m : Member) → All (IsFitStep n) steps → m.own ≡ nowhere → IsReachOfOthers steps m.router (reach_found m.found) → IsReach steps m.router (reach_of m)
 reach_all n steps m fit own others area s = by (s == m.router) refl
   where
     Walks : Option LeastWalks → Type 0
     Walks o = MatchOption o ((walk : List Step) → IsWalk steps area m.router walk s → ⊥) (AreLeastWalks steps area m.router s)
 
-    by : (b : Bool) → (s == m.router) ≡ b → Walks (cond b (Some m.own) (path_in m.found area s))
+    by : (b : Bool) → (s == m.router) ≡ b → Walks (cond b (Some m.own) (reach_found m.found area s))
     by true is = let same : m.router ≡ s = grind (arith, is) in subst (AreLeastWalks steps area m.router s) (sym own) (staying n steps area m.router s fit same)
     by false is = others area s (λ e. let here : (s == m.router) ≡ true = eq-eqb s m.router e in cc)
 

@@ -15,7 +15,7 @@ use Rattle.rc_ospf.proofs.Members.{contains_in, in_contains, same_by_members}
 made_of : ℕ → List Hop → LeastWalks
 made_of cost hops = record { cost = cost; hops = hops }
 
-one_least : (steps : List Step) (area r s : ℕ) (e f : LeastWalks) → AreLeastWalks steps area r s e → AreLeastWalks steps area r s f → e ≡ f
+pub one_least : (steps : List Step) (area r s : ℕ) (e f : LeastWalks) → AreLeastWalks steps area r s e → AreLeastWalks steps area r s f → e ≡ f
 unfolding made_of
 one_least steps area r s e f a b = ap (λ c. made_of c e.hops) costs ∙ ap (made_of f.cost) hops
   where

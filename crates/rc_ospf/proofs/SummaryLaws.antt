@@ -19,11 +19,11 @@ use Rattle.rc_ospf.specs.declared.member.Member.{Member}
 use Rattle.rc_ospf.specs.declared.member.StubAreas.{StubAreas}
 use Rattle.rc_ospf.specs.declared.summaries.Summaries.{Summaries}
 
-none_here : (a b : Bool) → (a || b) ≡ false → a ≡ false
+pub none_here : (a b : Bool) → (a || b) ≡ false → a ≡ false
 none_here true b is = absurd (cc)
 none_here false b is = refl
 
-none_there : (a b : Bool) → (a || b) ≡ false → b ≡ false
+pub none_there : (a b : Bool) → (a || b) ≡ false → b ≡ false
 none_there true b is = absurd (cc)
 none_there false b is = is
 

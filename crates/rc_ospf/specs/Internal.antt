@@ -65,6 +65,10 @@ pub record HasSmallSums (i : Internal) : Type 0 where
 abbrev pub HasOneInternal : Type 0
 HasOneInternal = (net : Network) (these those : Internal) → these.links ≡ those.links → IsInternal net these → IsInternal net those → these ≡ those
 
+-- a network with any links has an answer
+abbrev pub HasInternal : Type 0
+HasInternal = (net : Network) (links : Topology) → (i : Internal) × (i.links ≡ links) × IsInternal net i
+
 -- a router's routes inside and between areas, of which there are none past the end
 abbrev pub routes_of : Internal → ℕ → List Route
 routes_of i r = unwrap_or (slice_get i.routes r) []

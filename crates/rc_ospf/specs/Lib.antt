@@ -24,4 +24,7 @@ pub mod AreaRows
 pub mod SummaryRows
 pub mod BoundaryRows
 pub mod Edges
+pub mod Towards
+pub mod Inward
+pub mod Asked
 pub mod Shares

@@ -6,24 +6,32 @@ use Rattle.rc_route.specs.declared.route.Route.{Route}
 use Rattle.rc_ospf.specs.Areas.{OspfRouter, summaries_of}
 use Rattle.rc_ospf.specs.ByPrefix.{destination_route}
 use Rattle.rc_ospf.specs.Edges.{IsFitStep, AreAreaGraphs}
+use Rattle.rc_ospf.specs.Inward.{path_among}
 use Rattle.rc_ospf.specs.Offered.{Offered}
 use Rattle.rc_ospf.specs.Paths.{path_in}
 use Rattle.rc_ospf.specs.RouterAreas.{router_areas, open_areas, is_border}
 use Rattle.rc_ospf.specs.Walks.{LeastWalks, Reach, IsReach}
 use Rattle.rc_ospf.specs.declared.adjacency.Step.{Step}
 use Rattle.rc_ospf.specs.declared.destination.Destination.{Destination}
+use Rattle.rc_ospf.specs.declared.member.Found.{Found}
+use Rattle.rc_ospf.specs.declared.member.Found.TheVariants.{ToAll, ToEnds}
 use Rattle.rc_ospf.specs.declared.member.LinkStates.{LinkStates}
 use Rattle.rc_ospf.specs.declared.member.Member.{Member}
 use Rattle.rc_ospf.specs.declared.member.StubAreas.{StubAreas}
 use Rattle.rc_ospf.specs.declared.member.StubAreas.TheVariants.{Kept, LeftOut}
 use Rattle.rc_ospf.specs.declared.router_area.RouterArea.{RouterArea}
 
--- the least walks to the router itself are that without steps
+-- the walk without steps
 abbrev pub nowhere : LeastWalks
 nowhere = record { cost = 0; hops = [] }
 
+abbrev pub reach_found : Found → Reach
+reach_found (ToAll found) = path_in found
+reach_found (ToEnds paths) = path_among paths
+
+-- to the router itself it is the least one
 abbrev pub reach_of : Member → Reach
-reach_of m area s = if s == m.router then Some m.own else path_in m.found area s
+reach_of m area s = if s == m.router then Some m.own else reach_found m.found area s
 
 abbrev pub areas_known : StubAreas → Member → List RouterArea
 areas_known Kept m = m.areas

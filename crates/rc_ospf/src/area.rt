@@ -40,7 +40,7 @@ impl Drop for AreaGraph {
 }
 
 /// The edges of an area: the hop of each is the index of its step.
-fn edges_of(alloc: Global, steps: &[Step], area: u32) -> Result<Vec<Edge>, AllocError>
+pub(crate) fn edges_of(alloc: Global, steps: &[Step], area: u32) -> Result<Vec<Edge>, AllocError>
     ensures { IfOk result (λ v. v.items ≡ edges_in area steps.now 0) }
 {
     let mut edges = Vec::new(alloc);
@@ -110,7 +110,7 @@ pub(crate) fn area_graphs(
 }
 
 /// The hop of a step: the neighbour's primary address, over the interface by which the step leaves.
-fn hop_of(step: &Step) -> Hop
+pub(crate) fn hop_of(step: &Step) -> Hop
     ensures { result ≡ adjacency.hop_of step.now }
 {
     Hop::Via(step.gateway, Some(step.out))

@@ -1,5 +1,5 @@
 //! Paths to AS boundary routers (RFC 2328, sections 3.3 and 16.4).
-ghost use Rattle.std.specs.Prelude.{◌≡◌, IfOk, IfSome, All, map};
+ghost use Rattle.std.specs.Prelude.{◌≡◌, false, [], IfOk, IfSome, All, map};
 ghost use Rattle.std.specs.List.{filter_map};
 ghost use Rattle.std.specs.Option.{option_map};
 ghost use Rattle.std.specs.Ordering.{nat_cmp};
@@ -93,6 +93,14 @@ fn boundary_routers(alloc: Global, net: &Network) -> Result<Items<RouterId>, All
         }
     }
     Ok(found)
+}
+
+/// Whether there is an AS boundary router. It errs only where memory runs out.
+pub(crate) fn has_boundary(alloc: Global, net: &Network) -> Result<bool, AllocError>
+    ensures { IfOk result (λ found. found ≡ false → spec.boundary_routers net.now ≡ []) }
+{
+    let found = boundary_routers(alloc, net)?;
+    Ok(!found.as_slice().is_empty())
 }
 
 /// The offers of a router at the cost 0 in each of some areas that isn't a stub area.

@@ -120,6 +120,19 @@ fn rows_asked(
     }
 }
 
+/// The rows, with that of the default route in front where there is none; where an address is asked for, those that hold it. It errs
+/// only where memory runs out.
+pub(crate) fn rows_wanted(
+    alloc: Global,
+    rows: Items<Row>,
+    asked: Option<Addr>,
+) -> Result<Items<Row>, AllocError>
+    ensures { IfOk result (λ left. left ≡ spec.rows_asked asked (spec.with_default rows)) }
+{
+    let rows = with_default(alloc, rows)?;
+    rows_asked(alloc, rows, asked)
+}
+
 /// The routers that may summarise what is offered.
 #[derive(Drop)]
 struct Summarising<'a> {
@@ -160,8 +173,7 @@ pub(crate) fn destinations<R: Threads + Sync>(
 ) -> Result<Items<Destination>, AllocError>
     ensures { IfOk result (λ all. all ≡ map (destination_of (map (known Kept) members.now)) (spec.rows_asked asked (spec.with_default rows))) }
 {
-    let rows = with_default(alloc, rows)?;
-    let rows = rows_asked(alloc, rows, asked)?;
+    let rows = rows_wanted(alloc, rows, asked)?;
     let summarising = Summarising {
         members: to_be_asked(members, StubAreas::Kept),
     };

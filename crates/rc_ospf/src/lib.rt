@@ -3,7 +3,8 @@
 //!
 //! It stands on the model of rc_config, the links of rc_topology, the shortest paths of rc_spf and the routes of rc_route. The
 //! layer above knows of each router its routes inside and between areas, over the least of all walks, its paths to AS boundary
-//! routers, and the prefixes that it advertises itself (`IsInternal`), and that there is one such answer (`one_internal`).
+//! routers, and the prefixes that it advertises itself (`IsInternal`), and that there is just one such answer (`has_internal`,
+//! `one_internal`).
 //!
 //! The crate goes one way: the areas of routers (`router_area`), steps and the least walks over them
 //! (`adjacency`, `area`, `path`), routers as the others have them (`member`), ways to what is offered and the best of them (`way`, `best`), what border routers
@@ -14,11 +15,13 @@
 mod adjacency;
 mod advertising;
 mod area;
+mod asked;
 mod best;
 mod boundary;
 mod destination;
 mod grouping;
 mod hops;
+mod inward;
 mod member;
 mod model;
 mod offer;
@@ -40,4 +43,4 @@ use offer::{Advert, Offer};
 use path::{AreaPaths, Path};
 use rc_ospf_interfaces::OspfInterface;
 use router_area::RouterArea;
-pub use tables::{internal, internal_at, one_internal};
+pub use tables::{has_internal, internal, internal_at, one_internal};

@@ -3,9 +3,10 @@ ghost use Rattle.std.specs.Prelude.{◌≡◌, ◌≤◌, IfOk, All, length};
 ghost use Rattle.std.specs.List.{range_with_len};
 ghost use Rattle.std.specs.Option.{option_copied};
 ghost use Rattle.rc_ospf.specs.Edges.{IsFitStep};
-ghost use Rattle.rc_ospf.specs.Members.{nowhere, reach_of, areas_known, IsMember, AreMembers};
+ghost use Rattle.rc_ospf.specs.Members.{nowhere, reach_found, reach_of, areas_known, IsMember, AreMembers};
 
 use crate::area::{AreaGraph, area_graphs, reach_from};
+use crate::inward::{PathTo, path_among};
 use crate::path::path_at;
 use crate::router_area::{open_areas, router_areas};
 use crate::shares::{Makes, made_by};
@@ -16,6 +17,27 @@ use rc_route::Hops;
 use std::alloc::{AllocError, Global};
 use std::thread::Threads;
 
+/// The least walks from a router, as they are kept.
+#[derive(Drop)]
+pub(crate) enum Found {
+    /// To all others, by area.
+    ToAll(Items<AreaPaths>),
+    /// To some alone.
+    ToEnds(Items<PathTo>),
+}
+
+impl Found {
+    /// Those to a router inside an area, where there are any.
+    fn path_to(&self, area: u32, router: RouterId) -> Option<&Path>
+        ensures { option_copied result ≡ reach_found self.now area router }
+    {
+        match self {
+            Found::ToAll(found) => path_at(found.as_slice(), area, router),
+            Found::ToEnds(paths) => path_among(paths.as_slice(), area, router),
+        }
+    }
+}
+
 /// A router, as the others have it.
 pub(crate) struct Member {
     pub router: RouterId,
@@ -25,8 +47,8 @@ pub(crate) struct Member {
     pub non_stub: Items<RouterArea>,
     /// The walk without steps, which leads to the router itself.
     pub own: Path,
-    /// The least walks from it, by area.
-    pub found: Items<AreaPaths>,
+    /// The least walks from it.
+    pub found: Found,
 }
 
 /// By a function of its own, so that what holds such routers drops each by one call.
@@ -58,7 +80,7 @@ impl Member {
         if router == self.router {
             return Some(&self.own);
         }
-        path_at(self.found.as_slice(), area, router)
+        self.found.path_to(area, router)
     }
 
     /// Its areas, by rising area.
@@ -73,7 +95,7 @@ impl Member {
 }
 
 /// The walk without steps.
-fn no_step() -> Path
+pub(crate) fn no_step() -> Path
     ensures { result ≡ nowhere }
 {
     Path::new(0, Hops::none())
@@ -112,7 +134,7 @@ impl<'a> Makes for LinkStates<'a> {
             areas,
             non_stub,
             own: no_step(),
-            found,
+            found: Found::ToAll(found),
         })
     }
 }

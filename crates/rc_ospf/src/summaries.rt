@@ -3,7 +3,7 @@ ghost use Rattle.std.specs.Prelude.{◌≡◌, ◌++◌, ◌<◌, ◌^◌, [], I
 ghost use Rattle.std.specs.List.{flat_map, list_any, cons_option};
 ghost use Rattle.std.specs.Option.{option_map};
 ghost use Rattle.rc_ospf.specs.Areas as spec;
-ghost use Rattle.rc_ospf.specs.Members.{reach_of, known, SummariseAlike};
+ghost use Rattle.rc_ospf.specs.Members.{reach_of, known, is_border_at, SummariseAlike};
 ghost use Rattle.rc_ospf.specs.declared.member.StubAreas.TheVariants.{Kept};
 ghost use Rattle.rc_ospf.specs.RouterAreas.{is_outside};
 
@@ -296,15 +296,25 @@ pub(crate) fn summaries_of(
     Ok(Summaries { backbone, outward })
 }
 
-/// The routers to be asked for summaries: all of them, or none where none is a border router.
-#[tactic(auto, using(crate::proofs::SummaryLaws::everybody))]
-pub(crate) fn to_be_asked(members: &[Member], stubs: StubAreas) -> &[Member]
-    ensures { SummariseAlike stubs members.now result.now }
+/// Whether some router is an area border router.
+pub(crate) fn has_border(members: &[Member], stubs: StubAreas) -> bool
+    ensures { result ≡ list_any (is_border_at stubs) members.now }
 {
     for member in members {
         if is_border(member.areas(stubs)) {
-            return members;
+            return true;
         }
+    }
+    false
+}
+
+/// The routers to be asked for summaries: all of them, or none where none is a border router.
+#[tactic(auto, using(crate::proofs::SummaryLaws::everybody, crate::proofs::SummaryLaws::nobody))]
+pub(crate) fn to_be_asked(members: &[Member], stubs: StubAreas) -> &[Member]
+    ensures { SummariseAlike stubs members.now result.now }
+{
+    if has_border(members, stubs) {
+        return members;
     }
     &[]
 }

@@ -1,24 +1,26 @@
 //! What OSPF gives without a state, for all routers.
-ghost use Rattle.std.specs.Prelude.{◌≡◌, ◌≤◌, IfOk, All, map, length};
+ghost use Rattle.std.specs.Prelude.{◌≡◌, IfOk, All, map};
 ghost use Rattle.rc_config.specs.Lawful.{IsLawful};
 ghost use Rattle.rc_config.specs.Members.{router_ids};
 ghost use Rattle.rc_route.specs.Tables.{IsTable};
+ghost use Rattle.rc_ospf.specs.Asked.{AnswerAlike};
 ghost use Rattle.rc_ospf.specs.BoundaryForms.{target_of, boundary_paths};
 ghost use Rattle.rc_ospf.specs.Boundaries.{boundary_routers};
 ghost use Rattle.rc_ospf.specs.ByPrefix.{destination_of};
 ghost use Rattle.rc_ospf.specs.BoundaryPaths.{IsNear};
-ghost use Rattle.rc_ospf.specs.Internal.{adverts_in, steps_of, IsInternal, IsInternalAsked, IsInternalAt, HasOneInternal, HasSmallSums, tables_asked};
-ghost use Rattle.rc_ospf.specs.Members.{known, AreMembers};
+ghost use Rattle.rc_ospf.specs.Internal.{adverts_in, steps_of, IsInternal, IsInternalAsked, IsInternalAt, HasInternal, HasOneInternal, HasSmallSums, tables_asked};
+ghost use Rattle.rc_ospf.specs.Members.{known};
 ghost use Rattle.rc_ospf.specs.Routes as spec;
 ghost use Rattle.rc_ospf.specs.declared.member.StubAreas.TheVariants.{Kept, LeftOut};
 
+use crate::asked::{members_at, members_of};
 use crate::boundary::{Target, paths_to, targets};
 use crate::destination::{Destination, destinations};
-use crate::member::{Member, members, routers_below};
+use crate::member::{Member, routers_below};
 use crate::own::own_prefixes;
 use crate::routes::routes_of;
 use crate::shares::{Makes, made_by};
-use crate::{Boundary, Internal, adjacencies, adverts, offers_by_prefix};
+use crate::{Boundary, Internal, adverts, offers_by_prefix};
 use rc_base::{Addr, Items, Prefix, RouterId};
 use rc_config::Network;
 use rc_ospf_interfaces::ospf_interfaces;
@@ -26,23 +28,6 @@ use rc_route::Table;
 use rc_topology::Links;
 use std::alloc::{AllocError, Global};
 use std::thread::Threads;
-
-/// The routers of a network, with their least walks.
-fn members_of<R: Threads + Sync>(
-    rt: &R,
-    alloc: Global,
-    net: &Network,
-    links: &Links,
-    workers: u32,
-) -> Result<Items<Member>, AllocError>
-    requires { length net.now.routers ≤ 512 }
-    ensures as_many { IfOk result (λ members. length members ≡ length net.now.routers) }
-    ensures each { IfOk result (AreMembers net.now (steps_of net.now links.now) 0) }
-{
-    let interfaces = ospf_interfaces(alloc, net)?;
-    let steps = adjacencies(alloc, links, interfaces.as_slice())?;
-    members(rt, alloc, net, net.routers.len(), steps.as_slice(), workers)
-}
 
 /// Each prefix that is advertised, and the default route, with all that is offered of it; where an address is asked for, those that
 /// hold it.
@@ -120,6 +105,7 @@ impl<'a> Makes for PathsTo<'a> {
     type Made = Items<Boundary>;
 
     ghost use Rattle.std.specs.Prelude.{All};
+    ghost use Rattle.rc_ospf.specs.Asked.{AnswerAlike};
     ghost use Rattle.rc_ospf.specs.BoundaryForms.{boundary_paths};
     ghost use Rattle.rc_ospf.specs.BoundaryPaths.{IsNear};
     ghost use Rattle.rc_ospf.specs.Shares.{IsGiven};
@@ -192,24 +178,25 @@ fn own<R: Threads + Sync>(
     made_by(rt, alloc, &prefixes, ids.as_slice(), workers)
 }
 
-/// What OSPF gives without a state; where an address is asked for, of the routes those whose prefix holds it.
-fn internal_asked<R: Threads + Sync>(
+/// What OSPF gives without a state, by routers that answer as those of the network; where an address is asked for, of the routes those
+/// whose prefix holds it.
+fn internal_by<R: Threads + Sync>(
     rt: &R,
     alloc: Global,
     net: &Network,
     links: Links,
+    members: &[Member],
     asked: Option<Addr>,
     workers: u32,
 ) -> Result<Internal, AllocError>
-    requires { IsLawful net.now }
+    requires alike { AnswerAlike net.now (steps_of net.now links) asked members.now }
     ensures links { IfOk result (λ i. i.links ≡ links) }
     ensures internal { IfOk result (IsInternalAsked net.now asked) }
     ensures in_order { IfOk result (λ i. All IsTable i.routes) }
     ensures small { IfOk result HasSmallSums }
 {
-    let members = members_of(rt, alloc, net, &links, workers)?;
-    let routes = tables(rt, alloc, net, members.as_slice(), asked, workers)?;
-    let boundaries = boundaries(rt, alloc, net, members.as_slice(), workers)?;
+    let routes = tables(rt, alloc, net, members, asked, workers)?;
+    let boundaries = boundaries(rt, alloc, net, members, workers)?;
     let own = own(rt, alloc, net, workers)?;
     Ok(Internal {
         links,
@@ -235,10 +222,12 @@ pub fn internal<R: Threads + Sync>(
     ensures in_order { IfOk result (λ i. All IsTable i.routes) }
     ensures small { IfOk result HasSmallSums }
 {
-    internal_asked(rt, alloc, net, links, None, workers)
+    let members = members_of(rt, alloc, net, &links, workers)?;
+    internal_by(rt, alloc, net, links, members.as_slice(), None, workers)
 }
 
-/// The same at an address: of the routes those alone whose prefix holds it. No other route is made. It errs only where memory runs out.
+/// The same at an address: of the routes those alone whose prefix holds it. No other route is made, and where few routers offer such a
+/// prefix, and none is a border router, only the least walks to these are looked for. It errs only where memory runs out.
 pub fn internal_at<R: Threads + Sync>(
     rt: &R,
     alloc: Global,
@@ -253,10 +242,24 @@ pub fn internal_at<R: Threads + Sync>(
     ensures in_order { IfOk result (λ i. All IsTable i.routes) }
     ensures small { IfOk result HasSmallSums }
 {
-    internal_asked(rt, alloc, net, links, Some(address), workers)
+    let members = members_at(rt, alloc, net, &links, address, workers)?;
+    internal_by(
+        rt,
+        alloc,
+        net,
+        links,
+        members.as_slice(),
+        Some(address),
+        workers,
+    )
 }
 
 /// A network with its links has one answer.
 pub fn one_internal()
     ensures { HasOneInternal }
+{}
+
+/// A network with any links has an answer.
+pub fn has_internal()
+    ensures { HasInternal }
 {}

@@ -16,4 +16,4 @@ returns g c =
     let f = destination_of (map (known Kept) c.args.members.now) in
     IfOk-weaker c.made_by.result _ (λ ds. ds ≡ map f (rows_asked c.args.asked (with_default c.args.rows)))
     (λ ds made. all_given (destination_of (map (known Kept) c.to_be_asked.result.now)) (λ _. Unit {0}) c.as_slice.result.now ds made
-    ∙ destinations_alike Kept c.args.members.now c.to_be_asked.result.now c.to_be_asked.ensures c.as_slice.result.now ∙ ap (map f) (c.as_slice.ensures ∙ c.in_ok-rows-2.ensures ∙ ap (rows_asked c.args.asked) c.in_ok-rows.ensures)) c.made_by.ensures
+    ∙ destinations_alike Kept c.args.members.now c.to_be_asked.result.now c.to_be_asked.ensures c.as_slice.result.now ∙ ap (map f) (c.as_slice.ensures ∙ c.in_ok-rows.ensures)) c.made_by.ensures
