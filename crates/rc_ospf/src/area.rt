@@ -1,10 +1,11 @@
 //! The graph of an area, and the least walks in it from one router (RFC 2328, section 16.1).
-ghost use Rattle.std.specs.Prelude.{◌≡◌, ℕ, false, List, ◌<◌, ◌≤◌, ◌^◌, ◌++◌, None, Some, IfOk, OnOk, IfSome, IsTrue, All, length, map, slice_get, vec_len};
+ghost use Rattle.std.specs.Prelude.{◌≡◌, ℕ, false, List, [], ◌∷◌, ◌<◌, ◌≤◌, ◌^◌, ◌++◌, None, Some, IfOk, OnOk, IfSome, IsTrue, All, length, map, slice_get, vec_len};
 ghost use Rattle.std.specs.List.{filter_map, slice_index_or};
 ghost use Rattle.std.specs.BTreeSet.{keys};
 ghost use Rattle.std.specs.Ordering.{nat_cmp};
 ghost use Rattle.std.specs.Option.{option_map};
 ghost use Rattle.rc_base.specs.Lists.{in_order};
+ghost use Rattle.rc_route.specs.Hops.{hop_cmp};
 ghost use Rattle.rc_spf.specs.Steps.{AreSpans};
 ghost use Rattle.rc_ospf.specs.Adjacency as adjacency;
 ghost use Rattle.rc_ospf.specs.Edges.{edges_in, hop_at, hops_in, step_area, graph_area, IsFitStep, IsAreaGraph, AreAreaGraphs, IsHopList, IsKept, AreKept, AreAreaPaths, HasSmallCosts, IsReachOfOthers, NoneLeaves};
@@ -148,6 +149,33 @@ fn hops_listed(
     Ok(hops)
 }
 
+/// The hop that a sole entry gives to a node: it needs no list, and is in order.
+fn sole_hop(steps: &[Step], first: &First, node: usize) -> Hops
+    ensures { result ≡ in_order hop_cmp (hops_in steps.now node (first.now ∷ [])) }
+{
+    let hop = hop_at(steps, first, node);
+    match hop {
+        Some(hop) => Hops::one(hop),
+        None => Hops::none(),
+    }
+}
+
+/// The hops that entries give to a node, in order. Most nodes have one.
+fn hops_ordered(
+    alloc: Global,
+    steps: &[Step],
+    firsts: &[First],
+    node: usize,
+) -> Result<Hops, AllocError>
+    ensures { IfOk result (λ hops. hops ≡ in_order hop_cmp (hops_in steps.now node firsts.now)) }
+{
+    if let [first] = firsts {
+        return Ok(sole_hop(steps, first, node));
+    }
+    let listed = hops_listed(alloc, steps, firsts, node)?;
+    put_in_order(alloc, listed)
+}
+
 /// The first hops of all least walks to a node, in order.
 fn hops_to(alloc: Global, steps: &[Step], tree: &Tree, node: usize) -> Result<Hops, AllocError>
     requires spans { AreSpans tree.now.spans.items tree.now.firsts.items }
@@ -155,8 +183,7 @@ fn hops_to(alloc: Global, steps: &[Step], tree: &Tree, node: usize) -> Result<Ho
     ensures { IfOk result (IsHopList steps.now tree.now.firsts.items node) }
 {
     let span = firsts_at(&tree.firsts, &tree.spans, node);
-    let listed = hops_listed(alloc, steps, span, node)?;
-    put_in_order(alloc, listed)
+    hops_ordered(alloc, steps, span, node)
 }
 
 /// What is kept of the least walks to a node.

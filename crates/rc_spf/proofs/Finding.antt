@@ -1,7 +1,7 @@
 -- First hops found, one more edge or one more entry at a time.
-use Rattle.std.proofs.Common.{◌≡◌, ◌≢◌, ℕ, ◌+◌, ◌<◌, ◌≤◌, ◌⊎◌, ◌↔◌, inl, inr, List, [], ◌∷◌, ◌++◌, length, get_or, take, Option, sym, ◌∙◌, ap, subst, arith, refl, Contains}
+use Rattle.std.proofs.Common.{◌≡◌, ◌≢◌, ℕ, ◌+◌, ◌<◌, ◌≤◌, ◌⊎◌, ◌↔◌, inl, inr, List, [], ◌∷◌, ◌++◌, length, get_or, map, take, Option, sym, ◌∙◌, ap, subst, arith, refl, append_assoc, Contains}
 use Rattle.std.proofs.lemmas.List.Elements.{Contains-push, Contains-append_left, Contains-push_cases}
-use Rattle.std.proofs.lemmas.List.{take_more, take_all}
+use Rattle.std.proofs.lemmas.List.{take_more, take_all, map-append}
 use Rattle.rc_spf.specs.declared.graph.Edge.{Edge}
 use Rattle.rc_spf.specs.declared.graph.First.{First}
 use Rattle.rc_spf.specs.Steps.{IsTight, IsFound, first_of, HasNoRepeats}
@@ -156,3 +156,18 @@ own_skipped from root hop found other h = (λ has. inl has, back)
     back : Contains found h ⊎ (from ≡ root) × (hop ≡ h) → Contains found h
     back (inl f) = f
     back (inr why) = absurd (other why.0)
+
+-- all edges were asked
+pub found_all : (edges : List Edge) (i root node cost : ℕ) (costs : List (Option ℕ)) (firsts : List First) (found : List ℕ) → length edges ≤ i →
+    IsFound (take i edges) root node cost costs firsts found → IsFound edges root node cost costs firsts found
+found_all edges i root node cost costs firsts found le inv = rw (take_all i edges le) at inv
+
+-- the entries of a node with one hop more
+pub recorded_more : (found : List ℕ) (i d node : ℕ) (start old new : List First) → i < length found → new ≡ old ++ first_of node (get_or found i d) ∷ [] →
+    old ≡ start ++ map (first_of node) (take i found) → new ≡ start ++ map (first_of node) (take (i + 1) found)
+recorded_more found i d node start old new lt pushed inv =
+    pushed ∙ ap (λ t. t ++ first_of node (get_or found i d) ∷ []) inv ∙ append_assoc start (map (first_of node) (take i found)) (first_of node (get_or found i d) ∷ [])
+    ∙ ap (λ t. start ++ t) (sym (map-append (first_of node) (take i found) (get_or found i d ∷ [])) ∙ ap (map (first_of node)) (sym (take_more found i d lt)))
+
+pub recorded_all : (found : List ℕ) (i node : ℕ) (start all : List First) → length found ≤ i → all ≡ start ++ map (first_of node) (take i found) → all ≡ start ++ map (first_of node) found
+recorded_all found i node start all le inv = rw (take_all i found le) at inv

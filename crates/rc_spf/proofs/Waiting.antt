@@ -9,7 +9,7 @@ use Rattle.std.proofs.lemmas.Bool.{cases_eq}
 use Rattle.std.proofs.lemmas.List.{get_or-set_same, get_or-set_other, get_or_default, length-replicate}
 use Rattle.std.proofs.lemmas.List.Sorted.{Contains-permutation, IsPermutation-sym}
 use Rattle.rc_spf.specs.Steps.{HasCost, NoneNearest}
-use Rattle.rc_spf.specs.Waiting.{is_after, waiting, IsQueue, IsNext, IsStillQueue}
+use Rattle.rc_spf.specs.Waiting.{is_after, waiting, IsLeastOf, IsQueue, IsNext, IsStillQueue}
 use Rattle.rc_spf.proofs.Search.{IsSettled, IsOpen, one_cost, not_both, settled_now, open_before, open_in_range}
 
 not_after : (a b c d : ℕ) → is_lt (ordering_then (nat_cmp b a) (nat_cmp d c)) ≡ false → a ≤ b
@@ -21,6 +21,11 @@ pub least_of : (x : Reverse (ℕ × ℕ)) (xs : List (Reverse (ℕ × ℕ))) →
 least_of x [] all k d lt = absurd (omega arith)
 least_of x (y ∷ ys) all zero d lt = not_after x.0.0 y.0.0 x.0.1 y.0.1 all.0
 least_of x (y ∷ ys) all (suc k) d lt = least_of x ys all.1 k d (omega arith)
+
+pub heap_least : (x : Reverse (ℕ × ℕ)) (xs : List (Reverse (ℕ × ℕ))) → AllByRecursion (λ y. lt_by_cmp is_after x y ≡ false) xs → 0 < length xs → x ≡ get_or xs 0 x →
+    IsLeastOf (Some x.0.0) (waiting xs)
+heap_least x [] all lt is = absurd (omega arith)
+heap_least x (y ∷ ys) all lt is = ((x.0.1, (0, omega arith, ap (λ (w : Reverse (ℕ × ℕ)). w.0) (sym is))), λ k d l. least_of x (y ∷ ys) all k d l)
 
 abbrev Queue : Type 0
 Queue = List (ℕ × ℕ)

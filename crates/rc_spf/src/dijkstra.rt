@@ -1,8 +1,7 @@
 //! The search: the nearest node that is not settled is settled, and the edges out of it are followed (RFC 2328, section
 //! 16.1, steps 1 to 5). At any moment each node that was reached and is not settled waits in the queue at its cost.
 ghost use Rattle.std.specs.Prelude.{◌≡◌, ℕ, ◌+◌, ◌*◌, ◌^◌, ◌<◌, ◌≤◌, ◌↔◌, length, IsTrue, IfOk, MatchOption, All, vec_len, replicate, false};
-ghost use Rattle.std.specs.BinaryHeap.{heap_items};
-ghost use Rattle.rc_spf.specs.Waiting.{waiting, IsQueue, IsNext, IsStillQueue};
+ghost use Rattle.rc_spf.specs.Waiting.{IsQueue, IsNext, IsStillQueue};
 ghost use Rattle.rc_spf.specs.Steps.{NoneNearest, IsImproved, IsRelaxed, HasNoRepeats, AreBounded, AreGroups, HasSpans, AreLeastCosts, AreFirstHops, IsStart, IsTree};
 
 use crate::groups::groups_of;
@@ -14,8 +13,8 @@ use std::alloc::{AllocError, Global};
 /// Takes the node of least cost among those that are not settled out of the queue, with its cost.
 fn next(queue: &mut Queue, costs: &[Option<u32>], settled: &[bool]) -> Option<(usize, u32)>
     requires len { length costs.now ≡ length settled.now }
-    requires queue { IsQueue (waiting (heap_items queue.old.heap)) costs.now settled.now }
-    ensures { MatchOption result (NoneNearest costs.now settled.now (length settled.now)) (λ p. IsNext (waiting (heap_items queue.new.heap)) costs.now settled.now p.0 p.1) }
+    requires queue { IsQueue queue.old costs.now settled.now }
+    ensures { MatchOption result (NoneNearest costs.now settled.now (length settled.now)) (λ p. IsNext queue.new costs.now settled.now p.0 p.1) }
 {
     while let Some((cost, node)) = queue.pop() {
         if !settled[node] {
@@ -44,7 +43,7 @@ fn improve(
 ) -> Result<(), AllocError>
     requires { at < length costs.old }
     ensures costs { IfOk result (λ u. IsImproved at sum costs.old costs.new) }
-    ensures queue { IfOk result (λ u. IsStillQueue (waiting (heap_items queue.old.heap)) (waiting (heap_items queue.new.heap)) costs.old costs.new) }
+    ensures queue { IfOk result (λ u. IsStillQueue queue.old queue.new costs.old costs.new) }
 {
     if is_lower(costs[at], sum) {
         queue.push(sum, at)?;
@@ -64,7 +63,7 @@ fn relax(
     requires ends { All (λ e. e.to < length costs.old) edges.now }
     requires fits { All (λ e. cost + e.cost < 2 ^ 32) edges.now }
     ensures costs { IfOk result (λ u. IsRelaxed edges.now node cost costs.old costs.new) }
-    ensures queue { IfOk result (λ u. IsStillQueue (waiting (heap_items queue.old.heap)) (waiting (heap_items queue.new.heap)) costs.old costs.new) }
+    ensures queue { IfOk result (λ u. IsStillQueue queue.old queue.new costs.old costs.new) }
 {
     for edge in edges {
         if edge.from == node {
@@ -118,7 +117,7 @@ impl Search {
         requires { root < nodes }
         ensures tree { IfOk result (λ s. IsStart nodes root s.tree) }
         ensures settled { IfOk result (λ s. s.settled.items ≡ replicate nodes false) }
-        ensures queue { IfOk result (λ s. IsQueue (waiting (heap_items s.queue.heap)) s.tree.costs.items s.settled.items) }
+        ensures queue { IfOk result (λ s. IsQueue s.queue s.tree.costs.items s.settled.items) }
     {
         let mut queue = Queue::new(alloc);
         queue.push(0, root)?;
@@ -140,7 +139,7 @@ impl Search {
         requires groups { AreGroups graph.now groups.now }
         requires tree { IsStart graph.now.nodes root self.old.tree }
         requires settled { self.old.settled.items ≡ replicate graph.now.nodes false }
-        requires queue { IsQueue (waiting (heap_items self.old.queue.heap)) self.old.tree.costs.items self.old.settled.items }
+        requires queue { IsQueue self.old.queue self.old.tree.costs.items self.old.settled.items }
         ensures { IfOk result (λ u. IsTree graph.now root self.new.tree) }
     {
         while let Some((node, cost)) = next(&mut self.queue, &self.tree.costs, &self.settled) {

@@ -1,5 +1,5 @@
 use Rattle.std.proofs.Common.{◌≡◌, refl, true, false}
-use Rattle.rc_spf.proofs.Finding.{found_skip, found_take, own_added, own_skipped}
+use Rattle.rc_spf.proofs.Finding.{found_all, found_skip, found_take, own_added, own_skipped}
 use Rattle.rc_spf.proofs.hops.find_hops.Goals.{then-is_tight+in_ok-add_hops, then-edge-root+in_ok-add, else-edge-root, else-is_tight}
 use Rattle.rc_spf.proofs.hops.find_hops.Goals as goal
 
@@ -19,3 +19,6 @@ loop-edge-preserved c = elim c.if-is_tight.branch [
       w.in_ok-add_hops.ensures.once)
   | else-is_tight w ↦ rw w.found-is (found_skip _ _ _ _ _ _ _ _ _ c.loop-edge-test.true c.loop-edge.invariant (λ tight. let e : false ≡ true = w.if-is_tight.ensures.1 tight in cc))
 ]
+
+pub returns : goal.returns
+returns c = found_all _ _ _ _ _ _ _ _ c.loop-edge-test.false c.loop-edge.invariant

@@ -1,9 +1,8 @@
-use Rattle.std.proofs.lemmas.List.Sorted.{IsPermutation-map}
-use Rattle.rc_spf.proofs.Waiting.{least_of}
+use Rattle.rc_spf.proofs.Queues.{leaves_heap_if, fewer_in_heap}
 use Rattle.rc_spf.proofs.queue.Queue.pop.Goals as goal
 
-pub returns-in-Some-clause-rest : goal.returns-in-Some-clause-rest
-returns-in-Some-clause-rest c = IsPermutation-map (λ w. w.0) _ _ c.in-Some.ensures.permutation
+pub returns-clause-rest : goal.returns-clause-rest
+returns-clause-rest c = rw (← c.self.view_is) (leaves_heap_if _ _ _ c.pop-2.result c.pop-2.ensures.rest)
 
-pub returns-in-Some-clause-least : goal.returns-in-Some-clause-least
-returns-in-Some-clause-least c = least_of _ _ (c.in-Some.ensures.heap_order c.args.self.now.ordered).1
+pub returns-clause-len : goal.returns-clause-len
+returns-clause-len c = rw (← c.self.view_is) (fewer_in_heap _ _ _ c.pop-2.result c.pop-2.ensures.rest)
