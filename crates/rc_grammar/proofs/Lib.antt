@@ -1,3 +1,4 @@
+mod FirstByteLaws
 mod FewLaws
 mod Refused
 mod TextLaws

@@ -1,16 +1,16 @@
-//! What a line says: its opening decides on it once, and the grammar of its form reads the words behind.
+//! What a line says whose form is decided: the grammar of the form reads the words behind the opening.
 ghost use Rattle.std.specs.Prelude.{IfOk};
 ghost use Rattle.rc_openings.specs.Reading.{Gives};
 ghost use Rattle.rc_openings.specs.Words.{words_left, words_of};
 ghost use Rattle.rc_config.specs.Lawful.{FitsFile, HasLawfulLists, IsInRange};
-ghost use Rattle.rc_grammar.specs.Grammars.{answer_of, says};
+ghost use Rattle.rc_grammar.specs.Grammars.{answer_of};
 
 use rc_config::{Command, Context, OpenBlock, RouterText};
-use rc_lines::{Line, kind_of};
-use rc_openings::{Decision, Form, LineError, Words};
+use rc_lines::Line;
+use rc_openings::{Form, LineError, Words};
 
 /// What a line of this form says in this block, by its words behind the opening.
-fn read_form(
+pub(crate) fn read_form(
     form: Form,
     behind: Words,
     line: &Line,
@@ -34,21 +34,5 @@ fn read_form(
         Form::MapEntry(form) => { rc_gram_policy::read_entry_form(form, behind, line, block, file) }
         Form::Ospf(form) => rc_gram_ospf::read_form(form, behind, line, file),
         Form::Bgp(form) => rc_gram_bgp::read_form(form, behind, line, block, file),
-    }
-}
-
-/// What a line says where it stands: a command, or why it gives none.
-pub(crate) fn read_line(line: &Line, context: Context) -> Result<Command, LineError>
-    requires { HasLawfulLists context.file.now }
-    // The opening with most words decides, and the row of its form is the meaning; or memory ran out.
-    ensures decided { Gives result (says context.entry.block context.entry.file.now line.now.number (words_of line.now.text)) }
-    ensures in_range { IfOk result IsInRange }
-    ensures fits { IfOk result (FitsFile context.entry.file.now) }
-{
-    let Context { block, file } = context;
-    match kind_of(&block).decided(line.words()) {
-        Decision::Passed => Ok(Command::Passed),
-        Decision::Refused(refusal) => Err(LineError::Refused(refusal)),
-        Decision::Form(form, behind) => read_form(form, behind, line, &block, file),
     }
 }

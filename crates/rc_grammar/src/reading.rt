@@ -4,19 +4,19 @@
 //! than a look at its words.
 ghost use Rattle.std.specs.Prelude.{◌≡◌, ◌≢◌, false, IfOk, OnOk, Some, None, Ok, Err};
 ghost use Rattle.std.specs.Option.{option_copied};
-ghost use Rattle.rc_openings.specs.Words.{words_of};
+ghost use Rattle.rc_openings.specs.Words.{is_blank as blank, starts_blank, words_left, words_of};
 ghost use Rattle.rc_lines.specs.Lines.{TextLine, is_too_long, lines_of};
 ghost use Rattle.rc_config.specs.Lawful.{FitsFile, IsInRange, IsLawfulFile};
-ghost use Rattle.rc_grammar.specs.Grammars.{says};
-ghost use Rattle.rc_grammar.specs.File.{at_line, failed_at, file_of, interface_of, is_one_too_many, is_passed, list_block, open_after, start, step, with_command, with_host, with_lines, with_said, with_text, Gives, IsFit, Leaves, RefusesTheFirst};
+ghost use Rattle.rc_grammar.specs.Grammars.{answer_of, says};
+ghost use Rattle.rc_grammar.specs.File.{at_line, failed_at, file_of, interface_of, is_one_too_many, is_passed, list_block, open_after, start, step, with_answer, with_command, with_host, with_lines, with_said, with_text, Gives, IsFit, Leaves, RefusesTheFirst};
 
-use crate::grammars::read_line;
+use crate::grammars::read_form;
 use crate::{FileCause, FileRefusal, ReadError};
 use rc_base::Name;
 use rc_commands::apply;
-use rc_config::{Command, Context, ListLine, OpenBlock, RouterText};
-use rc_lines::{Line, Lines, Part};
-use rc_openings::{LineError, LineRefusal};
+use rc_config::{Command, ListLine, OpenBlock, RouterText};
+use rc_lines::{Line, Lines, Part, kind_of};
+use rc_openings::{Decision, Form, LineError, LineRefusal, Words};
 use std::alloc::Global;
 
 /// The most interfaces of a file.
@@ -29,13 +29,34 @@ pub(crate) struct Reading {
     pub block: OpenBlock,
 }
 
+fn is_blank(byte: u8) -> bool
+    ensures { result ≡ blank byte }
+{
+    byte == b' ' || byte == b'\t'
+}
+
+/// The text without the blanks at its front.
+fn without_blanks(text: &[u8]) -> &[u8]
+    ensures same { words_of result.now ≡ words_of text.entry.now }
+    ensures front { starts_blank result.now ≡ false }
+{
+    let mut rest = text;
+    while let [first, tail @ ..] = rest {
+        if !is_blank(*first) {
+            break;
+        }
+        rest = tail;
+    }
+    rest
+}
+
+/// Whether a line is passed over, which its first byte that is no blank tells.
 fn is_passed_over(line: &Line) -> bool
     ensures { result ≡ is_passed (words_of line.now.text) }
 {
-    match line.words().next_word() {
-        None => true,
-        Some([b'!', ..]) => true,
-        Some(_) => false,
+    match without_blanks(line.text()) {
+        [first, ..] => *first == b'!',
+        [] => true,
     }
 }
 
@@ -163,27 +184,39 @@ impl Reading {
     fn pass(&mut self)
         ensures { self.new ≡ record self.old { block = open_after self.old.block Command.Passed } }
     {
-        self.block = block_after(&self.block, &Command::Passed);
+        match &self.block {
+            OpenBlock::Global => self.block = OpenBlock::Ignored,
+            _ => {}
+        }
     }
 
-    /// Puts what a line says in the block where it stands.
+    /// Puts what a line of this form says, by its words behind the opening that decides it. Only such a line needs room for a command.
+    fn put_form(&mut self, form: Form, behind: Words, line: &Line) -> Result<(), ReadError>
+        requires { IsFit self.old.file }
+        ensures step { Leaves result self.new (with_answer line.now.number self.old (answer_of self.old.block self.old.file line.now.number (words_of line.now.text) form (words_left behind.entry))) }
+        ensures fit { OnOk result (IsFit self.new.file) }
+    {
+        let said = read_form(form, behind, line, &self.block, &self.file);
+        match said {
+            Ok(command) => self.put_command(line, command),
+            Err(error) => Err(unread(line, error)),
+        }
+    }
+
+    /// Puts what a line says in the block where it stands: the opening with most words decides, and the row of its form is the meaning.
     fn put_said(&mut self, line: &Line) -> Result<(), ReadError>
         requires { IsFit self.old.file }
         ensures step { Leaves result self.new (with_said says self.old line.now) }
         ensures fit { OnOk result (IsFit self.new.file) }
     {
-        let context = Context {
-            block: self.block,
-            file: &self.file,
-        };
-        let said = read_line(line, context);
-        match said {
-            Ok(Command::Passed) => {
+        let decision = kind_of(&self.block).decided(line.words());
+        match decision {
+            Decision::Passed => {
                 self.pass();
                 Ok(())
             }
-            Ok(command) => self.put_command(line, command),
-            Err(error) => Err(unread(line, error)),
+            Decision::Refused(refusal) => Err(refused(line, FileCause::Line(refusal))),
+            Decision::Form(form, behind) => self.put_form(form, behind, line),
         }
     }
 

@@ -24,6 +24,11 @@ first_is_banner (w ∷ ws) = bytes_eq w (codes "banner")
 unfoldable pub is_banner : List ℕ → Bool
 is_banner text = (indent_of text == 0) && first_is_banner (words_of text)
 
+-- the text's first byte is a `b`
+abbrev pub begins_with_b : List ℕ → Bool
+begins_with_b [] = false
+begins_with_b (b ∷ bs) = b == 98
+
 -- the text from its first word on, and behind the word that it begins with
 abbrev pub from_word : List ℕ → List ℕ
 from_word [] = []

@@ -5,7 +5,7 @@ ghost use Rattle.std.specs.List.{list_any};
 ghost use Rattle.std.specs.Option.{option_map};
 ghost use Rattle.std.specs.Str.Lines.{lines};
 ghost use Rattle.rc_openings.specs.Words.{is_blank, words_of};
-ghost use Rattle.rc_lines.specs.Banners.{indent_of, first_is_banner, is_banner, from_word, behind_word, third_word_on, Opened, opened, opened_at, begins, holds, banner_part, part_of, left_open, open_after};
+ghost use Rattle.rc_lines.specs.Banners.{begins_with_b, indent_of, first_is_banner, is_banner, from_word, behind_word, third_word_on, Opened, opened, opened_at, begins, holds, banner_part, part_of, left_open, open_after};
 
 use crate::lines::first_line;
 use rc_openings::Words;
@@ -66,11 +66,20 @@ fn begins_with_banner(text: &[u8]) -> bool
     }
 }
 
-#[tactic(auto, unfolding(crate::specs::Banners::is_banner))]
+fn begins_with_b(text: &[u8]) -> bool
+    ensures { result ≡ begins_with_b text.now }
+{
+    match text {
+        [first, ..] => *first == b'b',
+        [] => false,
+    }
+}
+
+/// Whether a line is a banner's first one: its first byte tells of most lines that they are none.
 fn is_banner_line(text: &[u8]) -> bool
     ensures { result ≡ is_banner text.now }
 {
-    is_flush_text(text) && begins_with_banner(text)
+    begins_with_b(text) && begins_with_banner(text)
 }
 
 /// The text without the blanks at its front.
@@ -183,7 +192,7 @@ fn part_of_banner(text: &[u8], later: &[u8]) -> Part
 }
 
 /// What a line is, given the delimiter of the banner that is open and the bytes after it.
-pub(crate) fn part_at(open_banner: Option<Delimiter>, text: &[u8], later: &[u8]) -> Part
+fn part_at(open_banner: Option<Delimiter>, text: &[u8], later: &[u8]) -> Part
     ensures { result ≡ part_of open_banner text.now (lines later.now) }
 {
     if open_banner.is_some() {
@@ -212,7 +221,7 @@ fn opened_by(text: &[u8]) -> Option<Delimiter>
 }
 
 /// The delimiter of the banner that is open after a line.
-pub(crate) fn delimiter_after(open_banner: Option<Delimiter>, text: &[u8]) -> Option<Delimiter>
+fn delimiter_after(open_banner: Option<Delimiter>, text: &[u8]) -> Option<Delimiter>
     ensures { result ≡ open_after open_banner text.now }
 {
     match open_banner {
@@ -230,6 +239,24 @@ pub(crate) fn delimiter_after(open_banner: Option<Delimiter>, text: &[u8]) -> Op
                 None
             }
         }
+    }
+}
+
+/// What a line is, as `part_at` says, and the delimiter of the banner that is open after it. Of most lines one look tells both.
+pub(crate) fn part_and_delimiter(
+    open_banner: Option<Delimiter>,
+    text: &[u8],
+    later: &[u8],
+) -> (Part, Option<Delimiter>)
+    ensures part { result.0 ≡ part_of open_banner text.now (lines later.now) }
+    ensures after { result.1 ≡ open_after open_banner text.now }
+{
+    match open_banner {
+        None if !is_banner_line(text) => (Part::Plain, None),
+        _ => (
+            part_at(open_banner, text, later),
+            delimiter_after(open_banner, text),
+        ),
     }
 }
 

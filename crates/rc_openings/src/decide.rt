@@ -1,6 +1,6 @@
 //! The opening that decides a line.
 ghost use Rattle.std.specs.Prelude.{◌≡◌, List, [], ◌∷◌, ◌++◌, length, map, nat_lt};
-ghost use Rattle.std.specs.Option.{option_map};
+ghost use Rattle.std.specs.Option.{option_copied, option_map};
 ghost use Rattle.rc_openings.specs.Words.{words_left, words_of};
 ghost use Rattle.rc_openings.specs.Opening.{begins_with as begins, begins_form as begins_form_of, IsAnswer, Row, row_of};
 
@@ -33,30 +33,28 @@ fn is_longer(mut first: Words, mut second: Words) -> bool
 }
 
 /// Whether a line of this text begins with the words of the opening.
-fn begins_opening(opening: &Opening, line: Words, text: &[u8]) -> bool
-    requires { words_of text.now ≡ words_left line }
-    ensures { result ≡ begins (words_left line.entry) (words_of opening.now.text.now) }
+fn begins_opening(opening: &Opening, text: &[u8]) -> bool
+    ensures { result ≡ begins (words_of text.now) (words_of opening.now.text.now) }
 {
     match opening.look(text) {
         Glance::Begins => true,
         Glance::Differs => false,
-        Glance::Unclear => begins_with(line, opening.words()),
+        Glance::Unclear => begins_with(Words::new(text), opening.words()),
     }
 }
 
 /// The decisive one of some openings and one more, for a line of this text.
-fn better(best: Option<Opening>, opening: &Opening, line: Words, text: &[u8]) -> Option<Opening>
-    requires { words_of text.now ≡ words_left line }
-    ensures { (rows : List Row) → IsAnswer rows (words_left line.entry) (option_map row_of best) → IsAnswer (rows ++ row_of opening.now ∷ []) (words_left line.entry) (option_map row_of result) }
+fn better<'a>(best: Option<&'a Opening>, opening: &'a Opening, text: &[u8]) -> Option<&'a Opening>
+    ensures { (rows : List Row) → IsAnswer rows (words_of text.now) (option_map row_of (option_copied best.entry)) → IsAnswer (rows ++ row_of opening.entry.now ∷ []) (words_of text.now) (option_map row_of (option_copied result)) }
 {
-    if !begins_opening(opening, line, text) {
+    if !begins_opening(opening, text) {
         return best;
     }
     match best {
-        None => Some(*opening),
+        None => Some(opening),
         Some(other) => {
             if is_longer(opening.words(), other.words()) {
-                Some(*opening)
+                Some(opening)
             } else {
                 best
             }
@@ -64,27 +62,37 @@ fn better(best: Option<Opening>, opening: &Opening, line: Words, text: &[u8]) ->
     }
 }
 
-/// The decisive one of some openings and these.
-pub(crate) fn decisive_from(
-    best: Option<Opening>,
-    openings: &[Opening],
-    line: Words,
-) -> Option<Opening>
-    ensures { (rows : List Row) → IsAnswer rows (words_left line.entry) (option_map row_of best) → IsAnswer (rows ++ map row_of openings.now) (words_left line.entry) (option_map row_of result) }
+/// The decisive one of some openings and these, for a line of this text. Openings are lent, since a line is held against several and
+/// a copy of each answer would cost more than the look at its words.
+pub(crate) fn decisive_from<'a>(
+    best: Option<&'a Opening>,
+    openings: &'a [Opening],
+    text: &[u8],
+) -> Option<&'a Opening>
+    ensures { (rows : List Row) → IsAnswer rows (words_of text.now) (option_map row_of (option_copied best.entry)) → IsAnswer (rows ++ map row_of openings.entry.now) (words_of text.now) (option_map row_of (option_copied result)) }
 {
-    let text = line.text();
     let mut decided = best;
     for opening in openings {
-        decided = better(decided, opening, line, text);
+        decided = better(decided, opening, text);
     }
     decided
+}
+
+/// The opening that is lent.
+pub(crate) fn copied(lent: Option<&Opening>) -> Option<Opening>
+    ensures { result ≡ option_copied lent.entry }
+{
+    match lent {
+        Some(opening) => Some(*opening),
+        None => None,
+    }
 }
 
 /// Of the openings with which the line begins, the one with most words, or `None` exactly where it begins with none.
 pub fn decisive(openings: &[Opening], line: Words) -> Option<Opening>
     ensures { IsAnswer (map row_of openings.now) (words_left line.entry) (option_map row_of result) }
 {
-    decisive_from(None, openings, line)
+    copied(decisive_from(None, openings, line.text()))
 }
 
 /// Whether the line begins with one of the openings that begin a form.

@@ -8,7 +8,7 @@ ghost use Rattle.rc_openings.specs.Words.{words_left};
 ghost use Rattle.rc_openings.specs.Opening.{IsAnswer, Row, begins_form as begins_form_of, row_of};
 ghost use Rattle.rc_openings.specs.Groups.{IsIndex, IsTable, keyed};
 
-use crate::decide::{begins_form, decisive, decisive_from};
+use crate::decide::{begins_form, copied, decisive_from};
 use crate::{Opening, Words};
 
 /// Openings that are written letter by letter, as `b'e' { b"exit" => Verdict::Ignored, }`.
@@ -118,9 +118,10 @@ impl Table {
     pub(crate) fn decide(self, line: Words) -> Option<Opening>
         ensures { (rows : List Row) → IsTable self rows → IsAnswer rows (words_left line.entry) (option_map row_of result) }
     {
-        let one_word = decisive(self.one_word.at(line.first_byte()), line);
-        let starred = decisive_from(one_word, self.starred, line);
-        decisive_from(starred, self.more_words.at(line.second_byte()), line)
+        let text = line.text();
+        let one_word = decisive_from(None, self.one_word.at(line.first_byte()), text);
+        let starred = decisive_from(one_word, self.starred, text);
+        copied(decisive_from(starred, self.more_words.at(line.second_byte()), text))
     }
 
     /// Whether the line begins with one of the openings that begin a form.
