@@ -4,7 +4,6 @@ ghost use Rattle.rc_config.specs.Lawful.{IsLawful};
 ghost use Rattle.rc_rounds.specs.AtAddress.{IsFirstState, IsKnownAt};
 ghost use Rattle.rc_rounds.specs.Setting.{IsSetting};
 
-use crate::parts::Round;
 use crate::progress::Progress;
 use rc_base::Addr;
 use rc_bgp::{ConfiguredSessions, configured_sessions};
@@ -40,12 +39,13 @@ fn first_state<R: Threads + Sync>(
     ensures { IfOk result (λ o. IfSome o (IsFirstState net.now internal.now)) }
 {
     let progress = Progress::start(alloc, net)?;
-    let (_passed, round) = progress.next(rt, alloc, net, internal, sessions, workers, &OpenGate)?;
-    let Some(round) = round else {
+    let (_passed, fresh) = progress.next(rt, alloc, net, internal, sessions, workers, &OpenGate)?;
+    let Some(fresh) = fresh else {
         return Ok(None);
     };
-    let Round { state, changes: _ } = round;
-    if equal(&state, &progress.last) {
+    let (rest, round) = progress.put_together(alloc, fresh)?;
+    let (state, _changes) = round.without_left(rt, alloc, workers);
+    if equal(&state, &rest.last) {
         return Ok(None);
     }
     Ok(Some(state))
