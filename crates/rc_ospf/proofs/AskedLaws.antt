@@ -1,26 +1,25 @@
 -- Where no router is a border router and none an AS boundary router, the least walks to where an address is offered decide the routes at it.
-use Rattle.std.proofs.Common.{refl, ◌≡◌, ap, sym, ◌∙◌, subst, ℕ, zero, suc, ◌+◌, ◌≤◌, ◌⊎◌, inl, inr, Bool, true, false, cond, List, [], ◌∷◌, ◌++◌, length, map, filter, Option, Some, None, MatchOption, Contains, arith, eq-eqb}
+use Rattle.std.proofs.Common.{refl, ◌≡◌, ap, sym, ◌∙◌, subst, ℕ, zero, suc, ◌+◌, inl, inr, Bool, true, false, cond, List, [], ◌∷◌, ◌++◌, length, map, filter, Option, Some, None, arith}
 use Rattle.std.specs.Prelude.{◌==◌, ◌&&◌, ◌||◌}
-use Rattle.std.specs.List.{fold, filter_map, flat_map, list_any, cons_option, range_with_len, AllByRecursion}
+use Rattle.std.specs.List.{fold, filter_map, flat_map, list_any, cons_option, range_with_len}
 use Rattle.std.specs.Option.{option_map, option_or}
 use Rattle.std.specs.Ordering.{nat_cmp}
-use Rattle.rc_base.specs.Prefix.{Cidr, contains, is_default}
+use Rattle.rc_base.specs.Prefix.{Cidr, is_default}
 use Rattle.rc_config.specs.declared.network.Network.{Network}
-use Rattle.rc_route.specs.Ways.{Way, best_of}
-use Rattle.rc_route.specs.declared.route.Route.{Route}
+use Rattle.rc_route.specs.Ways.{best_of}
 use Rattle.rc_route.specs.declared.route.Source.TheVariants.{Ospf, OspfIa}
 use Rattle.rc_ospf.specs.Areas.{OspfRouter, AreOspfRouters, offer, is_offered_by, backbone_summary, backbone_summaries, intra_cost, inter_cost, offers_of, outward_summaries, summaries_of, inter}
 use Rattle.rc_ospf.specs.Asked.{IsMemberTo, AreMembersTo, AnswerAlike}
 use Rattle.rc_ospf.specs.Boundaries as B
 use Rattle.rc_ospf.specs.BoundaryForms.{target_of, boundary_paths}
-use Rattle.rc_ospf.specs.Internal.{adverts_in, tables_asked, holding}
+use Rattle.rc_ospf.specs.Internal.{adverts_in, holding}
 use Rattle.rc_ospf.specs.Inward.{IsPathTo, is_end, end_of, with_end, with_ends, ends_of}
 use Rattle.rc_ospf.specs.Members.{known, reach_of, is_border_at, AreMembers}
 use Rattle.rc_ospf.specs.Offered.{Offered}
 use Rattle.rc_ospf.specs.RouterAreas.{is_in, is_outside, is_border}
 use Rattle.rc_ospf.specs.Routes.{with_default, offered_rows, rows_holding, internal_route_over, internal_route_to, internal_route, internal_routes}
 use Rattle.rc_ospf.specs.Shares.{AreMade}
-use Rattle.rc_ospf.specs.Walks.{LeastWalks, IsWalk, AreLeastWalks, Reach}
+use Rattle.rc_ospf.specs.Walks.{LeastWalks}
 use Rattle.rc_ospf.specs.Ways.{way_to, way_over, best_way}
 use Rattle.rc_ospf.specs.declared.adjacency.Step.{Step}
 use Rattle.rc_ospf.specs.declared.grouping.Row.{Row}

@@ -1,5 +1,5 @@
 -- The hops of a router towards another one, by a tree over edges turned round.
-use Rattle.std.proofs.Common.{refl, ◌≡◌, ap, sym, ◌∙◌, subst, ℕ, ◌+◌, ◌<◌, ◌↔◌, inl, inr, Bool, true, false, cond, List, [], ◌∷◌, ◌++◌, length, map, get_or, Option, Some, None, MatchOption, All, Contains, arith, eq-eqb, Vec, append_assoc}
+use Rattle.std.proofs.Common.{refl, ◌≡◌, ap, sym, ◌∙◌, subst, ℕ, ◌+◌, ◌<◌, ◌↔◌, inl, inr, Bool, true, false, cond, List, [], ◌∷◌, ◌++◌, map, get_or, Option, Some, None, All, Contains, arith, eq-eqb, Vec, append_assoc}
 use Rattle.std.proofs.lemmas.List.{map-append, append-nil}
 use Rattle.std.specs.Prelude.{◌==◌, ◌&&◌, slice_get, option_and_then}
 use Rattle.std.specs.declared.alloc.Global.{Global}
@@ -12,11 +12,10 @@ use Rattle.rc_route.specs.Hops.{hop_cmp}
 use Rattle.rc_route.specs.declared.route.Hop.{Hop}
 use Rattle.rc_route.proofs.OrderLaws.{hop_cmp_total, same_by_hop_cmp}
 use Rattle.rc_spf.specs.declared.graph.Edge.{Edge}
-use Rattle.rc_spf.specs.Steps.{IsGrouped}
 use Rattle.rc_ospf.specs.Adjacency.{hop_of}
 use Rattle.rc_ospf.specs.Edges.{edge_of, edges_in, IsFitStep}
-use Rattle.rc_ospf.specs.Inward.{turned, cost_at, leads_on, hop_towards, IsInward, IsPathTo, ArePathsTo, path_among, end_of_path}
-use Rattle.rc_ospf.specs.Towards.{AreCostsTo, LeadsOn}
+use Rattle.rc_ospf.specs.Inward.{turned, cost_at, hop_towards, IsInward, IsPathTo, ArePathsTo, path_among, end_of_path}
+use Rattle.rc_ospf.specs.Towards.{LeadsOn}
 use Rattle.rc_ospf.specs.Walks.{LeastWalks, IsWalk, AreLeastWalks}
 use Rattle.rc_ospf.specs.declared.adjacency.Step.{Step}
 use Rattle.rc_ospf.specs.declared.inward.End.{End}

@@ -1,6 +1,6 @@
 -- Worked cases of routes at one address, each by computation.
-use Rattle.std.specs.Prelude.{◌≡◌, ℕ, List, [], ◌∷◌, refl}
-use Rattle.rc_base.specs.Prefix.{Cidr, default_prefix}
+use Rattle.std.specs.Prelude.{◌≡◌, [], ◌∷◌, refl}
+use Rattle.rc_base.specs.Prefix.{default_prefix}
 use Rattle.rc_route.specs.declared.route.Route.{Route}
 use Rattle.rc_ospf.specs.Internal.{holding}
 use Rattle.rc_ospf.specs.RouteRows.{prefix, route}

@@ -1,5 +1,5 @@
 -- The routers by which OSPF answers: those of the network, or for an address routers that know the least walks to where it is offered.
-use Rattle.std.specs.Prelude.{◌≡◌, ℕ, suc, ◌<◌, ◌≤◌, List, [], ◌∷◌, Option, map, length, All}
+use Rattle.std.specs.Prelude.{◌≡◌, ℕ, suc, ◌<◌, List, [], ◌∷◌, Option, map, length, All}
 use Rattle.std.specs.List.{AllByRecursion}
 use Rattle.rc_config.specs.declared.network.Network.{Network}
 use Rattle.rc_ospf.specs.Areas.{OspfRouter, AreOspfRouters}
@@ -14,7 +14,6 @@ use Rattle.rc_ospf.specs.Routes.{internal_routes}
 use Rattle.rc_ospf.specs.declared.adjacency.Step.{Step}
 use Rattle.rc_ospf.specs.declared.asked.EndStates.{EndStates}
 use Rattle.rc_ospf.specs.declared.inward.End.{End}
-use Rattle.rc_ospf.specs.declared.inward.Inward.{Inward}
 use Rattle.rc_ospf.specs.declared.member.Member.{Member}
 use Rattle.rc_ospf.specs.declared.member.StubAreas.TheVariants.{Kept, LeftOut}
 

@@ -7,9 +7,10 @@
 //! `one_internal`).
 //!
 //! The crate goes one way: the areas of routers (`router_area`), steps and the least walks over them
-//! (`adjacency`, `area`, `path`), routers as the others have them (`member`), ways to what is offered and the best of them (`way`, `best`), what border routers
-//! summarise of a destination (`summaries`), and what each router makes of it (`routes`, `boundary`). What is made of each router
-//! by itself is made by workers at once (`shares`).
+//! (`adjacency`, `area`, `path`; to a few routers from all others `inward`), routers as the others have them (`member`; with what an
+//! address asks for `asked`), ways to what is offered and the best of them (`way`, `best`), what border routers summarise of a
+//! destination (`summaries`), and what each router makes of it (`routes`, `boundary`). What is made of each router by itself is made
+//! by workers at once (`shares`).
 #![tactic(auto)]
 
 mod adjacency;

@@ -1,9 +1,8 @@
-use Rattle.std.proofs.Common.{◌≡◌, ◌<◌, ◌∙◌, sym, ap, subst, length, map, All}
+use Rattle.std.proofs.Common.{◌≡◌, ◌∙◌, sym, ap, subst, length, map, All}
 use Rattle.std.proofs.lemmas.Result.{IfOk-weaker}
 use Rattle.rc_ospf.specs.Asked.{IsRootTo, AreMembersTo}
 use Rattle.rc_ospf.specs.Edges.{IsFitStep}
 use Rattle.rc_ospf.specs.Inward.{IsInward, end_of_inward}
-use Rattle.rc_ospf.specs.declared.inward.End.{End}
 use Rattle.rc_ospf.proofs.AskedLaws.{made_of_range}
 use Rattle.rc_ospf.proofs.FitLaws.{all_of}
 use Rattle.rc_ospf.proofs.ShareLaws.{below}

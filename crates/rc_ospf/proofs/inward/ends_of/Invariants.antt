@@ -1,4 +1,4 @@
-use Rattle.std.proofs.Common.{◌≡◌, drop, []}
+use Rattle.std.proofs.Common.{◌≡◌, drop}
 use Rattle.std.specs.List.{fold}
 use Rattle.rc_ospf.specs.Inward.{with_ends, ends_of}
 use Rattle.rc_ospf.specs.declared.grouping.Row.{Row}
