@@ -1,6 +1,8 @@
 -- What routers know at one address.
-use Rattle.std.specs.Prelude.{◌≡◌, ◌≢◌, ℕ, ◌≤◌, List, All, length}
+use Rattle.std.specs.Prelude.{◌≡◌, ◌≢◌, ℕ, ◌≤◌, List, [], All, None, IfSome, length}
+use Rattle.rc_config.specs.Members.{router_at}
 use Rattle.rc_config.specs.declared.network.Network.{Network}
+use Rattle.rc_config.specs.declared.router_text.RouterText.{RouterText}
 use Rattle.rc_ospf.specs.Internal.{holding}
 use Rattle.rc_ospf.specs.Shares.{AreMade}
 use Rattle.rc_ospf.specs.declared.model.Internal.{Internal}
@@ -11,6 +13,14 @@ use Rattle.rc_route.specs.declared.state.RouterState.{RouterState}
 use Rattle.rc_topology.specs.Ports.{links_of}
 use Rattle.rc_topology.specs.Topology.{Topology}
 use Rattle.rc_rounds.specs.Rounds.{empty_state, IsOutcome}
+
+-- a router of this file runs no BGP and has no line `ip route`
+abbrev pub AsksNoTable : RouterText → Type 0
+AsksNoTable file = (file.bgp ≡ None) × (file.static_routes ≡ [])
+
+-- so it is of each router
+abbrev pub NoneAskTables : Network → Type 0
+NoneAskTables net = (r : ℕ) → IfSome (router_at net r) AsksNoTable
 
 -- two routers know the same routes to an address
 abbrev pub KnowAlikeAt : ℕ → RouterState → RouterState → Type 0

@@ -1,13 +1,14 @@
 //! What routers know at one address, where the rounds of a network make no difference.
-ghost use Rattle.std.specs.Prelude.{◌≤◌, IfOk, IfSome};
+ghost use Rattle.std.specs.Prelude.{◌≤◌, IfOk, IfSome, IsTrue};
 ghost use Rattle.rc_config.specs.Lawful.{IsLawful};
-ghost use Rattle.rc_rounds.specs.AtAddress.{IsFirstState, IsKnownAt};
+ghost use Rattle.rc_config.specs.Members.{router_at};
+ghost use Rattle.rc_rounds.specs.AtAddress.{AsksNoTable, IsFirstState, IsKnownAt, NoneAskTables};
 ghost use Rattle.rc_rounds.specs.Setting.{IsSetting};
 
 use crate::progress::Progress;
-use rc_base::Addr;
+use rc_base::{Addr, RouterId};
 use rc_bgp::{ConfiguredSessions, configured_sessions};
-use rc_config::Network;
+use rc_config::{Network, RouterText};
 use rc_ospf::{Internal, internal_at};
 use rc_outside::OpenGate;
 use rc_rib::all_read_nothing;
@@ -22,6 +23,36 @@ pub struct KnownAt {
     pub links: Links,
     /// By router, in the network's order.
     pub state: State,
+}
+
+/// Whether a router of this file runs no BGP and has no line `ip route`.
+fn file_asks_no_table(file: &RouterText) -> bool
+    ensures { IsTrue result → AsksNoTable file.now }
+{
+    file.bgp.is_none() && file.static_routes.is_empty()
+}
+
+/// Whether a router runs no BGP and has no line `ip route`, or isn't there.
+fn asks_no_table(net: &Network, router: RouterId) -> bool
+    ensures { IsTrue result → IfSome (router_at net.now router) AsksNoTable }
+{
+    let found = net.router_at(router);
+    match found {
+        Some(file) => file_asks_no_table(file),
+        None => true,
+    }
+}
+
+/// Whether no router runs BGP or has a line `ip route`. It is told by the files alone, so where one does nothing is made in vain.
+fn none_ask_tables(net: &Network) -> bool
+    ensures { IsTrue result → NoneAskTables net.now }
+{
+    for index in 0..net.routers.len() {
+        if !asks_no_table(net, RouterId::at(index)) {
+            return false;
+        }
+    }
+    true
 }
 
 /// The state after the first round, where it is another than the empty one.
@@ -66,6 +97,9 @@ pub fn known_at<R: Threads + Sync>(
     requires few_workers { workers ≤ 64 }
     ensures { IfOk result (λ o. IfSome o (λ k. IsKnownAt net.now address k.links k.state)) }
 {
+    if !none_ask_tables(net) {
+        return Ok(None);
+    }
     let links = Links::of(alloc, net)?;
     let internal = internal_at(rt, alloc, net, links, address, workers)?;
     let sessions = configured_sessions(alloc, net, &internal.links)?;
