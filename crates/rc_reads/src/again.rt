@@ -1,8 +1,6 @@
-//! What a router knows once more.
+//! What is made anew of a router.
 ghost use Rattle.std.specs.Prelude.{◌≡◌, ◌⊎◌, [], IfOk, IfSome, IsTrue, Some, slice_get, true};
 ghost use Rattle.std.specs.List.{AllByRecursion};
-ghost use Rattle.rc_bgp.specs.Changes.{CoversChange};
-ghost use Rattle.rc_bgp.specs.RouterStates.{paths_of};
 ghost use Rattle.rc_bgp.specs.Sessions.{sessions_of};
 ghost use Rattle.rc_bgp_session.specs.declared.session.Session.{Session as SessionModel};
 ghost use Rattle.rc_config.specs.Lawful.{IsRouter};
@@ -11,14 +9,13 @@ ghost use Rattle.rc_reads.specs.Stayed.{HaveStayed, IsMadeAnew, ReadsTheSame};
 ghost use Rattle.rc_rib.specs.Inputs.{AreInputs};
 ghost use Rattle.rc_rib.specs.Next.{next_router};
 ghost use Rattle.rc_rib.specs.declared.inputs.Earlier.{Earlier};
-ghost use Rattle.rc_route.specs.Tables.{IsRouterState};
 
 use crate::stayed::{Stayed, is_flagged};
-use rc_base::{Items, RouterId};
+use rc_base::RouterId;
 use rc_bgp::{ConfiguredSessions, Session};
 use rc_ospf::Internal;
 use rc_rib::{Inputs, Made, table};
-use rc_route::{RouterState, copy, known_at};
+use rc_route::{RouterState, known_at};
 use std::alloc::{AllocError, Global};
 
 /// Whether the flags of the senders of some sessions are set.
@@ -82,40 +79,6 @@ fn kept<'a>(inputs: &Inputs<'a>, stayed: &Stayed, router: RouterId) -> Option<&'
     match &inputs.earlier {
         None => None,
         Some(_earlier) => unmoved(inputs, stayed, router),
-    }
-}
-
-/// What a router knows once more: nothing changed.
-fn again(alloc: Global, known: &RouterState) -> Result<Made, AllocError>
-    ensures state { IfOk result (λ m. m.state ≡ known.now) }
-    ensures changed { IfOk result (λ m. m.changed ≡ []) }
-{
-    let state = copy(alloc, known)?;
-    Ok(Made {
-        state,
-        changed: Items::new(alloc),
-    })
-}
-
-/// What a router knows after a round, and what changed in its best paths, as `table` makes it. Where nothing that the router reads
-/// changed in the round before, it knows the same again, and nothing is made anew for it.
-pub fn table_again(
-    alloc: Global,
-    inputs: &Inputs<'_>,
-    stayed: &Stayed,
-    router: RouterId,
-) -> Result<Made, AllocError>
-    requires inputs { AreInputs inputs.now }
-    requires router { IsRouter inputs.now.network.now router }
-    requires stayed { IfSome inputs.now.earlier (λ (e : Earlier). HaveStayed inputs.now.network.now stayed.now e.state.now inputs.now.previous.now) }
-    ensures next { IfOk result (λ m. m.state ≡ next_router inputs.now.network.now inputs.now.internal.now inputs.now.previous.now router) }
-    ensures in_order { IfOk result (λ m. IsRouterState m.state) }
-    ensures changed { IfOk result (λ m. CoversChange m.changed (paths_of inputs.now.previous.now router) m.state.paths) }
-{
-    let known = kept(inputs, stayed, router);
-    match known {
-        Some(known) => again(alloc, known),
-        None => table(alloc, inputs, router),
     }
 }
 

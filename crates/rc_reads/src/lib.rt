@@ -12,7 +12,7 @@ mod reading;
 mod same;
 mod stayed;
 
-pub use again::{table_again, table_anew};
+pub use again::table_anew;
 pub use laws::equal_where_read;
 pub use next::{Next, next_of};
 pub use reading::{Reads, reads};
