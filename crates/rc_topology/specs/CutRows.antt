@@ -1,6 +1,7 @@
 -- Worked cases of cuts and of the pairs that share a link, each by computation.
 use Rattle.std.specs.Prelude.{◌≡◌, ℕ, ◌+◌, ◌*◌, true, false, List, [], ◌∷◌, map, Some, codes, refl}
-use Rattle.std.specs.List.{fold}
+use Rattle.std.specs.List.{fold, list_any}
+use Rattle.rc_base.specs.Prefix.{Cidr}
 use Rattle.rc_base.specs.declared.position.IfId.{IfId}
 use Rattle.rc_config.specs.declared.command.Command.{Command}
 use Rattle.rc_config.specs.declared.command.Command.TheVariants.{InterfaceLine}
@@ -11,8 +12,8 @@ use Rattle.rc_config.specs.declared.router_text.RouterText.{RouterText}
 use Rattle.rc_config.specs.Cuts.{uncut, with_cut}
 use Rattle.rc_config.specs.IfType.{type_of}
 use Rattle.rc_config.specs.Update.{after, empty}
-use Rattle.rc_topology.specs.Links.{are_linked, is_cut, is_own, linked, pairs, takers}
-use Rattle.rc_topology.specs.Ports.{links_of}
+use Rattle.rc_topology.specs.Links.{are_linked, is_cut, is_named, is_own, linked, pairs, port_is, takers}
+use Rattle.rc_topology.specs.Ports.{is_on, links_of}
 use Rattle.rc_topology.specs.Topology.{Topology}
 
 abbrev eth : List ℕ
@@ -113,3 +114,16 @@ cut_whole = refl
 pub cut_twice : pairs (links_of (with_cut (with_cut net (at 0 1) (at 1 0)) (at 0 0) (at 1 1))) ≡ between (at 0 1) (at 2 0) ∷ between (at 1 0) (at 2 0) ∷ []
 unfolding links_of type_of
 cut_twice = refl
+
+-- both interfaces of a cut pair are named by the cut, whichever of them it names first, and no other one is
+pub both_are_named : map (λ i. list_any (is_named i) without.cuts) (at 0 0 ∷ at 0 1 ∷ at 1 0 ∷ at 2 0 ∷ []) ≡ false ∷ true ∷ true ∷ false ∷ []
+unfolding links_of type_of
+both_are_named = refl
+
+abbrev second_subnet : Cidr
+second_subnet = record { network = 10 * 16777216 + 512; len = 24 }
+
+-- interfaces are on the subnets of their addresses, cut or not, and on no others; one that isn't there is on none
+pub on_their_subnets : map (port_is without (is_on second_subnet)) (at 0 0 ∷ at 0 1 ∷ at 1 0 ∷ at 1 1 ∷ at 2 0 ∷ at 2 1 ∷ []) ≡ false ∷ true ∷ true ∷ false ∷ true ∷ false ∷ []
+unfolding links_of type_of
+on_their_subnets = refl

@@ -16,6 +16,10 @@ use Rattle.rc_topology.specs.declared.port.Port.{Port}
 abbrev pub is_between : IfId → IfId → Pair → Bool
 is_between i j c = (same_interface i c.first && same_interface j c.second) || (same_interface i c.second && same_interface j c.first)
 
+-- it is of the interface and another one
+abbrev pub is_named : IfId → Pair → Bool
+is_named i c = same_interface i c.first || same_interface i c.second
+
 module _ (links : Topology) where
   -- what is kept of the interfaces of a router
   abbrev pub ports_at : ℕ → List Port

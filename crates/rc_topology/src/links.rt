@@ -1,5 +1,6 @@
 //! Which interfaces share a link, and whose an address is.
 ghost use Rattle.std.specs.Prelude.{◌≡◌, filter, length, IfOk, None, Some};
+ghost use Rattle.std.specs.List.{list_any};
 ghost use Rattle.std.specs.Option.{option_copied};
 ghost use Rattle.rc_topology.specs.Ports as port;
 ghost use Rattle.rc_topology.specs.Links as spec;
@@ -54,6 +55,13 @@ fn is_between(one: &IfId, other: &IfId, pair: &Pair) -> bool
     ensures { result ≡ spec.is_between one.now other.now pair.now }
 {
     (*one == pair.first && *other == pair.second) || (*one == pair.second && *other == pair.first)
+}
+
+/// Whether a pair is of an interface and another one.
+fn is_of(interface: &IfId, pair: &Pair) -> bool
+    ensures { result ≡ spec.is_named interface.now pair.now }
+{
+    *interface == pair.first || *interface == pair.second
 }
 
 /// The same pairs.
@@ -156,6 +164,13 @@ impl Links {
             .any(|cut| is_between(one, other, cut))
     }
 
+    /// Whether the network is cut between an interface and some other one.
+    pub fn is_cut_off(&self, interface: &IfId) -> bool
+        ensures { result ≡ list_any (spec.is_named interface.now) self.now.cuts }
+    {
+        self.cuts.as_slice().iter().any(|cut| is_of(interface, cut))
+    }
+
     /// Whether two interfaces share a link: they are of different routers, neither is a loopback, some address of each
     /// has the same prefix, and the network isn't cut between them.
     pub fn are_linked(&self, one: IfId, other: IfId) -> bool
@@ -212,6 +227,17 @@ impl Links {
         let port = self.port(interface);
         match port {
             Some(port) => port.holds(addr),
+            None => false,
+        }
+    }
+
+    /// Whether an interface is there, has a prefix, and is no loopback.
+    pub fn is_on(&self, interface: IfId, prefix: &Prefix) -> bool
+        ensures { result ≡ spec.port_is self.now (port.is_on prefix.now) interface }
+    {
+        let port = self.port(interface);
+        match port {
+            Some(port) => port.is_on(prefix),
             None => false,
         }
     }

@@ -188,6 +188,13 @@ impl Port {
         self.prefixes.as_slice()
     }
 
+    /// Whether it has a prefix and is no loopback.
+    pub(crate) fn is_on(&self, prefix: &Prefix) -> bool
+        ensures { result ≡ spec.is_on prefix.now self.now }
+    {
+        !self.is_loopback() && self.prefixes.has(prefix)
+    }
+
     /// Whether it shares a prefix with another, where neither is a loopback.
     pub(crate) fn shares_prefix(&self, other: &Port) -> bool
         ensures { result ≡ spec.share_prefix self.now other.now }

@@ -110,6 +110,13 @@ impl PrefixSet {
         self.prefixes.as_slice()
     }
 
+    /// Whether a prefix is one of them, by bisection.
+    pub(crate) fn has(&self, prefix: &Prefix) -> bool
+        ensures { result ≡ list_any (same_prefix prefix.now) self.now }
+    {
+        is_in(prefix, self.prefixes.as_slice())
+    }
+
     /// Whether an address lies in one of them.
     pub(crate) fn holds(&self, addr: Addr) -> bool
         ensures { result ≡ list_any (λ x. contains x addr) self.now }
