@@ -10,7 +10,8 @@ use crate::way::{ExternalWay, best_external_way};
 use crate::{ExternalRow, Externals};
 use rc_base::{Items, Prefix, RouterId};
 use rc_config::MetricType;
-use rc_ospf::{Internal, hops_in_order};
+use rc_link_state::hops_in_order;
+use rc_ospf::Internal;
 use rc_route::{Route, Source, Table};
 use std::alloc::{AllocError, Global};
 

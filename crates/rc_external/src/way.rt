@@ -9,7 +9,7 @@ ghost use Rattle.rc_route.specs.Ways.{with_way};
 use crate::boundary_index::BoundaryIndex;
 use crate::cost::cost_over;
 use crate::{External, ExternalCost, compare_costs};
-use rc_ospf::add_hops;
+use rc_link_state::add_hops;
 use rc_route::Hops;
 use std::alloc::{AllocError, Global};
 use std::cmp::Ordering;

@@ -1,69 +1,43 @@
 -- Where no router is a border router and none an AS boundary router, the least walks to where an address is offered decide the routes at it.
-use Rattle.std.proofs.Common.{refl, ◌≡◌, ap, sym, ◌∙◌, subst, ℕ, zero, suc, ◌+◌, inl, inr, Bool, true, false, cond, List, [], ◌∷◌, ◌++◌, length, map, filter, Option, Some, None, arith}
+use Rattle.std.proofs.Common.{refl, ◌≡◌, ap, sym, ◌∙◌, subst, ℕ, zero, suc, ◌+◌, ◌<◌, inl, inr, Bool, true, false, cond, List, [], ◌∷◌, ◌++◌, length, map, Option, Some, None, arith}
 use Rattle.std.specs.Prelude.{◌==◌, ◌&&◌, ◌||◌}
-use Rattle.std.specs.List.{fold, filter_map, flat_map, list_any, cons_option, range_with_len}
+use Rattle.std.specs.List.{fold, filter_map, list_any, cons_option, range_with_len, AllByRecursion}
 use Rattle.std.specs.Option.{option_map, option_or}
 use Rattle.std.specs.Ordering.{nat_cmp}
 use Rattle.rc_base.specs.Prefix.{Cidr, is_default}
 use Rattle.rc_config.specs.declared.network.Network.{Network}
 use Rattle.rc_route.specs.Ways.{best_of}
 use Rattle.rc_route.specs.declared.route.Source.TheVariants.{Ospf, OspfIa}
-use Rattle.rc_ospf.specs.Areas.{OspfRouter, AreOspfRouters, offer, is_offered_by, backbone_summary, backbone_summaries, intra_cost, inter_cost, offers_of, outward_summaries, summaries_of, inter}
-use Rattle.rc_ospf.specs.Asked.{IsMemberTo, AreMembersTo, AnswerAlike}
+use Rattle.rc_ospf.specs.Areas.{OspfRouter, AreOspfRouters, is_offered_by, inter}
+use Rattle.rc_ospf.specs.Asked.{AnswerAlike, AreEndsAt, AnswerOver}
 use Rattle.rc_ospf.specs.Boundaries as B
 use Rattle.rc_ospf.specs.BoundaryForms.{target_of, boundary_paths}
 use Rattle.rc_ospf.specs.Internal.{adverts_in, holding}
-use Rattle.rc_ospf.specs.Inward.{IsPathTo, is_end, end_of, with_end, with_ends, ends_of}
-use Rattle.rc_ospf.specs.Members.{known, reach_of, is_border_at, AreMembers}
+use Rattle.rc_ospf.specs.Ends.{is_end, end_of, with_end, with_ends, ends_of}
+use Rattle.rc_ospf.specs.Members.{known, reach_of, areas_at, areas_in, is_border_at, AreMembersOver}
 use Rattle.rc_ospf.specs.Offered.{Offered}
-use Rattle.rc_ospf.specs.RouterAreas.{is_in, is_outside, is_border}
+use Rattle.rc_ospf.specs.RouterAreas.{is_in, is_border}
 use Rattle.rc_ospf.specs.Routes.{with_default, offered_rows, rows_holding, internal_route_over, internal_route_to, internal_route, internal_routes}
-use Rattle.rc_ospf.specs.Shares.{AreMade}
-use Rattle.rc_ospf.specs.Walks.{LeastWalks}
+use Rattle.rc_link_state.specs.Tables.{reach_in, AreWalksOf, AreWalksTo}
+use Rattle.rc_link_state.specs.Towards.{IsPathTo}
+use Rattle.rc_link_state.specs.Walks.{LeastWalks, IsReach}
 use Rattle.rc_ospf.specs.Ways.{way_to, way_over, best_way}
-use Rattle.rc_ospf.specs.declared.adjacency.Step.{Step}
+use Rattle.rc_link_state.specs.declared.step.Step.{Step}
 use Rattle.rc_ospf.specs.declared.grouping.Row.{Row}
-use Rattle.rc_ospf.specs.declared.inward.End.{End}
+use Rattle.rc_link_state.specs.declared.end.End.{End}
+use Rattle.rc_link_state.specs.declared.table.AreaWalks.{AreaWalks}
+use Rattle.rc_ospf.specs.declared.member.Areas.{Areas}
 use Rattle.rc_ospf.specs.declared.member.Member.{Member}
 use Rattle.rc_ospf.specs.declared.member.StubAreas.TheVariants.{Kept, LeftOut}
 use Rattle.rc_ospf.specs.declared.offer.Advert.{Advert}
-use Rattle.rc_ospf.specs.declared.summaries.Summaries.{Summaries}
 use Rattle.rc_ospf.proofs.Existence.{routers_in, are_routers, as_many}
 use Rattle.rc_ospf.proofs.HoldingLaws.{found_holding}
-use Rattle.rc_ospf.proofs.MemberLaws.{ospf_routers, all_left_out}
-use Rattle.rc_ospf.proofs.Members.{In, all_in}
+use Rattle.rc_ospf.proofs.MemberLaws.{AreMembers, ospf_routers, all_left_out, as_many_members, border_over, knows_over, members_over}
+use Rattle.rc_link_state.proofs.Members.{In, all_in}
 use Rattle.rc_ospf.proofs.OneAnswer.{one_least}
-use Rattle.rc_ospf.proofs.SummaryLaws.{none_here, none_there}
+use Rattle.rc_ospf.proofs.SummaryLaws.{borders, border_known, no_summaries}
+use Rattle.rc_ospf.specs.Wanted.{nothing}
 use Rattle.rc_ospf.proofs.TableLaws.{boundaries_are}
-
--- ---- no router is a border router, so nothing is summarised
-
-abbrev nothing : Summaries
-nothing = record { backbone = []; outward = [] }
-
-abbrev borders : OspfRouter → Bool
-borders m = is_border m.areas
-
-module _ (inside : List Offered) where
-  none_into : (ms : List OspfRouter) → list_any borders ms ≡ false → backbone_summaries ms inside ≡ []
-  none_into [] none = refl
-  none_into (m ∷ ms) none =
-      ap (λ b. cons_option (cond b (option_map (offer m.router 0) (backbone_summary m.reach inside)) None) (backbone_summaries ms inside)) (none_here (borders m) (list_any borders ms) none)
-      ∙ none_into ms (none_there (borders m) (list_any borders ms) none)
-
-  none_out : (d : Bool) (backbone : List Offered) (ms : List OspfRouter) → list_any borders ms ≡ false → outward_summaries ms d inside backbone ≡ []
-  none_out d backbone [] none = refl
-  none_out d backbone (m ∷ ms) none =
-      ap (λ b. cond b (flat_map (offers_of m d inside (intra_cost m inside) (inter_cost m backbone (intra_cost m inside))) (filter is_outside m.areas)) [] ++ outward_summaries ms d inside backbone)
-      (none_here (borders m) (list_any borders ms) none)
-      ∙ none_out d backbone ms (none_there (borders m) (list_any borders ms) none)
-
-abbrev made_of : List Offered → List Offered → Summaries
-made_of backbone outward = record { backbone = backbone; outward = outward }
-
-no_summaries : (ms : List OspfRouter) (d : Bool) (inside : List Offered) → list_any borders ms ≡ false → summaries_of ms d inside ≡ nothing
-no_summaries ms d inside none =
-    ap (made_of (backbone_summaries ms inside)) (none_out inside d (backbone_summaries ms inside) ms none) ∙ ap (λ b. made_of b []) (none_into inside ms none)
 
 -- ---- routers that are alike but for walks that nobody asks for
 
@@ -194,6 +168,17 @@ one_path steps r area s None (Some f) x y = (let (w, least, total) = y.cost in a
 one_path steps r area s (Some e) None x y = (let (w, least, total) = x.cost in absurd (y w least.is_walk))
 one_path steps r area s (Some e) (Some f) x y = ap Some (one_least steps area r s e f x y)
 
+-- a router with its areas, and with the least walks from it to some ends
+record IsMemberTo (net : Network) (steps : List Step) (ends : List End) (r : ℕ) (m : Member) : Type 0 where
+  router : m.router ≡ r
+  areas : m.areas.now ≡ areas_at net r
+  reach : AllByRecursion (λ (e : End). IsPathTo steps r e.area e.router (reach_of m e.area e.router)) ends
+
+-- they are the routers of a network from one on
+abbrev AreMembersTo : Network → List Step → List End → ℕ → List Member → Type 0
+AreMembersTo net steps ends r [] = Unit {0}
+AreMembersTo net steps ends r (m ∷ ms) = IsMemberTo net steps ends r m × AreMembersTo net steps ends (suc r) ms
+
 abbrev Ends : List End → Offered → Type 0
 Ends ends o = In (end_of o) ends
 
@@ -205,15 +190,11 @@ members_alike net steps ends r (m ∷ ms) [] long are all = absurd (omega arith)
 members_alike net steps ends r (m ∷ ms) (x ∷ xs) long are all = (
   record {
     router = are.0.router ∙ sym all.0.router;
-    areas = are.0.areas ∙ sym all.0.areas;
+    areas = ap (λ (a : Areas). a.all) are.0.areas ∙ sym all.0.areas;
     reach = λ o there. one_path steps r o.area o.router (reach_of m o.area o.router) (x.reach o.area o.router) (all_in (λ (e : End). IsPathTo steps r e.area e.router (reach_of m e.area e.router)) ends (end_of o) are.0.reach there) (all.0.reach o.area o.router);
   },
   members_alike net steps ends (suc r) ms xs (omega arith) are.1 all.1,
 )
-
-border_known : (ms : List Member) → list_any borders (map (known Kept) ms) ≡ list_any (is_border_at Kept) ms
-border_known [] = refl
-border_known (m ∷ ms) = ap (λ b. borders (known Kept m) || b) (border_known ms)
 
 no_boundaries : (net : Network) (routers : List OspfRouter) (ms : List Member) → length ms ≡ length routers → B.boundary_routers net ≡ [] →
     map (boundary_paths (map (target_of net (map (known LeftOut) ms)) (B.boundary_routers net))) ms ≡ map (B.boundary_paths net routers) routers
@@ -228,14 +209,14 @@ no_boundaries net routers ms long none =
     empty (x ∷ xs) [] same = absurd (omega arith)
     empty (x ∷ xs) (y ∷ ys) same = ap (λ t. [] ∷ t) (empty xs ys (omega arith))
 
-pub few_alike : (net : Network) (steps : List Step) (address : ℕ) (ends : List End) (ms : List Member) →
+few_alike : (net : Network) (steps : List Step) (address : ℕ) (ends : List End) (ms : List Member) →
     ends ≡ ends_of (rows_holding address (with_default (offered_rows (adverts_in net)))) → length ms ≡ length net.routers → AreMembersTo net steps ends 0 ms →
     list_any (is_border_at Kept) ms ≡ false → B.boundary_routers net ≡ [] → AnswerAlike net steps (Some address) ms
 few_alike net steps address ends ms are long each no_border no_boundary =
     let routers = routers_in net steps in
     let same : length ms ≡ length routers = long ∙ sym (as_many net steps) in
     let alike = members_alike net steps ends 0 ms routers same each (are_routers net steps) in
-    let none : list_any borders (map (known Kept) ms) ≡ false = border_known ms ∙ no_border in
+    let none : list_any borders (map (known Kept) ms) ≡ false = border_known Kept ms ∙ no_border in
     let rows = rows_holding address (with_default (offered_rows (adverts_in net))) in
     record {
       routers = routers;
@@ -248,7 +229,7 @@ few_alike net steps address ends ms are long each no_border no_boundary =
 
 -- ---- and so are those with all their least walks
 
-pub all_alike : (net : Network) (steps : List Step) (asked : Option ℕ) (ms : List Member) → length ms ≡ length net.routers → AreMembers net steps 0 ms → AnswerAlike net steps asked ms
+all_alike : (net : Network) (steps : List Step) (asked : Option ℕ) (ms : List Member) → length ms ≡ length net.routers → AreMembers net steps 0 ms → AnswerAlike net steps asked ms
 all_alike net steps asked ms long each = record {
   routers = map (known Kept) ms;
   as_many = length_known ms ∙ long;
@@ -261,17 +242,37 @@ all_alike net steps asked ms long each = record {
     length_known [] = refl
     length_known (x ∷ xs) = ap suc (length_known xs)
 
--- ---- the routers made of the numbers from one on
+-- ---- what a table tells
 
-made_from : (net : Network) (steps : List Step) (ends : List End) (r n : ℕ) (ms : List Member) → AreMade (IsMemberTo net steps ends) (range_with_len r n) ms → (length ms ≡ n) × AreMembersTo net steps ends r ms
-made_from net steps ends r zero [] all = (refl, tt)
-made_from net steps ends r zero (m ∷ ms) all = absurd all
-made_from net steps ends r (suc n) [] all = absurd all
-made_from net steps ends r (suc n) (m ∷ ms) all =
-    let (long, rest) = made_from net steps ends (r + 1) n ms all.1 in
-    let next : r + 1 ≡ suc r = omega arith in (ap suc long, (all.0, subst (λ k. AreMembersTo net steps ends k ms) next rest))
+-- all least walks
+pub over_all : (net : Network) (steps these : List Step) (asked : Option ℕ) (walks : List AreaWalks) (n : ℕ) → n ≡ length net.routers → these ≡ steps → AreWalksOf these n walks → AnswerOver net steps asked walks
+over_all net steps these asked walks n same are of = record {
+  alike = λ ms over. all_alike net steps asked ms (as_many_members net walks ms over)
+      (members_over net steps walks ms (λ k lt. subst (λ ss. IsReach ss k (reach_in walks k)) are (of.reach k (omega (arith, lt, same)))) over);
+}
 
-pub made_of_range : (net : Network) (steps : List Step) (ends known : List End) (n : ℕ) (ids : List ℕ) (ms : List Member) → ids ≡ range_with_len 0 n → known ≡ ends → AreMade (IsMemberTo net steps known) ids ms →
-    (length ms ≡ n) × AreMembersTo net steps ends 0 ms
-made_of_range net steps ends known n ids ms are same all =
-    made_from net steps ends 0 n ms (subst (λ es. AreMade (IsMemberTo net steps es) (range_with_len 0 n) ms) same (subst (λ rs. AreMade (IsMemberTo net steps known) rs ms) are all))
+members_to_from : (net : Network) (steps : List Step) (ends : List End) (walks : List AreaWalks) (r n : ℕ) (ms : List Member) →
+    ((k : ℕ) → k < r + n → AllByRecursion (λ (e : End). IsPathTo steps k e.area e.router (reach_in walks k e.area e.router)) ends) →
+    AreMembersOver walks r (map (areas_at net) (range_with_len r n)) ms → AreMembersTo net steps ends r ms
+members_to_from net steps ends walks r zero [] each are = tt
+members_to_from net steps ends walks r zero (m ∷ ms) each are = absurd are
+members_to_from net steps ends walks r (suc n) [] each are = absurd are
+members_to_from net steps ends walks r (suc n) (m ∷ ms) each are = (
+  record {
+    router = are.0.router;
+    areas = are.0.areas;
+    reach = knows_over walks (λ k reach. AllByRecursion (λ (e : End). IsPathTo steps k e.area e.router (reach e.area e.router)) ends) r (areas_at net r) m are.0 (each r (omega arith));
+  },
+  members_to_from net steps ends walks (suc r) n ms (λ k lt. each k (omega (arith, lt)))
+      (subst (λ k. AreMembersOver walks (suc r) (map (areas_at net) (range_with_len k n)) ms) (let e : r + 1 ≡ suc r = omega arith in e) are.1),
+)
+
+-- those to where the address is offered
+pub over_ends : (net : Network) (steps these : List Step) (address : ℕ) (ends : List End) (walks : List AreaWalks) (n : ℕ) → n ≡ length net.routers → these ≡ steps → AreEndsAt net address ends → AreWalksTo these n ends walks →
+    AnswerOver net steps (Some address) walks
+over_ends net steps these address ends walks n same are at to = record {
+  alike = λ ms over. few_alike net steps address ends ms at.offered (as_many_members net walks ms over)
+      (members_to_from net steps ends walks 0 (length net.routers) ms
+      (λ k lt. subst (λ ss. AllByRecursion (λ (e : End). IsPathTo ss k e.area e.router (reach_in walks k e.area e.router)) ends) are (to.reach k (omega (arith, lt, same)))) over)
+      (border_over walks 0 (areas_in net) ms over ∙ at.no_border) at.no_boundary;
+}

@@ -1,6 +1,7 @@
 -- The best of the ways to offers, taken one after another.
 use Rattle.std.proofs.Common.{refl, ◌≡◌, ap, sym, ◌∙◌, subst, ℕ, ◌+◌, ◌<◌, ◌≤◌, min, ◌==◌, Bool, true, false, cond, List, [], ◌∷◌, ◌++◌, length, get_or, Option, Some, None, MatchOption, nat_lt, arith, append_assoc}
-use Rattle.std.specs.Prelude.{IfSome}
+use Rattle.std.specs.Prelude.{IfSome, IfOk, Result, Ok, Err}
+use Rattle.std.specs.declared.alloc.AllocError.{AllocError}
 use Rattle.std.specs.List.{cons_option}
 use Rattle.std.specs.List.Sorted.{IsStrictlySortedBy}
 use Rattle.std.specs.Option.{option_map, option_map_or}
@@ -9,17 +10,19 @@ use Rattle.std.proofs.lemmas.Bool.Decides.{nat_tests}
 use Rattle.std.proofs.lemmas.Grind.{common_steps}
 use Rattle.std.proofs.lemmas.List.{append-nil, length-append, get_or_at}
 use Rattle.rc_base.specs.Lists.{in_order}
+use Rattle.rc_base.proofs.OrderedLaws.{in_order-sorted}
 use Rattle.rc_route.specs.Hops.{hop_cmp}
 use Rattle.rc_route.specs.Ways.{Way, lower, least_cost, hops_at, best_of}
 use Rattle.rc_route.specs.declared.route.Hop.{Hop}
+use Rattle.rc_route.proofs.OrderLaws.{hop_cmp_total, same_by_hop_cmp}
 use Rattle.rc_route.proofs.WayLaws as way_laws
 use Rattle.rc_ospf.specs.BestOffers.{better_of, cheaper, best_from, HasBest}
 use Rattle.rc_ospf.specs.ByPrefix.{path_to_offer, way_to_offer, ways_of, cost_to, hops_for}
 use Rattle.rc_ospf.specs.Offered.{Offered}
-use Rattle.rc_ospf.specs.Walks.{LeastWalks, Reach}
+use Rattle.rc_link_state.specs.Walks.{LeastWalks, Reach}
 use Rattle.rc_ospf.specs.Ways.{way_over, cost_of}
 use Rattle.rc_ospf.specs.declared.best.Best.{Best}
-use Rattle.rc_ospf.proofs.HopLaws as hop_laws
+use Rattle.rc_link_state.proofs.Members.{in_order_in, same_by_members}
 use Rattle.rc_ospf.proofs.WayLaws.{best_by_cost}
 
 -- ---- one way more
@@ -53,9 +56,6 @@ same_if m n is = grind (arith, common_steps, nat_tests, is)
 
 more_if : (m n : ℕ) → n ≤ m → (m == n) ≡ false → n < m
 more_if m n le other = grind (arith, common_steps, nat_tests, le, other)
-
-equal_if : (m n : ℕ) → m ≡ n → (m == n) ≡ true
-equal_if m n is = grind (arith, common_steps, nat_tests, is)
 
 -- ---- what is known of the ways to some first offers
 
@@ -178,10 +178,16 @@ module _ (reach : Reach) (others : Bool) (r : ℕ) (all : List Offered) where
       by None known = tt
       by (Some b) known = record { within = known.within; alone = known.alone }
 
--- the hops of the way to an offer, which are in order
-pub way_hops : (reach : Reach) (others : Bool) (r cost : ℕ) (o : Offered) (e : LeastWalks) (hops : List Hop) → path_to_offer reach others r o ≡ Some e → e.cost + o.cost ≡ cost
-    → hops ≡ e.hops → IsStrictlySortedBy hop_cmp hops → hops ≡ in_order hop_cmp (hops_for reach others r cost o)
-way_hops reach others r cost o e hops found costs are rise =
-    let here : hops_for reach others r cost o ≡ e.hops = ap (λ p. option_map_or (λ (x : LeastWalks). cond (x.cost + o.cost == cost) x.hops []) p []) found
-    ∙ ap (λ b. cond b e.hops []) (equal_if (e.cost + o.cost) cost costs) in
-    sym (hop_laws.hops_stay hops rise) ∙ ap (in_order hop_cmp) (are ∙ sym here)
+-- hops in order stay as they are
+hops_stand : (hops : List Hop) → IsStrictlySortedBy hop_cmp hops → hops ≡ in_order hop_cmp hops
+hops_stand hops rise = same_by_members hop_cmp hop_cmp_total hops (in_order hop_cmp hops) rise (in_order-sorted hop_cmp hop_cmp_total hops)
+    (λ h. (let both = in_order_in hop_cmp same_by_hop_cmp hops h in (both.1, both.0)))
+
+pub none_rise : IsStrictlySortedBy hop_cmp []
+unfolding IsStrictlySortedBy
+none_rise = tt
+
+-- those of the one way that is best
+pub hops_alone : (r : Result (List Hop) AllocError) (here all : List Hop) → IfOk r (λ hops. hops ≡ here) → IfOk r (IsStrictlySortedBy hop_cmp) → here ≡ all → IfOk r (λ hops. hops ≡ in_order hop_cmp all)
+hops_alone (Ok hops) here all are rise same = hops_stand hops rise ∙ ap (in_order hop_cmp) (are ∙ same)
+hops_alone (Err e) here all are rise same = tt

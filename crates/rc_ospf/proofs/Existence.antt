@@ -13,18 +13,18 @@ use Rattle.rc_config.specs.declared.network.Network.{Network}
 use Rattle.rc_route.specs.Hops.{hop_cmp}
 use Rattle.rc_route.specs.declared.route.Hop.{Hop}
 use Rattle.rc_route.proofs.OrderLaws.{hop_cmp_total, same_by_hop_cmp}
-use Rattle.rc_ospf.specs.Adjacency.{hop_of}
+use Rattle.rc_link_state.specs.Adjacency.{hop_of}
 use Rattle.rc_ospf.specs.Areas.{OspfRouter, AreOspfRouters}
 use Rattle.rc_ospf.specs.Boundaries.{boundary_paths}
 use Rattle.rc_ospf.specs.Internal.{HasInternal, steps_of, adverts_in}
 use Rattle.rc_ospf.specs.RouterAreas.{router_areas}
 use Rattle.rc_ospf.specs.Routes.{internal_routes, own_prefixes}
-use Rattle.rc_ospf.specs.Towards.{IsCostFrom, AreCostsTo, LeadsOn}
-use Rattle.rc_ospf.specs.Walks.{Reach, IsReach, IsWalk, AreLeastWalks, walk_cost}
-use Rattle.rc_ospf.specs.declared.adjacency.Step.{Step}
+use Rattle.rc_link_state.specs.Towards.{IsCostFrom, AreCostsTo, LeadsOn}
+use Rattle.rc_link_state.specs.Walks.{Reach, IsReach, IsWalk, AreLeastWalks, walk_cost}
+use Rattle.rc_link_state.specs.declared.step.Step.{Step}
 use Rattle.rc_ospf.proofs.LeastWalks.{Leads, leads}
-use Rattle.rc_ospf.proofs.Members.{contains_in, in_contains, in_order_in}
-use Rattle.rc_ospf.proofs.TowardsLaws.{in_filter_map, towards, none_towards}
+use Rattle.rc_link_state.proofs.Members.{contains_in, in_contains, in_order_in}
+use Rattle.rc_link_state.proofs.TowardsLaws.{in_filter_map, towards, none_towards}
 
 cost_of : (area : ℕ) (steps : List Step) (r s : ℕ) → Leads area steps r s → Option ℕ
 cost_of area steps r s (inl found) = Some (walk_cost found.0)

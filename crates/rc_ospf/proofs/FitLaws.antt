@@ -1,5 +1,5 @@
--- The steps of a network lead between its routers, at costs from 1 to 65,535.
-use Rattle.std.proofs.Common.{◌≡◌, ℕ, zero, suc, ◌+◌, ◌<◌, ◌≤◌, min, max, Bool, true, false, cond, List, [], ◌∷◌, ◌++◌, length, map, filter, Option, Some, None, All, sym, subst, refl, arith}
+-- The OSPF interfaces of a network are those of its routers, at costs from 1 to 65,535.
+use Rattle.std.proofs.Common.{◌≡◌, ℕ, zero, suc, ◌+◌, ◌<◌, ◌≤◌, min, max, Bool, true, false, cond, List, [], ◌∷◌, ◌++◌, length, Option, Some, None, All, sym, subst, refl, arith}
 use Rattle.std.specs.Prelude.{slice_get, option_and_then}
 use Rattle.std.specs.List.{AllByRecursion, filter_map, flat_map, cons_option, range_with_len}
 use Rattle.std.specs.Option.{option_map, option_map_or}
@@ -12,17 +12,9 @@ use Rattle.rc_config.specs.declared.interface.Interface.{Interface}
 use Rattle.rc_config.specs.declared.network.Network.{Network}
 use Rattle.rc_config.specs.declared.ospf.OspfProcess.{OspfProcess}
 use Rattle.rc_config.specs.declared.router_text.RouterText.{RouterText}
-use Rattle.rc_topology.specs.Topology.{Topology}
-use Rattle.rc_ospf.specs.Adjacency.{is_adjacent, step_over, adjacencies}
-use Rattle.rc_ospf.specs.Edges.{IsFitStep}
 use Rattle.rc_ospf_interfaces.specs.Interfaces.{area_of, ospf_interface, interface_on, interface_at, interfaces_of, interfaces_at, ospf_interfaces}
-use Rattle.rc_ospf.specs.declared.adjacency.Step.{Step}
+use Rattle.rc_link_state.specs.Tables.{IsFit}
 use Rattle.rc_ospf_interfaces.specs.declared.interface.OspfInterface.{OspfInterface}
-
-record IsFit (n : ℕ) (i : OspfInterface) : Type 0 where
-  pub router : i.id.router < n
-  pub least : 1 ≤ i.cost
-  pub most : i.cost ≤ 65535
 
 at_least : (x : ℕ) → 1 ≤ min 65535 (max 1 x)
 at_least x = grind (arith, common_steps)
@@ -91,22 +83,11 @@ interfaces_fit net = all_flat_map (IsFit (length net.routers)) (λ r. r < length
     at_router : (r : ℕ) → r < length net.routers → AllByRecursion (IsFit (length net.routers)) (interfaces_at net r)
     at_router r lt = of_file r lt (router_at net r)
 
-from_one : (n : ℕ) (p : OspfInterface → Bool) (i : OspfInterface) → IsFit n i → (js : List OspfInterface) → AllByRecursion (IsFit n) js → AllByRecursion (IsFitStep n) (map (step_over i) (filter p js))
-from_one n p i fit [] all = tt
-from_one n p i fit (j ∷ js) all = by (p j) (from_one n p i fit js all.1)
-  where
-    by : (b : Bool) → AllByRecursion (IsFitStep n) (map (step_over i) (filter p js)) → AllByRecursion (IsFitStep n) (map (step_over i) (cond b (j ∷ filter p js) (filter p js)))
-    by true rest = (record { from = fit.router; to = all.0.router; least = fit.least; most = fit.most }, rest)
-    by false rest = rest
-
 pub all_of : {X : Type 0} (P : X → Type 0) (xs : List X) → AllByRecursion P xs → All P xs
 all_of P [] all k d lt = absurd (omega arith)
 all_of P (x ∷ xs) all zero d lt = all.0
 all_of P (x ∷ xs) all (suc k) d lt = all_of P xs all.1 k d (omega arith)
 
-pub steps_fit : (net : Network) (links : Topology) (n : ℕ) (steps : List Step) → n ≡ length net.routers → steps ≡ adjacencies links (ospf_interfaces net) → All (IsFitStep n) steps
-unfolding adjacencies
-steps_fit net links n steps same is = subst (λ m. All (IsFitStep m) steps) (sym same) (subst (All (IsFitStep (length net.routers))) (sym is)
-    (all_of (IsFitStep (length net.routers)) (adjacencies links (ospf_interfaces net)) (all_flat_map (IsFitStep (length net.routers)) (IsFit (length net.routers))
-    (λ i. map (step_over i) (filter (is_adjacent links i) (ospf_interfaces net)))
-    (λ i fit. from_one (length net.routers) (is_adjacent links i) i fit (ospf_interfaces net) (interfaces_fit net)) (ospf_interfaces net) (interfaces_fit net))))
+pub all_fit : (net : Network) (n : ℕ) (interfaces : List OspfInterface) → n ≡ length net.routers → interfaces ≡ ospf_interfaces net → All (IsFit n) interfaces
+all_fit net n interfaces same are = subst (λ k. All (IsFit k) interfaces) (sym same)
+    (subst (All (IsFit (length net.routers))) (sym are) (all_of (IsFit (length net.routers)) (ospf_interfaces net) (interfaces_fit net)))

@@ -4,9 +4,9 @@
 -- step leaves, over the step, and on over the others from where it arrives: what lies between two turns over the step can be left out.
 use Rattle.std.proofs.Common.{refl, ◌≡◌, ap, sym, ◌∙◌, subst, ℕ, ◌+◌, ◌<◌, ◌≤◌, ◌⊎◌, inl, inr, List, [], ◌∷◌, ◌++◌, arith}
 use Rattle.std.proofs.Math.Decide.{dec_lt, ℕ_discrete}
-use Rattle.rc_ospf.specs.declared.adjacency.Step.{Step}
-use Rattle.rc_ospf.specs.Walks.{IsWalk, walk_cost, IsLeastWalk}
-use Rattle.rc_ospf.proofs.Members.{In, contains_in, in_contains}
+use Rattle.rc_link_state.specs.declared.step.Step.{Step}
+use Rattle.rc_link_state.specs.Walks.{IsWalk, walk_cost, IsLeastWalk}
+use Rattle.rc_link_state.proofs.Members.{In, contains_in, in_contains}
 
 module _ (area : ℕ) where
   -- a least walk, or none

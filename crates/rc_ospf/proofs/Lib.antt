@@ -1,12 +1,6 @@
-mod IndexLaws
 mod RowLaws
 mod WayLaws
 mod BestLaws
-mod Members
-mod Bridge
-mod KeptLaws
-mod AreaLaws
-mod ReachLaws
 mod ListLaws
 mod FitLaws
 mod MemberLaws
@@ -14,12 +8,9 @@ mod TableLaws
 mod SortedLaws
 pub mod OneAnswer
 mod ShareLaws
-mod HopLaws
 mod SummaryLaws
+mod WantedLaws
 pub mod HoldingLaws
 mod LeastWalks
-mod TowardsLaws
 mod Existence
-mod TurnedLaws
-mod InwardLaws
 mod AskedLaws

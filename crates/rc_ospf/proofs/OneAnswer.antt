@@ -8,9 +8,9 @@ use Rattle.rc_ospf.specs.Areas.{OspfRouter, IsOspfRouter, AreOspfRouters}
 use Rattle.rc_ospf.specs.Boundaries.{boundary_paths}
 use Rattle.rc_ospf.specs.Internal.{HasOneInternal, steps_of, adverts_in}
 use Rattle.rc_ospf.specs.Routes.{internal_routes}
-use Rattle.rc_ospf.specs.Walks.{LeastWalks, Reach, IsWalk, walk_cost, AreLeastWalks, IsReach}
-use Rattle.rc_ospf.specs.declared.adjacency.Step.{Step}
-use Rattle.rc_ospf.proofs.Members.{contains_in, in_contains, same_by_members}
+use Rattle.rc_link_state.specs.Walks.{LeastWalks, Reach, IsWalk, walk_cost, AreLeastWalks, IsReach}
+use Rattle.rc_link_state.specs.declared.step.Step.{Step}
+use Rattle.rc_link_state.proofs.Members.{contains_in, in_contains, same_by_members}
 
 made_of : ℕ → List Hop → LeastWalks
 made_of cost hops = record { cost = cost; hops = hops }

@@ -1,5 +1,5 @@
 -- The routes of a router stand in order of prefix.
-use Rattle.std.proofs.Common.{refl, ◌≡◌, ap, sym, subst, ℕ, zero, suc, Bool, true, false, cond, List, [], ◌∷◌, map, Option, Some, None, All, arith}
+use Rattle.std.proofs.Common.{refl, ◌≡◌, ap, sym, subst, ℕ, zero, suc, Bool, true, false, cond, List, [], ◌∷◌, map, Option, Some, None, arith}
 use Rattle.std.specs.Prelude.{◌==◌, nat_lt}
 use Rattle.std.specs.List.{filter_map, cons_option, list_any, AllByRecursion}
 use Rattle.std.specs.List.Sorted.{IsStrictlySortedBy}
@@ -19,7 +19,6 @@ use Rattle.rc_ospf.specs.Areas.{OspfRouter, is_offered_by, summaries_of, inter}
 use Rattle.rc_ospf.specs.Offered.{Offered}
 use Rattle.rc_ospf.specs.Routes.{advert_prefix, offers_at, offered_row, offered_rows, default_row, with_default, internal_route_over, internal_route_to, internal_route, internal_routes}
 use Rattle.rc_ospf.specs.Ways.{best_way}
-use Rattle.rc_ospf.proofs.FitLaws.{all_of}
 use Rattle.rc_ospf.specs.declared.grouping.Row.{Row}
 use Rattle.rc_ospf.specs.declared.offer.Advert.{Advert}
 use Rattle.rc_ospf.specs.declared.summaries.Summaries.{Summaries}
@@ -111,6 +110,3 @@ internal_table routers adverts m = kept_order row_prefix route_prefix (internal_
 pub each_table : (routers : List OspfRouter) (adverts : List Advert) (ms : List OspfRouter) → AllByRecursion IsTable (map (internal_routes routers adverts) ms)
 each_table routers adverts [] = tt
 each_table routers adverts (m ∷ ms) = (internal_table routers adverts m, each_table routers adverts ms)
-
-pub all_tables : (routers : List OspfRouter) (adverts : List Advert) (ms : List OspfRouter) → All IsTable (map (internal_routes routers adverts) ms)
-all_tables routers adverts ms = all_of IsTable (map (internal_routes routers adverts) ms) (each_table routers adverts ms)

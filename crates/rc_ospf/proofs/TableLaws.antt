@@ -1,19 +1,18 @@
 -- The routes and paths of all routers, from what the code keeps of them.
 use Rattle.std.proofs.Common.{refl, ◌≡◌, ap, ◌∙◌, ℕ, suc, List, [], ◌∷◌, map, Option}
-use Rattle.std.specs.Prelude.{Result, Ok, Err, IfOk}
 use Rattle.std.specs.List.{filter_map, cons_option}
 use Rattle.rc_config.specs.declared.network.Network.{Network}
 use Rattle.rc_ospf.specs.Areas.{OspfRouter, without_stubs}
 use Rattle.rc_ospf.specs.Boundaries.{boundary_routers, boundary_path, boundary_paths}
 use Rattle.rc_ospf.specs.BoundaryForms.{target_of, path_of_target}
 use Rattle.rc_ospf.specs.ByPrefix.{destination_of, destination_route}
-use Rattle.rc_ospf.specs.Members.{known, AreMembers}
+use Rattle.rc_ospf.specs.Members.{known}
 use Rattle.rc_ospf.specs.Routes.{with_default, offered_rows, internal_route, internal_routes}
-use Rattle.rc_ospf.specs.declared.adjacency.Step.{Step}
+use Rattle.rc_link_state.specs.declared.step.Step.{Step}
 use Rattle.rc_ospf.specs.declared.member.Member.{Member}
 use Rattle.rc_ospf.specs.declared.member.StubAreas.TheVariants.{Kept, LeftOut}
 use Rattle.rc_ospf.specs.declared.offer.Advert.{Advert}
-use Rattle.rc_ospf.proofs.MemberLaws.{left_out}
+use Rattle.rc_ospf.proofs.MemberLaws.{AreMembers, left_out}
 
 pub filter_map-map : {X Y Z : Type 0} (f : Y → Option Z) (g : X → Y) (xs : List X) → filter_map f (map g xs) ≡ filter_map (λ x. f (g x)) xs
 filter_map-map f g [] = refl
@@ -42,7 +41,3 @@ boundaries_are net steps routers lefts r (m ∷ ms) all same =
     ∙ ap (λ ls. filter_map (path_of_target (without_stubs (known Kept m))) (map (target_of net ls) (boundary_routers net))) same
     ∙ one_boundary net routers (known Kept m) (boundary_routers net))
     ∙ ap (λ ts. boundary_paths net routers (known Kept m) ∷ ts) (boundaries_are net steps routers lefts (suc r) ms all.1 same)
-
-pub ok_both : {T E : Type 0} (r : Result T E) (P Q : T → Type 0) → IfOk r P → IfOk r Q → IfOk r (λ x. P x × Q x)
-ok_both (Ok x) P Q p q = (p, q)
-ok_both (Err e) P Q p q = tt

@@ -9,7 +9,8 @@ use Rattle.rc_route.proofs.WayLaws.{same_number}
 use Rattle.rc_ospf.specs.Areas.{OspfRouter, is_offered_by, of_others, inter}
 use Rattle.rc_ospf.specs.Offered.{Offered}
 use Rattle.rc_ospf.specs.RouterAreas.{is_in}
-use Rattle.rc_ospf.specs.Walks.{LeastWalks, Reach}
+use Rattle.rc_link_state.specs.Tables.{cost_of as walks_cost}
+use Rattle.rc_link_state.specs.Walks.{LeastWalks, Reach}
 use Rattle.rc_ospf.specs.Ways.{way_over, way_to, best_way, cost_of}
 use Rattle.rc_ospf.specs.ByPrefix.{path_to_offer, ways_of, hops_for, summary_offers}
 use Rattle.rc_ospf.specs.declared.summaries.Summaries.{Summaries}
@@ -69,3 +70,10 @@ over_either f (Some x) b = refl
 pub inter_by : (m : OspfRouter) (s : Summaries) (b : Bool) (offers : List Offered) → b ≡ is_in 0 m.areas → offers ≡ summary_offers b s → best_of nat_cmp (ways_of m.reach b m.router offers) ≡ inter m s
 inter_by m s b offers is are =
     ap (λ os. best_of nat_cmp (ways_of m.reach b m.router os)) are ∙ ap (λ x. best_of nat_cmp (ways_of m.reach x m.router (summary_offers x s))) is ∙ inter_is m s
+
+-- ---- by the cost of the least walks
+
+-- with the offer's cost it is the way's
+pub cost_over : (p : Option LeastWalks) (o c : ℕ) → walks_cost p ≡ Some c → option_map (λ (e : LeastWalks). e.cost + o) p ≡ Some (c + o)
+cost_over None o c is = absurd (cc)
+cost_over (Some e) o c is = let same : e.cost ≡ c = cc in ap (λ k. Some (k + o)) same

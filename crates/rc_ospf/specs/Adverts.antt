@@ -12,7 +12,7 @@ use Rattle.rc_config.specs.declared.interface.IfAddr.{IfAddr}
 use Rattle.rc_config.specs.declared.interface.Interface.{Interface}
 use Rattle.rc_config.specs.declared.network.Network.{Network}
 use Rattle.rc_config.specs.declared.ospf.NetworkType.TheVariants.{PointToPoint}
-use Rattle.rc_ospf.specs.Adjacency.{is_same_network}
+use Rattle.rc_link_state.specs.Adjacency.{is_same_network}
 use Rattle.rc_ospf_interfaces.specs.declared.interface.OspfInterface.{OspfInterface}
 use Rattle.rc_ospf.specs.declared.offer.Advert.{Advert}
 

@@ -9,9 +9,9 @@ use Rattle.rc_config.specs.declared.network.Network.{Network}
 use Rattle.rc_route.specs.Ways.{Way}
 use Rattle.rc_ospf.specs.Offered.{Offered}
 use Rattle.rc_ospf.specs.RouterAreas.{router_areas, is_in, is_outside, is_border, open_areas}
-use Rattle.rc_ospf.specs.Walks.{LeastWalks, Reach, IsReach}
+use Rattle.rc_link_state.specs.Walks.{LeastWalks, Reach, IsReach}
 use Rattle.rc_ospf.specs.Ways.{best_way, cost_of}
-use Rattle.rc_ospf.specs.declared.adjacency.Step.{Step}
+use Rattle.rc_link_state.specs.declared.step.Step.{Step}
 use Rattle.rc_ospf.specs.declared.router_area.RouterArea.{RouterArea}
 use Rattle.rc_ospf.specs.declared.summaries.Summaries.{Summaries}
 

@@ -4,7 +4,7 @@ use Rattle.std.specs.Ordering.{nat_cmp}
 use Rattle.rc_route.specs.Ways.{hops_at}
 use Rattle.rc_ospf.specs.ByPrefix.{ways_of, cost_to, hops_for}
 use Rattle.rc_ospf.specs.Offered.{Offered}
-use Rattle.rc_ospf.specs.Walks.{Reach}
+use Rattle.rc_link_state.specs.Walks.{Reach}
 use Rattle.rc_ospf.specs.declared.best.Best.{Best}
 
 -- a way that is known and one at this cost to the offer at a later place

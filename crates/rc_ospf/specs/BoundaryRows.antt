@@ -8,7 +8,7 @@ use Rattle.rc_config.specs.declared.ospf.RedistributedSource.TheVariants.{Static
 use Rattle.rc_config.specs.declared.router_text.RouterText.{RouterText}
 use Rattle.rc_route.specs.declared.route.Hop.{Hop}
 use Rattle.rc_topology.specs.Ports.{links_of}
-use Rattle.rc_ospf.specs.Adjacency.{adjacencies}
+use Rattle.rc_link_state.specs.Adjacency.{adjacencies}
 use Rattle.rc_ospf.specs.AreaRows.{network_of, with_stubs, stub, a, b, c, d}
 use Rattle.rc_ospf.specs.Boundaries.{boundary_routers}
 use Rattle.rc_ospf.specs.BoundaryPaths.{BoundaryPath}

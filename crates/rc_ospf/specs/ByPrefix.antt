@@ -9,7 +9,7 @@ use Rattle.rc_route.specs.Ways.{Way}
 use Rattle.rc_ospf.specs.Areas.{OspfRouter, is_offered_by, summaries_of}
 use Rattle.rc_ospf.specs.Offered.{Offered}
 use Rattle.rc_ospf.specs.Routes.{internal_route_to}
-use Rattle.rc_ospf.specs.Walks.{LeastWalks, Reach}
+use Rattle.rc_link_state.specs.Walks.{LeastWalks, Reach}
 use Rattle.rc_ospf.specs.Ways.{way_over}
 use Rattle.rc_ospf.specs.declared.destination.Destination.{Destination}
 use Rattle.rc_ospf.specs.declared.grouping.Row.{Row}

@@ -17,10 +17,10 @@ use Rattle.rc_config.specs.declared.ospf.OspfProcess.{OspfProcess}
 use Rattle.rc_config.specs.declared.ospf.OspfSetting.TheVariants as setting
 use Rattle.rc_config.specs.declared.router_text.RouterText.{RouterText}
 use Rattle.rc_topology.specs.Ports.{links_of}
-use Rattle.rc_ospf.specs.Adjacency.{adjacencies}
+use Rattle.rc_link_state.specs.Adjacency.{adjacencies}
 use Rattle.rc_ospf_interfaces.specs.Interfaces.{ospf_interfaces}
 use Rattle.rc_ospf.specs.Internal.{steps_of, adverts_in}
-use Rattle.rc_ospf.specs.declared.adjacency.Step.{Step}
+use Rattle.rc_link_state.specs.declared.step.Step.{Step}
 use Rattle.rc_ospf_interfaces.specs.declared.interface.OspfInterface.{OspfInterface}
 use Rattle.rc_ospf.specs.declared.offer.Advert.{Advert}
 

@@ -5,14 +5,14 @@ use Rattle.rc_base.specs.Prefix.{Cidr, contains, same_prefix}
 use Rattle.rc_config.specs.Members.{router_ids}
 use Rattle.rc_config.specs.declared.network.Network.{Network}
 use Rattle.rc_topology.specs.Topology.{Topology}
-use Rattle.rc_ospf.specs.Adjacency.{adjacencies}
+use Rattle.rc_link_state.specs.Adjacency.{adjacencies}
 use Rattle.rc_ospf.specs.Adverts.{adverts_of}
 use Rattle.rc_ospf.specs.Areas.{OspfRouter, AreOspfRouters}
 use Rattle.rc_ospf.specs.Boundaries.{boundary_paths}
 use Rattle.rc_ospf.specs.BoundaryPaths.{BoundaryPath, IsNear}
 use Rattle.rc_ospf_interfaces.specs.Interfaces.{ospf_interfaces}
 use Rattle.rc_ospf.specs.Routes.{IsShortRoute, internal_routes, own_prefixes}
-use Rattle.rc_ospf.specs.declared.adjacency.Step.{Step}
+use Rattle.rc_link_state.specs.declared.step.Step.{Step}
 use Rattle.rc_ospf.specs.declared.model.Internal.{Internal}
 use Rattle.rc_ospf.specs.declared.offer.Advert.{Advert}
 use Rattle.rc_route.specs.declared.route.Route.{Route}

@@ -1,9 +1,5 @@
-pub mod Adjacency
 pub mod Adverts
-pub mod Walks
-pub mod Paths
 pub mod Offered
-pub mod HopOrder
 pub mod Ways
 pub mod RouterAreas
 pub mod Areas
@@ -11,10 +7,10 @@ pub mod Routes
 pub mod BoundaryPaths
 pub mod Boundaries
 pub mod BoundaryForms
-pub mod Grouping
 pub mod ByPrefix
 pub mod BestOffers
 pub mod Members
+pub mod Wanted
 pub mod Internal
 pub mod Plain
 pub mod InterfaceRows
@@ -23,8 +19,6 @@ pub mod AddressRows
 pub mod AreaRows
 pub mod SummaryRows
 pub mod BoundaryRows
-pub mod Edges
-pub mod Towards
-pub mod Inward
+pub mod Ends
 pub mod Asked
 pub mod Shares

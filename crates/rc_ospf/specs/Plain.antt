@@ -15,8 +15,8 @@ use Rattle.rc_ospf.specs.Boundaries.{boundary_paths}
 use Rattle.rc_ospf.specs.Internal.{steps_of, adverts_in}
 use Rattle.rc_ospf.specs.RouterAreas.{router_areas}
 use Rattle.rc_ospf.specs.Routes.{internal_routes}
-use Rattle.rc_ospf.specs.Walks.{LeastWalks, Reach, walk_cost, first_hop}
-use Rattle.rc_ospf.specs.declared.adjacency.Step.{Step}
+use Rattle.rc_link_state.specs.Walks.{LeastWalks, Reach, walk_cost, first_hop}
+use Rattle.rc_link_state.specs.declared.step.Step.{Step}
 
 -- all walks of at most n steps from router r inside an area
 abbrev pub walks : List Step → ℕ → ℕ → ℕ → List (List Step)

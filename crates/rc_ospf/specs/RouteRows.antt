@@ -13,7 +13,7 @@ use Rattle.rc_route.specs.declared.route.Hop.TheVariants.{Via}
 use Rattle.rc_route.specs.declared.route.Route.{Route}
 use Rattle.rc_route.specs.declared.route.Source.TheVariants.{Ospf}
 use Rattle.rc_topology.specs.Ports.{links_of}
-use Rattle.rc_ospf.specs.Adjacency.{adjacencies}
+use Rattle.rc_link_state.specs.Adjacency.{adjacencies}
 use Rattle.rc_ospf_interfaces.specs.Interfaces.{ospf_interfaces}
 use Rattle.rc_ospf.specs.InterfaceRows.{ten, primary, everywhere, file, two}
 use Rattle.rc_ospf.specs.Plain.{routes_within}

@@ -4,7 +4,7 @@ use Rattle.rc_base.specs.Prefix.{Cidr}
 use Rattle.rc_config.specs.IfType.{type_of}
 use Rattle.rc_config.specs.declared.network.Network.{Network}
 use Rattle.rc_topology.specs.Ports.{links_of}
-use Rattle.rc_ospf.specs.Adjacency.{adjacencies}
+use Rattle.rc_link_state.specs.Adjacency.{adjacencies}
 use Rattle.rc_ospf.specs.AreaRows.{host, chain}
 use Rattle.rc_ospf.specs.Areas.{OspfRouter, offer, sent, summaries_of}
 use Rattle.rc_ospf_interfaces.specs.Interfaces.{ospf_interfaces}
@@ -13,7 +13,7 @@ use Rattle.rc_ospf.specs.Offered.{Offered}
 use Rattle.rc_ospf.specs.Plain.{routers_within}
 use Rattle.rc_ospf.specs.RouteRows.{prefix}
 use Rattle.rc_ospf.specs.Routes.{offers_at}
-use Rattle.rc_ospf.specs.Walks.{Reach}
+use Rattle.rc_link_state.specs.Walks.{Reach}
 use Rattle.rc_ospf.specs.declared.router_area.RouterArea.{RouterArea}
 use Rattle.rc_ospf.specs.declared.summaries.Summaries.{Summaries}
 

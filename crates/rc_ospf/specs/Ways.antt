@@ -5,7 +5,7 @@ use Rattle.std.specs.Option.{option_map}
 use Rattle.std.specs.Ordering.{nat_cmp}
 use Rattle.rc_route.specs.Ways.{Way, best_of}
 use Rattle.rc_ospf.specs.Offered.{Offered}
-use Rattle.rc_ospf.specs.Walks.{LeastWalks, Reach}
+use Rattle.rc_link_state.specs.Walks.{LeastWalks, Reach}
 
 abbrev pub way_over : ℕ → LeastWalks → Way ℕ
 way_over cost e = record { cost = cost; hops = e.hops }

@@ -4,7 +4,7 @@ ghost use Rattle.std.specs.Ordering.{nat_cmp};
 ghost use Rattle.rc_base.specs.Lists.{in_order};
 ghost use Rattle.rc_ospf.specs.BestOffers as spec;
 ghost use Rattle.rc_ospf.specs.BestOffers.{HasBest};
-ghost use Rattle.rc_ospf.specs.ByPrefix.{hops_for, ways_of};
+ghost use Rattle.rc_ospf.specs.ByPrefix.{ways_of};
 ghost use Rattle.rc_ospf.specs.Members.{reach_of};
 ghost use Rattle.rc_ospf.specs.Ways.{cost_of};
 ghost use Rattle.rc_route.specs.Hops.{hop_cmp};
@@ -13,7 +13,7 @@ ghost use Rattle.rc_route.specs.Ways.{best_of};
 
 use crate::Offer;
 use crate::member::Member;
-use crate::way::{cost_to, hops_at, path_to_offer};
+use crate::way::{cost_to, hops_at, hops_for};
 use rc_route::Hops;
 use std::alloc::{AllocError, Global};
 
@@ -96,28 +96,6 @@ pub(crate) fn best_cost(member: &Member, others: bool, offers: &[Offer]) -> Opti
     }
 }
 
-/// The hops of the way to an offer, in order, where it costs so much.
-fn hops_to(
-    alloc: Global,
-    member: &Member,
-    others: bool,
-    cost: u32,
-    offer: &Offer,
-) -> Result<Hops, AllocError>
-    ensures { IfOk result (λ hops. hops ≡ in_order hop_cmp (hops_for (reach_of member.now) others member.now.router cost offer.now)) }
-{
-    let path = path_to_offer(member, others, offer);
-    match path {
-        Some(path) => {
-            if path.cost() + offer.cost() != cost {
-                return Ok(Hops::none());
-            }
-            path.hops().copy(alloc)
-        }
-        None => Ok(Hops::none()),
-    }
-}
-
 /// The hops of the best of the ways to some offers, in order. It errs only where memory runs out.
 ///
 /// Mostly one way is better than all others, and its hops are in order as they are kept.
@@ -132,7 +110,7 @@ pub(crate) fn best_hops(
     ensures { IfOk result (λ hops. hops ≡ in_order hop_cmp (ways.hops_at nat_cmp best.cost (ways_of (reach_of member.now) others member.now.router offers.now))) }
 {
     if best.is_alone {
-        return hops_to(alloc, member, others, best.cost, &offers[best.at]);
+        return hops_for(alloc, member, others, best.cost, &offers[best.at]);
     }
     hops_at(alloc, member, others, best.cost, offers)
 }

@@ -1,15 +1,17 @@
 //! Paths to AS boundary routers (RFC 2328, sections 3.3 and 16.4).
 ghost use Rattle.std.specs.Prelude.{◌≡◌, false, [], IfOk, IfSome, All, map};
-ghost use Rattle.std.specs.List.{filter_map};
+ghost use Rattle.std.specs.List.{filter_map, list_any};
 ghost use Rattle.std.specs.Option.{option_map};
 ghost use Rattle.std.specs.Ordering.{nat_cmp};
 ghost use Rattle.rc_ospf.specs.Areas as area;
 ghost use Rattle.rc_ospf.specs.Boundaries as spec;
 ghost use Rattle.rc_ospf.specs.BoundaryPaths.{IsNear};
-ghost use Rattle.rc_ospf.specs.BoundaryForms.{target_of, path_of_target};
-ghost use Rattle.rc_ospf.specs.Members.{reach_of, known};
+ghost use Rattle.rc_ospf.specs.BoundaryForms.{path_of_target};
+ghost use Rattle.rc_ospf.specs.Members.{reach_of, known, is_border_at};
 ghost use Rattle.rc_ospf.specs.ByPrefix.{ways_of};
 ghost use Rattle.rc_ospf.specs.RouterAreas.{open_areas};
+ghost use Rattle.rc_ospf.specs.Shares.{AreMade};
+ghost use Rattle.rc_ospf.specs.Wanted.{IsTarget};
 ghost use Rattle.rc_ospf.specs.declared.member.StubAreas.TheVariants.{LeftOut};
 ghost use Rattle.rc_route.specs.Ways.{best_of};
 
@@ -18,14 +20,14 @@ use crate::member::{Member, StubAreas};
 use crate::router_area::{is_in_backbone, router_areas};
 use crate::routes::summary_offers;
 use crate::shares::{Makes, made_by};
-use crate::summaries::{Summaries, summaries_of, to_be_asked};
+use crate::summaries::{Summaries, has_border, summaries_wanted};
 use crate::{Boundary, Offer, RouterArea};
 use rc_base::{Items, RouterId};
 use rc_config::{Network, OspfProcess, Redistribution, RouterText};
 use std::alloc::{AllocError, Global};
 use std::thread::Threads;
 
-/// An AS boundary router with all that is offered of it.
+/// An AS boundary router with what is offered of it, as far as routers have use for it.
 pub(crate) struct Target {
     pub router: RouterId,
     pub inside: Items<Offer>,
@@ -132,17 +134,26 @@ fn boundary_offers(
     open_offers(alloc, router, areas.as_slice())
 }
 
-/// An AS boundary router with all that is offered of it.
+/// An AS boundary router with what is offered of it, as far as routers have use for it.
 fn target_of(
     alloc: Global,
     net: &Network,
     members: &[Member],
+    has_border: bool,
     router: RouterId,
 ) -> Result<Target, AllocError>
-    ensures { IfOk result (λ target. target ≡ target_of net.now (map (known LeftOut) members.now) router) }
+    requires { has_border ≡ list_any (is_border_at LeftOut) members.now }
+    ensures { IfOk result (IsTarget net.now (map (known LeftOut) members.now) router) }
 {
     let inside = boundary_offers(alloc, net, router)?;
-    let summaries = summaries_of(alloc, members, StubAreas::LeftOut, false, inside.as_slice())?;
+    let summaries = summaries_wanted(
+        alloc,
+        members,
+        StubAreas::LeftOut,
+        has_border,
+        false,
+        inside.as_slice(),
+    )?;
     Ok(Target {
         router,
         inside,
@@ -150,37 +161,39 @@ fn target_of(
     })
 }
 
-/// A network with its routers, some of which are AS boundary routers.
+/// A network with its routers, some of which are AS boundary routers, and whether some are border routers.
 #[derive(Drop)]
-struct Bounded<'a> {
-    net: &'a Network,
-    members: &'a [Member],
+struct Bounded<'n, 'm, 'w> {
+    net: &'n Network,
+    members: &'m [Member<'w>],
+    has_border: bool,
 }
 
-impl<'a> Makes for Bounded<'a> {
+impl<'n, 'm, 'w> Makes for Bounded<'n, 'm, 'w> {
     type Thing = RouterId;
 
     type Made = Target;
 
-    ghost use Rattle.std.specs.Prelude.{map};
-    ghost use Rattle.rc_ospf.specs.BoundaryForms.{target_of};
-    ghost use Rattle.rc_ospf.specs.Members.{known};
-    ghost use Rattle.rc_ospf.specs.Shares.{IsGiven};
+    ghost use Rattle.std.specs.Prelude.{◌≡◌, map};
+    ghost use Rattle.std.specs.List.{list_any};
+    ghost use Rattle.rc_ospf.specs.Members.{known, is_border_at};
+    ghost use Rattle.rc_ospf.specs.Wanted.{IsTarget};
     ghost use Rattle.rc_ospf.specs.declared.member.StubAreas.TheVariants.{LeftOut};
 
-    ghost fits = { λ s r. Unit {0} };
+    ghost fits = { λ s r. s.has_border ≡ list_any (is_border_at LeftOut) s.members.now };
 
-    ghost made = { λ s r t. IsGiven (target_of s.net.now (map (known LeftOut) s.members.now)) (λ _. Unit {0}) r t };
+    ghost made = { λ s r t. IsTarget s.net.now (map (known LeftOut) s.members.now) r t };
 
     fn make(&self, alloc: Global, router: &RouterId) -> Result<Target, AllocError>
-        ensures { IfOk result (IsGiven (target_of self.now.net.now (map (known LeftOut) self.now.members.now)) (λ _. Unit {0}) router.now) }
+        requires { self.now.has_border ≡ list_any (is_border_at LeftOut) self.now.members.now }
+        ensures { IfOk result (IsTarget self.now.net.now (map (known LeftOut) self.now.members.now) router.now) }
     {
-        target_of(alloc, self.net, self.members, *router)
+        target_of(alloc, self.net, self.members, self.has_border, *router)
     }
 }
 
-/// The AS boundary routers of a network with all that is offered of them, which the workers share. It errs only where memory runs
-/// out.
+/// The AS boundary routers of a network with what is offered of them, as far as routers have use for it. The workers share them. It errs
+/// only where memory runs out.
 pub(crate) fn targets<R: Threads + Sync>(
     rt: &R,
     alloc: Global,
@@ -188,12 +201,13 @@ pub(crate) fn targets<R: Threads + Sync>(
     members: &[Member],
     workers: u32,
 ) -> Result<Items<Target>, AllocError>
-    ensures { IfOk result (λ targets. targets ≡ map (target_of net.now (map (known LeftOut) members.now)) (spec.boundary_routers net.now)) }
+    ensures { IfOk result (AreMade (IsTarget net.now (map (known LeftOut) members.now)) (spec.boundary_routers net.now)) }
 {
     let routers = boundary_routers(alloc, net)?;
     let bounded = Bounded {
         net,
-        members: to_be_asked(members, StubAreas::LeftOut),
+        members,
+        has_border: has_border(members, StubAreas::LeftOut),
     };
     made_by(rt, alloc, &bounded, routers.as_slice(), workers)
 }

@@ -1,20 +1,23 @@
-//! Prefixes with all that is offered of them.
+//! Prefixes with what is offered of them.
 ghost use Rattle.std.specs.Prelude.{◌≡◌, ◌++◌, ◌∷◌, [], IfOk, OnOk, map};
-ghost use Rattle.rc_ospf.specs.ByPrefix.{destination_of};
-ghost use Rattle.rc_ospf.specs.Members.{known};
+ghost use Rattle.std.specs.List.{list_any};
+ghost use Rattle.rc_ospf.specs.Members.{known, is_border_at};
 ghost use Rattle.rc_ospf.specs.Routes as spec;
+ghost use Rattle.rc_ospf.specs.Shares.{AreMade};
+ghost use Rattle.rc_ospf.specs.Wanted.{IsDestination};
 ghost use Rattle.rc_ospf.specs.declared.member.StubAreas.TheVariants.{Kept};
 
 use crate::member::{Member, StubAreas};
 use crate::shares::{Makes, made_by};
-use crate::summaries::{Summaries, summaries_of, to_be_asked};
+use crate::summaries::{Summaries, has_border, summaries_wanted};
 use crate::{Offer, Row};
 use rc_base::{Addr, Items, Prefix};
 use std::alloc::{AllocError, Global};
 use std::collections::VecDeque;
 use std::thread::Threads;
 
-/// A prefix with all that is offered of it: by interfaces inside their areas, and by border routers as summaries.
+/// A prefix with what is offered of it: by interfaces inside their areas, and by border routers as summaries, where some router wants
+/// these.
 pub struct Destination {
     pub prefix: Prefix,
     pub inside: Items<Offer>,
@@ -52,15 +55,22 @@ fn starts_with_default(rows: &[Row]) -> bool
     }
 }
 
-/// The prefix of a row with all that is offered of it.
-fn destination_of(alloc: Global, members: &[Member], row: &Row) -> Result<Destination, AllocError>
-    ensures { IfOk result (λ d. d ≡ destination_of (map (known Kept) members.now) row.now) }
+/// The prefix of a row with what is offered of it, as far as routers have use for it.
+fn destination_of(
+    alloc: Global,
+    members: &[Member],
+    has_border: bool,
+    row: &Row,
+) -> Result<Destination, AllocError>
+    requires { has_border ≡ list_any (is_border_at Kept) members.now }
+    ensures { IfOk result (IsDestination (map (known Kept) members.now) row.now) }
 {
     let inside = row.offers.copy(alloc)?;
-    let summaries = summaries_of(
+    let summaries = summaries_wanted(
         alloc,
         members,
         StubAreas::Kept,
+        has_border,
         row.prefix.is_default(),
         row.offers.as_slice(),
     )?;
@@ -133,36 +143,38 @@ pub(crate) fn rows_wanted(
     rows_asked(alloc, rows, asked)
 }
 
-/// The routers that may summarise what is offered.
+/// The routers that may summarise what is offered, and whether some of them are border routers.
 #[derive(Drop)]
-struct Summarising<'a> {
-    members: &'a [Member],
+struct Summarising<'m, 'w> {
+    members: &'m [Member<'w>],
+    has_border: bool,
 }
 
-impl<'a> Makes for Summarising<'a> {
+impl<'m, 'w> Makes for Summarising<'m, 'w> {
     type Thing = Row;
 
     type Made = Destination;
 
-    ghost use Rattle.std.specs.Prelude.{map};
-    ghost use Rattle.rc_ospf.specs.ByPrefix.{destination_of};
-    ghost use Rattle.rc_ospf.specs.Members.{known};
-    ghost use Rattle.rc_ospf.specs.Shares.{IsGiven};
+    ghost use Rattle.std.specs.Prelude.{◌≡◌, map};
+    ghost use Rattle.std.specs.List.{list_any};
+    ghost use Rattle.rc_ospf.specs.Members.{known, is_border_at};
+    ghost use Rattle.rc_ospf.specs.Wanted.{IsDestination};
     ghost use Rattle.rc_ospf.specs.declared.member.StubAreas.TheVariants.{Kept};
 
-    ghost fits = { λ s row. Unit {0} };
+    ghost fits = { λ s row. s.has_border ≡ list_any (is_border_at Kept) s.members.now };
 
-    ghost made = { λ s row d. IsGiven (destination_of (map (known Kept) s.members.now)) (λ _. Unit {0}) row d };
+    ghost made = { λ s row d. IsDestination (map (known Kept) s.members.now) row d };
 
     fn make(&self, alloc: Global, row: &Row) -> Result<Destination, AllocError>
-        ensures { IfOk result (IsGiven (destination_of (map (known Kept) self.now.members.now)) (λ _. Unit {0}) row.now) }
+        requires { self.now.has_border ≡ list_any (is_border_at Kept) self.now.members.now }
+        ensures { IfOk result (IsDestination (map (known Kept) self.now.members.now) row.now) }
     {
-        destination_of(alloc, self.members, row)
+        destination_of(alloc, self.members, self.has_border, row)
     }
 }
 
-/// The prefixes of rows with all that is offered of them, and the default route in front where it has no row; where an address is
-/// asked for, those that hold it. It errs only where memory runs out.
+/// The prefixes of rows with what is offered of them, as far as routers have use for it, and the default route in front where it has no
+/// row; where an address is asked for, those that hold it. It errs only where memory runs out.
 pub(crate) fn destinations<R: Threads + Sync>(
     rt: &R,
     alloc: Global,
@@ -171,11 +183,12 @@ pub(crate) fn destinations<R: Threads + Sync>(
     asked: Option<Addr>,
     workers: u32,
 ) -> Result<Items<Destination>, AllocError>
-    ensures { IfOk result (λ all. all ≡ map (destination_of (map (known Kept) members.now)) (spec.rows_asked asked (spec.with_default rows))) }
+    ensures { IfOk result (AreMade (IsDestination (map (known Kept) members.now)) (spec.rows_asked asked (spec.with_default rows))) }
 {
     let rows = rows_wanted(alloc, rows, asked)?;
     let summarising = Summarising {
-        members: to_be_asked(members, StubAreas::Kept),
+        members,
+        has_border: has_border(members, StubAreas::Kept),
     };
     made_by(rt, alloc, &summarising, rows.as_slice(), workers)
 }

@@ -1,33 +1,27 @@
-//! OSPF: which routers are adjacent, the least walks between them, what border routers summarise, and the routes that these give
-//! (RFC 2328).
+//! OSPF: what border routers summarise, and the routes that this and the least walks inside areas give (RFC 2328).
 //!
-//! It stands on the model of rc_config, the links of rc_topology, the shortest paths of rc_spf and the routes of rc_route. The
+//! It stands on the model of rc_config, the links of rc_topology, the least walks of rc_link_state and the routes of rc_route. The
 //! layer above knows of each router its routes inside and between areas, over the least of all walks, its paths to AS boundary
 //! routers, and the prefixes that it advertises itself (`IsInternal`), and that there is just one such answer (`has_internal`,
 //! `one_internal`).
 //!
-//! The crate goes one way: the areas of routers (`router_area`), steps and the least walks over them
-//! (`adjacency`, `area`, `path`; to a few routers from all others `inward`), routers as the others have them (`member`; with what an
-//! address asks for `asked`), ways to what is offered and the best of them (`way`, `best`), what border routers summarise of a
-//! destination (`summaries`), and what each router makes of it (`routes`, `boundary`). What is made of each router by itself is made
-//! by workers at once (`shares`).
+//! The crate goes one way: the areas of routers (`router_area`), what their interfaces offer (`advertising`, `offer`, `grouping`),
+//! routers as the others have them (`member`), with the least walks that an address asks for (`ends`, `asked`), ways to what is offered
+//! and the best of them (`way`, `best`), what border routers summarise of a destination (`summaries`), and what each router makes of it
+//! (`routes`, `boundary`). What is made of each router by itself is made by workers at once (`shares`).
 #![tactic(auto)]
 
-mod adjacency;
 mod advertising;
-mod area;
 mod asked;
 mod best;
 mod boundary;
 mod destination;
+mod ends;
 mod grouping;
-mod hops;
-mod inward;
 mod member;
 mod model;
 mod offer;
 mod own;
-mod path;
 mod router_area;
 mod routes;
 mod shares;
@@ -35,13 +29,10 @@ mod summaries;
 mod tables;
 mod way;
 
-use adjacency::{Step, adjacencies};
 use advertising::adverts;
 use grouping::{Row, offers_by_prefix};
-pub use hops::{add_hops, hops_in_order};
 pub use model::{Boundary, Internal};
 use offer::{Advert, Offer};
-use path::{AreaPaths, Path};
 use rc_ospf_interfaces::OspfInterface;
 use router_area::RouterArea;
 pub use tables::{has_internal, internal, internal_at, one_internal};

@@ -1,67 +1,45 @@
 //! Routers as OSPF has them: their areas, and the least walks from them.
-ghost use Rattle.std.specs.Prelude.{◌≡◌, ◌≤◌, IfOk, All, length};
+ghost use Rattle.std.specs.Prelude.{◌≡◌, ◌<◌, ◌^◌, IfOk, IfSome};
 ghost use Rattle.std.specs.List.{range_with_len};
-ghost use Rattle.std.specs.Option.{option_copied};
-ghost use Rattle.rc_ospf.specs.Edges.{IsFitStep};
-ghost use Rattle.rc_ospf.specs.Members.{nowhere, reach_found, reach_of, areas_known, IsMember, AreMembers};
+ghost use Rattle.std.specs.List.Sorted.{IsStrictlySortedBy};
+ghost use Rattle.rc_link_state.specs.Tables.{cost_of, hops_of};
+ghost use Rattle.rc_ospf.specs.Members.{areas_in, areas_known, reach_of, AreMembersOver};
+ghost use Rattle.rc_route.specs.Hops.{hop_cmp};
 
-use crate::area::{AreaGraph, area_graphs, reach_from};
-use crate::inward::{PathTo, path_among};
-use crate::path::path_at;
+use crate::RouterArea;
 use crate::router_area::{open_areas, router_areas};
-use crate::shares::{Makes, made_by};
-use crate::{AreaPaths, Path, RouterArea, Step};
+use crate::shares::{Makes, made_by, with_room};
 use rc_base::{Items, RouterId};
 use rc_config::Network;
+use rc_link_state::WalkTable;
 use rc_route::Hops;
 use std::alloc::{AllocError, Global};
 use std::thread::Threads;
 
-/// The least walks from a router, as they are kept.
-#[derive(Drop)]
-pub(crate) enum Found {
-    /// To all others, by area.
-    ToAll(Items<AreaPaths>),
-    /// To some alone.
-    ToEnds(Items<PathTo>),
+/// The areas of a router, by rising area.
+pub(crate) struct Areas {
+    pub all: Items<RouterArea>,
+    /// Those that aren't stub areas there.
+    pub non_stub: Items<RouterArea>,
 }
 
-impl Found {
-    /// Those to a router inside an area, where there are any.
-    fn path_to(&self, area: u32, router: RouterId) -> Option<&Path>
-        ensures { option_copied result ≡ reach_found self.now area router }
-    {
-        match self {
-            Found::ToAll(found) => path_at(found.as_slice(), area, router),
-            Found::ToEnds(paths) => path_among(paths.as_slice(), area, router),
-        }
+/// By a function of its own, so that what holds areas drops each by one call.
+impl Drop for Areas {
+    fn drop(self) {
+        let Areas {
+            all: _,
+            non_stub: _,
+        } = self;
     }
 }
 
 /// A router, as the others have it.
-pub(crate) struct Member {
+#[derive(Clone, Copy)]
+pub(crate) struct Member<'a> {
     pub router: RouterId,
-    /// Its areas, by rising area.
-    pub areas: Items<RouterArea>,
-    /// Those that aren't stub areas there.
-    pub non_stub: Items<RouterArea>,
-    /// The walk without steps, which leads to the router itself.
-    pub own: Path,
-    /// The least walks from it.
-    pub found: Found,
-}
-
-/// By a function of its own, so that what holds such routers drops each by one call.
-impl Drop for Member {
-    fn drop(self) {
-        let Member {
-            router: _,
-            areas: _,
-            non_stub: _,
-            own: _,
-            found: _,
-        } = self;
-    }
+    pub areas: &'a Areas,
+    /// The least walks of the network.
+    pub walks: &'a WalkTable,
 }
 
 /// Whether stub areas count. Routes from outside of the AS aren't sent into them (RFC 2328, section 3.6), so that no path to
@@ -72,15 +50,22 @@ pub(crate) enum StubAreas {
     LeftOut,
 }
 
-impl Member {
-    /// The least walks to a router inside an area, where there are any.
-    pub fn path_to(&self, area: u32, router: RouterId) -> Option<&Path>
-        ensures { option_copied result ≡ reach_of self.now area router }
+impl Member<'_> {
+    /// The cost of the least walks to a router inside an area, below 2^26, where there are any.
+    pub fn cost_to(&self, area: u32, router: RouterId) -> Option<u32>
+        ensures value { result ≡ cost_of (reach_of self.now area router) }
+        ensures small { IfSome result (λ c. c < 2 ^ 26) }
     {
-        if router == self.router {
-            return Some(&self.own);
-        }
-        self.found.path_to(area, router)
+        self.walks.cost(self.router, area, router)
+    }
+
+    /// The first hops of the least walks to a router inside an area, in order; none where there are no walks. It errs only where
+    /// memory runs out.
+    pub fn hops_to(&self, alloc: Global, area: u32, router: RouterId) -> Result<Hops, AllocError>
+        ensures value { IfOk result (λ hops. hops ≡ hops_of (reach_of self.now area router)) }
+        ensures in_order { IfOk result (λ hops. IsStrictlySortedBy hop_cmp hops) }
+    {
+        self.walks.hops(alloc, self.router, area, router)
     }
 
     /// Its areas, by rising area.
@@ -88,54 +73,9 @@ impl Member {
         ensures { result.now ≡ areas_known stubs self.now }
     {
         match stubs {
-            StubAreas::Kept => self.areas.as_slice(),
-            StubAreas::LeftOut => self.non_stub.as_slice(),
+            StubAreas::Kept => self.areas.all.as_slice(),
+            StubAreas::LeftOut => self.areas.non_stub.as_slice(),
         }
-    }
-}
-
-/// The walk without steps.
-pub(crate) fn no_step() -> Path
-    ensures { result ≡ nowhere }
-{
-    Path::new(0, Hops::none())
-}
-
-/// What the least walks of routers are made from.
-#[derive(Drop)]
-struct LinkStates<'a> {
-    net: &'a Network,
-    routers: usize,
-    steps: &'a [Step],
-    graphs: &'a [AreaGraph],
-}
-
-impl<'a> Makes for LinkStates<'a> {
-    type Thing = RouterId;
-
-    type Made = Member;
-
-    ghost use Rattle.rc_ospf.specs.Members.{IsMember, IsRoot};
-
-    ghost fits = { IsRoot };
-
-    ghost made = { λ s r m. IsMember s.net.now s.steps.now r m };
-
-    /// A router with its least walks.
-    fn make(&self, alloc: Global, router: &RouterId) -> Result<Member, AllocError>
-        requires { IsRoot self.now router.now }
-        ensures { IfOk result (IsMember self.now.net.now self.now.steps.now router.now) }
-    {
-        let areas = router_areas(alloc, self.net, *router)?;
-        let non_stub = open_areas(alloc, areas.as_slice())?;
-        let found = reach_from(alloc, self.routers, self.steps, self.graphs, *router)?;
-        Ok(Member {
-            router: *router,
-            areas,
-            non_stub,
-            own: no_step(),
-            found: Found::ToAll(found),
-        })
     }
 }
 
@@ -150,27 +90,62 @@ pub(crate) fn routers_below(alloc: Global, routers: usize) -> Result<Items<Route
     Ok(ids)
 }
 
-/// All routers of a network with their least walks over its steps, which the workers share. It errs only where memory runs out.
-pub(crate) fn members<R: Threads + Sync>(
+/// A network of whose routers the areas are wanted.
+#[derive(Drop)]
+struct AreasIn<'a> {
+    net: &'a Network,
+}
+
+impl<'a> Makes for AreasIn<'a> {
+    type Thing = RouterId;
+
+    type Made = Areas;
+
+    ghost use Rattle.rc_ospf.specs.Members.{areas_at};
+    ghost use Rattle.rc_ospf.specs.Shares.{IsGiven};
+
+    ghost fits = { λ s r. Unit {0} };
+
+    ghost made = { λ s r a. IsGiven (areas_at s.net.now) (λ _. Unit {0}) r a };
+
+    fn make(&self, alloc: Global, router: &RouterId) -> Result<Areas, AllocError>
+        ensures { IfOk result (IsGiven (areas_at self.now.net.now) (λ _. Unit {0}) router.now) }
+    {
+        let all = router_areas(alloc, self.net, *router)?;
+        let non_stub = open_areas(alloc, all.as_slice())?;
+        Ok(Areas { all, non_stub })
+    }
+}
+
+/// The areas of each router of a network, which the workers share. It errs only where memory runs out.
+pub(crate) fn areas_of_routers<R: Threads + Sync>(
     rt: &R,
     alloc: Global,
     net: &Network,
-    routers: usize,
-    steps: &[Step],
     workers: u32,
-) -> Result<Items<Member>, AllocError>
-    requires steps { All (IsFitStep routers) steps.now }
-    requires few { routers ≤ 512 }
-    ensures as_many { IfOk result (λ members. length members ≡ routers) }
-    ensures each { IfOk result (AreMembers net.now steps.now 0) }
+) -> Result<Items<Areas>, AllocError>
+    ensures { IfOk result (λ all. all ≡ areas_in net.now) }
 {
-    let graphs = area_graphs(alloc, routers, steps)?;
-    let ids = routers_below(alloc, routers)?;
-    let states = LinkStates {
-        net,
-        routers,
-        steps,
-        graphs: graphs.as_slice(),
-    };
-    made_by(rt, alloc, &states, ids.as_slice(), workers)
+    let ids = routers_below(alloc, net.routers.len())?;
+    let work = AreasIn { net };
+    made_by(rt, alloc, &work, ids.as_slice(), workers)
+}
+
+/// The routers with these areas, over these walks. It errs only where memory runs out.
+pub(crate) fn members<'a>(
+    alloc: Global,
+    areas: &'a [Areas],
+    walks: &'a WalkTable,
+) -> Result<Items<Member<'a>>, AllocError>
+    ensures { IfOk result (AreMembersOver walks.now 0 areas.now) }
+{
+    let mut members = with_room(alloc, areas.len())?;
+    for (index, own) in areas.iter().enumerate() {
+        members.push(Member {
+            router: RouterId::at(index),
+            areas: own,
+            walks,
+        })?;
+    }
+    Ok(members)
 }

@@ -3,9 +3,10 @@ ghost use Rattle.std.specs.Prelude.{◌≡◌, ◌++◌, ◌<◌, ◌^◌, [], I
 ghost use Rattle.std.specs.List.{flat_map, list_any, cons_option};
 ghost use Rattle.std.specs.Option.{option_map};
 ghost use Rattle.rc_ospf.specs.Areas as spec;
-ghost use Rattle.rc_ospf.specs.Members.{reach_of, known, is_border_at, SummariseAlike};
+ghost use Rattle.rc_ospf.specs.Members.{reach_of, known, is_border_at};
 ghost use Rattle.rc_ospf.specs.declared.member.StubAreas.TheVariants.{Kept};
 ghost use Rattle.rc_ospf.specs.RouterAreas.{is_outside};
+ghost use Rattle.rc_ospf.specs.Wanted.{has_inside, lacks_inside, nothing, Suffice};
 
 use crate::best::best_cost;
 use crate::member::{Member, StubAreas};
@@ -37,9 +38,9 @@ fn costs_in(member: &Member, area: u32, cost: u32, offer: &Offer) -> bool
     if offer.area() != area {
         return false;
     }
-    let path = member.path_to(offer.area(), offer.router());
-    match path {
-        Some(path) => path.cost() + offer.cost() == cost,
+    let found = member.cost_to(offer.area(), offer.router());
+    match found {
+        Some(found) => found + offer.cost() == cost,
         None => false,
     }
 }
@@ -275,7 +276,7 @@ fn outward_summaries(
 
 /// All summaries of a destination, of which is said whether it is the default route, and what is offered inside areas. It errs
 /// only where memory runs out.
-pub(crate) fn summaries_of(
+fn summaries_of(
     alloc: Global,
     members: &[Member],
     stubs: StubAreas,
@@ -308,13 +309,58 @@ pub(crate) fn has_border(members: &[Member], stubs: StubAreas) -> bool
     false
 }
 
-/// The routers to be asked for summaries: all of them, or none where none is a border router.
-#[tactic(auto, using(crate::proofs::SummaryLaws::everybody, crate::proofs::SummaryLaws::nobody))]
-pub(crate) fn to_be_asked(members: &[Member], stubs: StubAreas) -> &[Member]
-    ensures { SummariseAlike stubs members.now result.now }
+/// Whether a router reaches some offer inside its area. Who offers it itself does.
+fn has_inside(member: &Member, inside: &[Offer]) -> bool
+    ensures { result ≡ has_inside (reach_of member.now) inside.now }
 {
-    if has_border(members, stubs) {
-        return members;
+    for offer in inside {
+        if member.cost_to(offer.area(), offer.router()).is_some() {
+            return true;
+        }
     }
-    &[]
+    false
+}
+
+/// Whether some router reaches none.
+fn is_lacked(members: &[Member], inside: &[Offer]) -> bool
+    ensures { result ≡ list_any (lacks_inside inside.now) members.now }
+{
+    for member in members {
+        if !has_inside(member, inside) {
+            return true;
+        }
+    }
+    false
+}
+
+/// No summary.
+fn no_summaries(alloc: Global) -> Summaries
+    ensures { result ≡ nothing }
+{
+    Summaries {
+        backbone: Items::new(alloc),
+        outward: Items::new(alloc),
+    }
+}
+
+/// Summaries of a destination that suffice for the routers: none where no router is a border router, or each of them has it inside areas,
+/// and else all. It errs only where memory runs out.
+pub(crate) fn summaries_wanted(
+    alloc: Global,
+    members: &[Member],
+    stubs: StubAreas,
+    has_border: bool,
+    is_default: bool,
+    inside: &[Offer],
+) -> Result<Summaries, AllocError>
+    requires { has_border ≡ list_any (is_border_at stubs) members.now }
+    ensures { IfOk result (Suffice (map (known stubs) members.now) is_default inside.now) }
+{
+    if !has_border {
+        return Ok(no_summaries(alloc));
+    }
+    if !is_lacked(members, inside) {
+        return Ok(no_summaries(alloc));
+    }
+    summaries_of(alloc, members, stubs, is_default, inside)
 }

@@ -1,60 +1,65 @@
 //! What OSPF gives without a state, for all routers.
-ghost use Rattle.std.specs.Prelude.{◌≡◌, IfOk, All, map};
+ghost use Rattle.std.specs.Prelude.{◌≡◌, ◌≤◌, IfOk, All, length, map};
 ghost use Rattle.rc_config.specs.Lawful.{IsLawful};
 ghost use Rattle.rc_config.specs.Members.{router_ids};
 ghost use Rattle.rc_route.specs.Tables.{IsTable};
-ghost use Rattle.rc_ospf.specs.Asked.{AnswerAlike};
+ghost use Rattle.rc_ospf.specs.Asked.{AnswerAlike, AnswerOver};
 ghost use Rattle.rc_ospf.specs.BoundaryForms.{target_of, boundary_paths};
 ghost use Rattle.rc_ospf.specs.Boundaries.{boundary_routers};
-ghost use Rattle.rc_ospf.specs.ByPrefix.{destination_of};
 ghost use Rattle.rc_ospf.specs.BoundaryPaths.{IsNear};
 ghost use Rattle.rc_ospf.specs.Internal.{adverts_in, steps_of, IsInternal, IsInternalAsked, IsInternalAt, HasInternal, HasOneInternal, HasSmallSums, tables_asked};
-ghost use Rattle.rc_ospf.specs.Members.{known};
+ghost use Rattle.rc_ospf.specs.Members.{known, areas_in};
 ghost use Rattle.rc_ospf.specs.Routes as spec;
+ghost use Rattle.rc_ospf.specs.Shares.{AreMade};
+ghost use Rattle.rc_ospf.specs.Wanted.{IsDestination};
 ghost use Rattle.rc_ospf.specs.declared.member.StubAreas.TheVariants.{Kept, LeftOut};
+ghost use Rattle.rc_ospf_interfaces.specs.Interfaces as interface;
 
-use crate::asked::{members_at, members_of};
+use crate::asked::walks;
 use crate::boundary::{Target, paths_to, targets};
 use crate::destination::{Destination, destinations};
-use crate::member::{Member, routers_below};
+use crate::member::{Areas, Member, areas_of_routers, members, routers_below};
 use crate::own::own_prefixes;
 use crate::routes::routes_of;
 use crate::shares::{Makes, made_by};
-use crate::{Boundary, Internal, adverts, offers_by_prefix};
+use crate::{Boundary, Internal, OspfInterface, adverts, offers_by_prefix};
 use rc_base::{Addr, Items, Prefix, RouterId};
 use rc_config::Network;
+use rc_link_state::WalkTable;
 use rc_ospf_interfaces::ospf_interfaces;
 use rc_route::Table;
 use rc_topology::Links;
 use std::alloc::{AllocError, Global};
 use std::thread::Threads;
 
-/// Each prefix that is advertised, and the default route, with all that is offered of it; where an address is asked for, those that
-/// hold it.
+/// Each prefix that is advertised, and the default route, with what is offered of it, as far as routers have use for it; where an address
+/// is asked for, those that hold it.
 fn destinations_of<R: Threads + Sync>(
     rt: &R,
     alloc: Global,
     net: &Network,
+    interfaces: &[OspfInterface],
     members: &[Member],
     asked: Option<Addr>,
     workers: u32,
 ) -> Result<Items<Destination>, AllocError>
-    ensures { IfOk result (λ all. all ≡ map (destination_of (map (known Kept) members.now)) (spec.rows_asked asked (spec.with_default (spec.offered_rows (adverts_in net.now))))) }
+    requires { interfaces.now ≡ interface.ospf_interfaces net.now }
+    ensures { IfOk result (AreMade (IsDestination (map (known Kept) members.now)) (spec.rows_asked asked (spec.with_default (spec.offered_rows (adverts_in net.now))))) }
 {
-    let interfaces = ospf_interfaces(alloc, net)?;
-    let offered = adverts(alloc, net, interfaces.as_slice())?;
+    let offered = adverts(alloc, net, interfaces)?;
     let rows = offers_by_prefix(alloc, offered.as_slice())?;
     destinations(rt, alloc, members, rows, asked, workers)
 }
 
-/// The destinations to which the routes of a router lead.
+/// The destinations to which routes of routers lead.
 #[derive(Drop)]
-struct RoutesTo<'a> {
-    destinations: &'a [Destination],
+struct RoutesTo<'d, 'm, 'w> {
+    destinations: &'d [Destination],
+    members: &'m [Member<'w>],
 }
 
-impl<'a> Makes for RoutesTo<'a> {
-    type Thing = Member;
+impl<'d, 'm, 'w> Makes for RoutesTo<'d, 'm, 'w> {
+    type Thing = Member<'w>;
 
     type Made = Table;
 
@@ -67,7 +72,7 @@ impl<'a> Makes for RoutesTo<'a> {
 
     ghost made = { λ s m t. IsGiven (table_of s.destinations.now) (All IsShortRoute) m t };
 
-    fn make(&self, alloc: Global, member: &Member) -> Result<Table, AllocError>
+    fn make(&self, alloc: Global, member: &Member<'w>) -> Result<Table, AllocError>
         ensures { IfOk result (IsGiven (table_of self.now.destinations.now) (All IsShortRoute) member.now) }
     {
         routes_of(alloc, member, self.destinations)
@@ -79,33 +84,37 @@ fn tables<R: Threads + Sync>(
     rt: &R,
     alloc: Global,
     net: &Network,
+    interfaces: &[OspfInterface],
     members: &[Member],
     asked: Option<Addr>,
     workers: u32,
 ) -> Result<Items<Table>, AllocError>
+    requires { interfaces.now ≡ interface.ospf_interfaces net.now }
     ensures short { IfOk result (All (All spec.IsShortRoute)) }
     ensures value { IfOk result (λ tables. tables ≡ tables_asked asked (map (spec.internal_routes (map (known Kept) members.now) (adverts_in net.now)) (map (known Kept) members.now))) }
 {
-    let destinations = destinations_of(rt, alloc, net, members, asked, workers)?;
+    let destinations = destinations_of(rt, alloc, net, interfaces, members, asked, workers)?;
     let routes = RoutesTo {
         destinations: destinations.as_slice(),
+        members,
     };
-    made_by(rt, alloc, &routes, members, workers)
+    made_by(rt, alloc, &routes, routes.members, workers)
 }
 
-/// The AS boundary routers to which the paths of a router lead.
+/// The AS boundary routers to which paths of routers lead.
 #[derive(Drop)]
-struct PathsTo<'a> {
-    targets: &'a [Target],
+struct PathsTo<'t, 'm, 'w> {
+    targets: &'t [Target],
+    members: &'m [Member<'w>],
 }
 
-impl<'a> Makes for PathsTo<'a> {
-    type Thing = Member;
+impl<'t, 'm, 'w> Makes for PathsTo<'t, 'm, 'w> {
+    type Thing = Member<'w>;
 
     type Made = Items<Boundary>;
 
     ghost use Rattle.std.specs.Prelude.{All};
-    ghost use Rattle.rc_ospf.specs.Asked.{AnswerAlike};
+    ghost use Rattle.rc_ospf.specs.Asked.{AnswerAlike, AnswerOver};
     ghost use Rattle.rc_ospf.specs.BoundaryForms.{boundary_paths};
     ghost use Rattle.rc_ospf.specs.BoundaryPaths.{IsNear};
     ghost use Rattle.rc_ospf.specs.Shares.{IsGiven};
@@ -114,7 +123,7 @@ impl<'a> Makes for PathsTo<'a> {
 
     ghost made = { λ s m p. IsGiven (boundary_paths s.targets.now) (All IsNear) m p };
 
-    fn make(&self, alloc: Global, member: &Member) -> Result<Items<Boundary>, AllocError>
+    fn make(&self, alloc: Global, member: &Member<'w>) -> Result<Items<Boundary>, AllocError>
         ensures { IfOk result (IsGiven (boundary_paths self.now.targets.now) (All IsNear) member.now) }
     {
         paths_to(alloc, member, self.targets)
@@ -135,8 +144,9 @@ fn boundaries<R: Threads + Sync>(
     let targets = targets(rt, alloc, net, members, workers)?;
     let paths = PathsTo {
         targets: targets.as_slice(),
+        members,
     };
-    made_by(rt, alloc, &paths, members, workers)
+    made_by(rt, alloc, &paths, paths.members, workers)
 }
 
 /// The network whose routers advertise prefixes themselves.
@@ -185,17 +195,19 @@ fn internal_by<R: Threads + Sync>(
     alloc: Global,
     net: &Network,
     links: Links,
+    interfaces: &[OspfInterface],
     members: &[Member],
     asked: Option<Addr>,
     workers: u32,
 ) -> Result<Internal, AllocError>
+    requires interfaces { interfaces.now ≡ interface.ospf_interfaces net.now }
     requires alike { AnswerAlike net.now (steps_of net.now links) asked members.now }
     ensures links { IfOk result (λ i. i.links ≡ links) }
     ensures internal { IfOk result (IsInternalAsked net.now asked) }
     ensures in_order { IfOk result (λ i. All IsTable i.routes) }
     ensures small { IfOk result HasSmallSums }
 {
-    let routes = tables(rt, alloc, net, members, asked, workers)?;
+    let routes = tables(rt, alloc, net, interfaces, members, asked, workers)?;
     let boundaries = boundaries(rt, alloc, net, members, workers)?;
     let own = own(rt, alloc, net, workers)?;
     Ok(Internal {
@@ -204,6 +216,56 @@ fn internal_by<R: Threads + Sync>(
         boundaries,
         own,
     })
+}
+
+/// The same over the least walks by which these answer.
+fn internal_over<R: Threads + Sync>(
+    rt: &R,
+    alloc: Global,
+    net: &Network,
+    links: Links,
+    interfaces: &[OspfInterface],
+    areas: &[Areas],
+    walks: &WalkTable,
+    asked: Option<Addr>,
+    workers: u32,
+) -> Result<Internal, AllocError>
+    requires interfaces { interfaces.now ≡ interface.ospf_interfaces net.now }
+    requires areas { areas.now ≡ areas_in net.now }
+    requires walks { AnswerOver net.now (steps_of net.now links) asked walks.now }
+    ensures links { IfOk result (λ i. i.links ≡ links) }
+    ensures internal { IfOk result (IsInternalAsked net.now asked) }
+    ensures in_order { IfOk result (λ i. All IsTable i.routes) }
+    ensures small { IfOk result HasSmallSums }
+{
+    let members = members(alloc, areas, walks)?;
+    let members = members.as_slice();
+    internal_by(rt, alloc, net, links, interfaces, members, asked, workers)
+}
+
+/// The same, whose least walks are made for it.
+fn internal_asked<R: Threads + Sync>(
+    rt: &R,
+    alloc: Global,
+    net: &Network,
+    links: Links,
+    asked: Option<Addr>,
+    workers: u32,
+) -> Result<Internal, AllocError>
+    requires { length net.now.routers ≤ 512 }
+    ensures links { IfOk result (λ i. i.links ≡ links) }
+    ensures internal { IfOk result (IsInternalAsked net.now asked) }
+    ensures in_order { IfOk result (λ i. All IsTable i.routes) }
+    ensures small { IfOk result HasSmallSums }
+{
+    let interfaces = ospf_interfaces(alloc, net)?;
+    let interfaces = interfaces.as_slice();
+    let areas = areas_of_routers(rt, alloc, net, workers)?;
+    let areas = areas.as_slice();
+    let walks = walks(rt, alloc, net, &links, interfaces, areas, &asked, workers)?;
+    internal_over(
+        rt, alloc, net, links, interfaces, areas, &walks, asked, workers,
+    )
 }
 
 /// What OSPF gives without a state in a network with these links (RFC 2328, sections 16.1, 16.2 and 16.4): the routes of each
@@ -222,8 +284,7 @@ pub fn internal<R: Threads + Sync>(
     ensures in_order { IfOk result (λ i. All IsTable i.routes) }
     ensures small { IfOk result HasSmallSums }
 {
-    let members = members_of(rt, alloc, net, &links, workers)?;
-    internal_by(rt, alloc, net, links, members.as_slice(), None, workers)
+    internal_asked(rt, alloc, net, links, None, workers)
 }
 
 /// The same at an address: of the routes those alone whose prefix holds it. No other route is made, and where few routers offer such a
@@ -242,16 +303,7 @@ pub fn internal_at<R: Threads + Sync>(
     ensures in_order { IfOk result (λ i. All IsTable i.routes) }
     ensures small { IfOk result HasSmallSums }
 {
-    let members = members_at(rt, alloc, net, &links, address, workers)?;
-    internal_by(
-        rt,
-        alloc,
-        net,
-        links,
-        members.as_slice(),
-        Some(address),
-        workers,
-    )
+    internal_asked(rt, alloc, net, links, Some(address), workers)
 }
 
 /// A network with its links has one answer.

@@ -1,39 +1,54 @@
 //! Ways to what is offered.
 ghost use Rattle.std.specs.Prelude.{◌≡◌, ◌++◌, ◌<◌, ◌^◌, IfOk, OnOk, IfSome};
-ghost use Rattle.std.specs.Option.{option_copied};
+ghost use Rattle.std.specs.List.Sorted.{IsStrictlySortedBy};
 ghost use Rattle.std.specs.Ordering.{nat_cmp};
 ghost use Rattle.rc_base.specs.Lists.{in_order};
-ghost use Rattle.rc_ospf.specs.ByPrefix.{path_to_offer, cost_to, hops_for, ways_of};
+ghost use Rattle.rc_ospf.specs.ByPrefix.{cost_to, hops_for, ways_of};
 ghost use Rattle.rc_ospf.specs.Members.{reach_of};
 ghost use Rattle.rc_route.specs.Hops.{hop_cmp};
 ghost use Rattle.rc_route.specs.Ways as spec;
 
-use crate::hops::{add_hops, put_in_order};
+use crate::Offer;
 use crate::member::Member;
-use crate::{Offer, Path};
+use rc_link_state::{add_hops, put_in_order};
 use rc_route::Hops;
 use std::alloc::{AllocError, Global};
 
-/// The least walks to the router of an offer inside its area, where there are any. Where only offers of others count, there are
-/// none to one of the router itself.
-pub(crate) fn path_to_offer<'a>(member: &'a Member, others: bool, offer: &Offer) -> Option<&'a Path>
-    ensures { option_copied result ≡ path_to_offer (reach_of member.now) others member.now.router offer.now }
-{
-    if others && offer.router() == member.router {
-        return None;
-    }
-    member.path_to(offer.area(), offer.router())
-}
-
-/// The cost of the way to an offer, where there is one.
+/// The cost of the way to an offer, where there is one. Where only offers of others count, there is none to one of the router itself.
 pub(crate) fn cost_to(member: &Member, others: bool, offer: &Offer) -> Option<u32>
     ensures value { result ≡ cost_to (reach_of member.now) others member.now.router offer.now }
     ensures small { IfSome result (λ c. c < 2 ^ 27) }
 {
-    let path = path_to_offer(member, others, offer);
-    match path {
-        Some(path) => Some(path.cost() + offer.cost()),
+    if others && offer.router() == member.router {
+        return None;
+    }
+    let cost = member.cost_to(offer.area(), offer.router());
+    match cost {
+        Some(cost) => Some(cost + offer.cost()),
         None => None,
+    }
+}
+
+/// The hops of the way to an offer, in order, where it costs so much. It errs only where memory runs out.
+pub(crate) fn hops_for(
+    alloc: Global,
+    member: &Member,
+    others: bool,
+    cost: u32,
+    offer: &Offer,
+) -> Result<Hops, AllocError>
+    ensures value { IfOk result (λ hops. hops ≡ hops_for (reach_of member.now) others member.now.router cost offer.now) }
+    ensures in_order { IfOk result (IsStrictlySortedBy hop_cmp) }
+{
+    let found = cost_to(member, others, offer);
+    match found {
+        Some(found) => {
+            if found == cost {
+                return member.hops_to(alloc, offer.area(), offer.router());
+            }
+            Ok(Hops::none())
+        }
+        None => Ok(Hops::none()),
     }
 }
 
@@ -48,16 +63,8 @@ fn add_hops_for(
 ) -> Result<(), AllocError>
     ensures { OnOk result (hops.new ≡ hops.old ++ hops_for (reach_of member.now) others member.now.router cost offer.now) }
 {
-    let path = path_to_offer(member, others, offer);
-    match path {
-        Some(path) => {
-            if path.cost() + offer.cost() == cost {
-                return add_hops(hops, alloc, path.hops().as_slice());
-            }
-            Ok(())
-        }
-        None => Ok(()),
-    }
+    let more = hops_for(alloc, member, others, cost, offer)?;
+    add_hops(hops, alloc, more.as_slice())
 }
 
 /// The hops of all ways to some offers that cost so much, in order. It errs only where memory runs out.

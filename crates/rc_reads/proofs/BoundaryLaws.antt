@@ -14,18 +14,18 @@ use Rattle.rc_config.specs.declared.network.Network.{Network}
 use Rattle.rc_config.specs.declared.ospf.OspfProcess.{OspfProcess}
 use Rattle.rc_config.specs.declared.router_text.RouterText.{RouterText}
 use Rattle.rc_topology.specs.Topology.{Topology}
-use Rattle.rc_ospf.specs.Adjacency.{adjacencies, is_adjacent, step_over}
+use Rattle.rc_link_state.specs.Adjacency.{adjacencies, is_adjacent, step_over}
 use Rattle.rc_ospf.specs.Areas.{AreOspfRouters, IsOspfRouter, OspfRouter, inter, inter_cost, inter_in_backbone, intra_cost, offer, offers_into, offers_of, outward_offers, outward_summaries, outward_summary, stub_default, summaries_of, without_stubs, backbone_summaries}
 use Rattle.rc_ospf.specs.Boundaries.{boundary_offers, boundary_path, boundary_path_by, boundary_paths, boundary_routers, path_over}
 use Rattle.rc_ospf_interfaces.specs.Interfaces.{interface_at, interface_on, interfaces_at, interfaces_of, ospf_interface, ospf_interfaces, area_of}
 use Rattle.rc_ospf.specs.Internal.{IsInternal, boundaries_of, steps_of}
 use Rattle.rc_ospf.specs.Offered.{Offered}
 use Rattle.rc_ospf.specs.RouterAreas.{areas_in_file, areas_of, is_border, is_in, is_outside, open_areas, router_areas}
-use Rattle.rc_ospf.specs.Walks.{AreLeastWalks, IsReach, IsWalk, LeastWalks, Reach}
+use Rattle.rc_link_state.specs.Walks.{AreLeastWalks, IsReach, IsWalk, LeastWalks, Reach}
 use Rattle.rc_ospf.specs.Ways.{best_way, way_over, way_to}
 use Rattle.rc_route.specs.Ways.{best_of}
 use Rattle.std.specs.Ordering.{nat_cmp}
-use Rattle.rc_ospf.specs.declared.adjacency.Step.{Step}
+use Rattle.rc_link_state.specs.declared.step.Step.{Step}
 use Rattle.rc_ospf_interfaces.specs.declared.interface.OspfInterface.{OspfInterface}
 use Rattle.rc_ospf.specs.declared.model.Internal.{Internal}
 use Rattle.rc_ospf.specs.declared.router_area.RouterArea.{RouterArea}

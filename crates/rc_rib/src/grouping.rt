@@ -7,7 +7,7 @@ ghost use Rattle.rc_rib.specs.Static as spec;
 use crate::active::ActiveLine;
 use crate::rows::routes_of_rows;
 use rc_base::{Prefix, PrefixMap};
-use rc_ospf::hops_in_order;
+use rc_link_state::hops_in_order;
 use rc_route::{Hops, Route, Source, Table};
 use std::alloc::{AllocError, Global};
 

@@ -12,7 +12,7 @@ use Rattle.rc_config.specs.Members.{router_at, router_ids}
 use Rattle.rc_config.specs.declared.network.Network.{Network}
 use Rattle.rc_config.specs.declared.router_text.RouterText.{RouterText}
 use Rattle.rc_external.specs.Externals.{externals}
-use Rattle.rc_ospf.specs.Adjacency.{adjacencies}
+use Rattle.rc_link_state.specs.Adjacency.{adjacencies}
 use Rattle.rc_ospf.specs.Areas.{AreOspfRouters}
 use Rattle.rc_ospf_interfaces.specs.Interfaces.{interfaces_at, interfaces_of, ospf_interfaces}
 use Rattle.rc_ospf.specs.Internal.{IsInternal, steps_of}

@@ -1,13 +1,19 @@
--- Edges in groups by one of their ends.
-use Rattle.std.proofs.Common.{◌≡◌, ◌≢◌, ℕ, zero, suc, ◌+◌, ◌<◌, ◌⊎◌, ◌↔◌, inl, inr, Bool, true, false, List, [], ◌∷◌, ◌++◌, length, get_or, set, take, Option, None, Vec, sym, ◌∙◌, ap, subst, arith, Contains, All}
+-- Edges in groups by the node that they leave.
+use Rattle.std.proofs.Common.{◌≡◌, ◌≢◌, ℕ, zero, suc, ◌+◌, ◌<◌, ◌⊎◌, ◌↔◌, inl, inr, List, [], ◌∷◌, ◌++◌, length, get_or, set, take, Option, None, Vec, sym, ◌∙◌, ap, subst, arith, Contains, All}
 use Rattle.std.specs.declared.alloc.Global.{Global}
-use Rattle.std.proofs.lemmas.List.{get_or-set_same, get_or-set_other, length-set}
+use Rattle.std.proofs.lemmas.List.{get_or-set_same, get_or-set_other, length-set, take_more}
 use Rattle.std.proofs.lemmas.List.Elements.{Contains-push, Contains-append_left, Contains-push_cases, Contains-get_or}
 use Rattle.std.proofs.lemmas.Bool.{cases_eq}
 use Rattle.rc_spf.specs.declared.graph.Edge.{Edge}
-use Rattle.rc_spf.specs.declared.graph.First.{First}
-use Rattle.rc_spf.specs.Steps.{HasCost, IsTight, IsRelaxed, IsFound, first_of, end_node, IsGrouped}
-use Rattle.rc_spf.proofs.Finding.{contains_more}
+use Rattle.rc_spf.specs.Steps.{HasCost, IsRelaxed, IsGrouped}
+
+pub contains_more : {X : Type 0} (xs : List X) (i : ℕ) (d x : X) → i < length xs →
+    Contains (take (i + 1) xs) x ↔ (Contains (take i xs) x ⊎ (get_or xs i d ≡ x))
+contains_more xs i d x lt = rw (take_more xs i d lt) (Contains-push_cases (take i xs) (get_or xs i d) x, back)
+  where
+    back : Contains (take i xs) x ⊎ (get_or xs i d ≡ x) → Contains (take i xs ++ get_or xs i d ∷ []) x
+    back (inl has) = Contains-append_left (take i xs) (get_or xs i d ∷ []) x has
+    back (inr same) = subst (λ y. Contains (take i xs ++ get_or xs i d ∷ []) y) same (Contains-push (take i xs) (get_or xs i d))
 
 abbrev pub Groups : Type 0
 Groups = List (Vec Edge Global)
@@ -21,31 +27,31 @@ empty_more [] row all is (suc n) d lt = absurd (omega arith)
 empty_more (g ∷ groups) row all is zero d lt = all 0 d (omega arith)
 empty_more (g ∷ groups) row all is (suc n) d lt = empty_more groups row (λ k e lt'. all (suc k) e (omega arith)) is n d (omega arith)
 
-pub grouped_none : (groups : Groups) (nodes : ℕ) (at_start : Bool) → length groups ≡ nodes → AllEmpty groups → IsGrouped groups [] at_start nodes
-grouped_none groups nodes at_start len all = record { len = len; members = λ n d e lt. (to n d e lt, back n d e lt) }
+pub grouped_none : (groups : Groups) (nodes : ℕ) → length groups ≡ nodes → AllEmpty groups → IsGrouped groups [] nodes
+grouped_none groups nodes len all = record { len = len; members = λ n d e lt. (to n d e lt, back n d e lt) }
   where
-    to : (n : ℕ) (d : Vec Edge Global) (e : Edge) → n < nodes → Contains (get_or groups n d).items e → Contains [] e × (end_node at_start e ≡ n)
+    to : (n : ℕ) (d : Vec Edge Global) (e : Edge) → n < nodes → Contains (get_or groups n d).items e → Contains [] e × (e.from ≡ n)
     to n d e lt has = let none : Contains [] e = subst (λ l. Contains l e) (all n d (omega arith)) has in let (k, bad, same) = none in absurd (omega arith)
 
-    back : (n : ℕ) (d : Vec Edge Global) (e : Edge) → n < nodes → Contains [] e × (end_node at_start e ≡ n) → Contains (get_or groups n d).items e
+    back : (n : ℕ) (d : Vec Edge Global) (e : Edge) → n < nodes → Contains [] e × (e.from ≡ n) → Contains (get_or groups n d).items e
     back n d e lt has = let (k, bad, same) = has.0 in absurd (omega arith)
 
 -- one more edge in its group
-pub grouped_more : (groups new : Groups) (edges : List Edge) (i : ℕ) (d : Edge) (row : Vec Edge Global) (r : Vec Edge Global) (at_start : Bool) (nodes : ℕ) →
-    i < length edges → IsGrouped groups (take i edges) at_start nodes → end_node at_start (get_or edges i d) < nodes →
-    row.items ≡ (get_or groups (end_node at_start (get_or edges i d)) r).items ++ get_or edges i d ∷ [] →
-    new ≡ set groups (end_node at_start (get_or edges i d)) row → IsGrouped new (take (i + 1) edges) at_start nodes
-grouped_more groups new edges i d row r at_start nodes lt g small items is =
-    subst (λ l. IsGrouped l (take (i + 1) edges) at_start nodes) (sym is) (record { len = length-set groups at row ∙ g.len; members = members })
+pub grouped_more : (groups new : Groups) (edges : List Edge) (i : ℕ) (d : Edge) (row : Vec Edge Global) (r : Vec Edge Global) (nodes : ℕ) →
+    i < length edges → IsGrouped groups (take i edges) nodes → (get_or edges i d).from < nodes →
+    row.items ≡ (get_or groups (get_or edges i d).from r).items ++ get_or edges i d ∷ [] →
+    new ≡ set groups (get_or edges i d).from row → IsGrouped new (take (i + 1) edges) nodes
+grouped_more groups new edges i d row r nodes lt g small items is =
+    subst (λ l. IsGrouped l (take (i + 1) edges) nodes) (sym is) (record { len = length-set groups at row ∙ g.len; members = members })
   where
     edge : Edge
     edge = get_or edges i d
 
     at : ℕ
-    at = end_node at_start edge
+    at = edge.from
 
     Goal : ℕ → Vec Edge Global → Edge → Type 0
-    Goal n dd e = Contains (get_or (set groups at row) n dd).items e ↔ (Contains (take (i + 1) edges) e × (end_node at_start e ≡ n))
+    Goal n dd e = Contains (get_or (set groups at row) n dd).items e ↔ (Contains (take (i + 1) edges) e × (e.from ≡ n))
 
     more : (e : Edge) → Contains (take (i + 1) edges) e ↔ (Contains (take i edges) e ⊎ (edge ≡ e))
     more e = contains_more edges i d e lt
@@ -59,13 +65,13 @@ grouped_more groups new edges i d row r at_start nodes lt g small items is =
         same_row : (get_or (set groups at row) at dd).items ≡ (get_or groups at r).items ++ edge ∷ []
         same_row = ap (λ (v : Vec Edge Global). v.items) (get_or-set_same groups at row dd in_range) ∙ items
 
-        to : Contains (get_or (set groups at row) at dd).items e → Contains (take (i + 1) edges) e × (end_node at_start e ≡ at)
+        to : Contains (get_or (set groups at row) at dd).items e → Contains (take (i + 1) edges) e × (e.from ≡ at)
         to has = elim (Contains-push_cases (get_or groups at r).items edge e (subst (λ l. Contains l e) same_row has)) [
           | inl old ↦ ((more e).1 (inl ((g.members at r e small).0 old).0), ((g.members at r e small).0 old).1)
-          | inr same ↦ ((more e).1 (inr same), ap (end_node at_start) (sym same))
+          | inr same ↦ ((more e).1 (inr same), ap (λ (f : Edge). f.from) (sym same))
         ]
 
-        back : Contains (take (i + 1) edges) e × (end_node at_start e ≡ at) → Contains (get_or (set groups at row) at dd).items e
+        back : Contains (take (i + 1) edges) e × (e.from ≡ at) → Contains (get_or (set groups at row) at dd).items e
         back (has, ends) = subst (λ l. Contains l e) (sym same_row) (elim ((more e).0 has) [
           | inl old ↦ Contains-append_left (get_or groups at r).items (edge ∷ []) e ((g.members at r e small).1 (old, ends))
           | inr same ↦ subst (λ x. Contains ((get_or groups at r).items ++ edge ∷ []) x) same (Contains-push (get_or groups at r).items edge)
@@ -77,13 +83,13 @@ grouped_more groups new edges i d row r at_start nodes lt g small items is =
         same_row : get_or (set groups at row) n dd ≡ get_or groups n dd
         same_row = get_or-set_other groups at n row dd other
 
-        to : Contains (get_or (set groups at row) n dd).items e → Contains (take (i + 1) edges) e × (end_node at_start e ≡ n)
+        to : Contains (get_or (set groups at row) n dd).items e → Contains (take (i + 1) edges) e × (e.from ≡ n)
         to has = let old = (g.members n dd e ln).0 (subst (λ (v : Vec Edge Global). Contains v.items e) same_row has) in ((more e).1 (inl old.0), old.1)
 
-        back : Contains (take (i + 1) edges) e × (end_node at_start e ≡ n) → Contains (get_or (set groups at row) n dd).items e
+        back : Contains (take (i + 1) edges) e × (e.from ≡ n) → Contains (get_or (set groups at row) n dd).items e
         back (has, ends) = subst (λ (v : Vec Edge Global). Contains v.items e) (sym same_row) (elim ((more e).0 has) [
           | inl old ↦ (g.members n dd e ln).1 (old, ends)
-          | inr same ↦ absurd (other (sym ends ∙ ap (end_node at_start) (sym same)))
+          | inr same ↦ absurd (other (sym ends ∙ ap (λ (f : Edge). f.from) (sym same)))
         ])
 
     members : (n : ℕ) (dd : Vec Edge Global) (e : Edge) → n < nodes → Goal n dd e
@@ -94,7 +100,7 @@ grouped_more groups new edges i d row r at_start nodes lt g small items is =
 
 -- to follow the edges of a node's group is to follow the edges
 pub relaxed_of_group : (groups : Groups) (edges : List Edge) (nodes u x : ℕ) (d : Vec Edge Global) (old new : List (Option ℕ)) → u < nodes →
-    IsGrouped groups edges true nodes → IsRelaxed (get_or groups u d).items u x old new → IsRelaxed edges u x old new
+    IsGrouped groups edges nodes → IsRelaxed (get_or groups u d).items u x old new → IsRelaxed edges u x old new
 relaxed_of_group groups edges nodes u x d old new lu g r = record {
   reached = λ e has from. r.reached e ((g.members u d e lu).1 (has, from)) from;
   changed = changed;
@@ -107,54 +113,34 @@ relaxed_of_group groups edges nodes u x d old new lu g r = record {
       | inr (e, has, from, to, cost, less) ↦ inr (e, ((g.members u d e lu).0 has).0, from, to, cost, less)
     ]
 
--- and to look among the edges into it is to look among all edges
-pub found_of_group : (groups : Groups) (edges : List Edge) (nodes root u x : ℕ) (d : Vec Edge Global) (costs : List (Option ℕ)) (firsts : List First) (found : List ℕ) → u < nodes →
-    IsGrouped groups edges false nodes → IsFound (get_or groups u d).items root u x costs firsts found → IsFound edges root u x costs firsts found
-found_of_group groups edges nodes root u x d costs firsts found lu g f = record {
-  direct = λ e has tight from. f.direct e ((g.members u d e lu).1 (has, tight.to_node)) tight from;
-  onward = λ e has tight h first. f.onward e ((g.members u d e lu).1 (has, tight.to_node)) tight h first;
-  only = only;
-  once = f.once;
-}
-  where
-    only : (h : ℕ) → Contains found h → (e : Edge) × Contains edges e × IsTight costs u x e × ((e.from ≡ root) × (e.hop ≡ h) ⊎ Contains firsts (first_of e.from h))
-    only h has = let (e, in_group, tight, why) = f.only h has in (e, ((g.members u d e lu).0 in_group).0, tight, why)
-
 -- what holds of each edge holds of each in a group
-pub all_of_group : (groups : Groups) (edges : List Edge) (nodes u : ℕ) (d : Vec Edge Global) (at_start : Bool) (P : Edge → Type 0) → u < nodes →
-    IsGrouped groups edges at_start nodes → ((e : Edge) → Contains edges e → P e) → (e : Edge) → Contains (get_or groups u d).items e → P e
-all_of_group groups edges nodes u d at_start P lu g each e has = each e ((g.members u d e lu).0 has).0
-
-pub either_end : (groups : Groups) (nodes : ℕ) (at_start : Bool) → IsGrouped groups [] true nodes × IsGrouped groups [] false nodes → IsGrouped groups [] at_start nodes
-either_end groups nodes true both = both.0
-either_end groups nodes false both = both.1
+pub all_of_group : (groups : Groups) (edges : List Edge) (nodes u : ℕ) (d : Vec Edge Global) (P : Edge → Type 0) → u < nodes →
+    IsGrouped groups edges nodes → ((e : Edge) → Contains edges e → P e) → (e : Edge) → Contains (get_or groups u d).items e → P e
+all_of_group groups edges nodes u d P lu g each e has = each e ((g.members u d e lu).0 has).0
 
 -- a turn of the loop, from what its calls say
-pub grouped_turn : (groups : Groups) (edges : List Edge) (i : ℕ) (d : Edge) (row read : Vec Edge Global) (at_start : Bool) (nodes at : ℕ) →
-    i < length edges → IsGrouped groups (take i edges) at_start nodes → All (λ e. end_node at_start e < nodes) edges → at ≡ end_node at_start (get_or edges i d) →
-    read ≡ get_or groups at read → row.items ≡ read.items ++ get_or edges i d ∷ [] → IsGrouped (set groups at row) (take (i + 1) edges) at_start nodes
-grouped_turn groups edges i d row read at_start nodes at lt g ends same is items =
-    grouped_more groups (set groups at row) edges i d row read at_start nodes lt g (ends i d lt)
+pub grouped_turn : (groups : Groups) (edges : List Edge) (i : ℕ) (d : Edge) (row read : Vec Edge Global) (nodes at : ℕ) →
+    i < length edges → IsGrouped groups (take i edges) nodes → All (λ e. e.from < nodes) edges → at ≡ (get_or edges i d).from →
+    read ≡ get_or groups at read → row.items ≡ read.items ++ get_or edges i d ∷ [] → IsGrouped (set groups at row) (take (i + 1) edges) nodes
+grouped_turn groups edges i d row read nodes at lt g ends same is items =
+    grouped_more groups (set groups at row) edges i d row read nodes lt g (ends i d lt)
     (items ∙ ap (λ (v : Vec Edge Global). v.items ++ get_or edges i d ∷ []) (is ∙ ap (λ n. get_or groups n read) same)) (ap (λ n. set groups n row) same)
 
--- the group of a node, as it is read and lent
-pub found_in : (groups : Groups) (edges es : List Edge) (nodes root u x : ℕ) (v : Vec Edge Global) (costs : List (Option ℕ)) (firsts : List First) (found : List ℕ) → u < nodes →
-    IsGrouped groups edges false nodes → v ≡ get_or groups u v → es ≡ v.items → IsFound es root u x costs firsts found → IsFound edges root u x costs firsts found
-found_in groups edges es nodes root u x v costs firsts found lu g is same f =
-    found_of_group groups edges nodes root u x v costs firsts found lu g
-    (subst (λ l. IsFound l root u x costs firsts found) (same ∙ ap (λ (w : Vec Edge Global). w.items) is) f)
-
 pub relaxed_in : (groups : Groups) (edges es : List Edge) (nodes u x : ℕ) (v : Vec Edge Global) (old new : List (Option ℕ)) → u < nodes →
-    IsGrouped groups edges true nodes → v ≡ get_or groups u v → es ≡ v.items → IsRelaxed es u x old new → IsRelaxed edges u x old new
+    IsGrouped groups edges nodes → v ≡ get_or groups u v → es ≡ v.items → IsRelaxed es u x old new → IsRelaxed edges u x old new
 relaxed_in groups edges es nodes u x v old new lu g is same r =
     relaxed_of_group groups edges nodes u x v old new lu g
     (subst (λ l. IsRelaxed l u x old new) (same ∙ ap (λ (w : Vec Edge Global). w.items) is) r)
 
-pub all_in : (P : Edge → Type 0) (groups : Groups) (edges es : List Edge) (nodes u : ℕ) (v : Vec Edge Global) (at_start : Bool) → u < nodes →
-    IsGrouped groups edges at_start nodes → v ≡ get_or groups u v → es ≡ v.items → ((e : Edge) → Contains edges e → P e) → All P es
-all_in P groups edges es nodes u v at_start lu g is same each k d lt =
-    all_of_group groups edges nodes u v at_start P lu g each (get_or es k d)
+pub all_in : (P : Edge → Type 0) (groups : Groups) (edges es : List Edge) (nodes u : ℕ) (v : Vec Edge Global) → u < nodes →
+    IsGrouped groups edges nodes → v ≡ get_or groups u v → es ≡ v.items → ((e : Edge) → Contains edges e → P e) → All P es
+all_in P groups edges es nodes u v lu g is same each k d lt =
+    all_of_group groups edges nodes u v P lu g each (get_or es k d)
     (subst (λ l. Contains l (get_or es k d)) (same ∙ ap (λ (w : Vec Edge Global). w.items) is) (Contains-get_or es k d lt))
 
-pub grouped_as : (groups : Groups) (edges copy : List Edge) (at_start : Bool) (nodes : ℕ) → copy ≡ edges → IsGrouped groups copy at_start nodes → IsGrouped groups edges at_start nodes
-grouped_as groups edges copy at_start nodes same g = subst (λ l. IsGrouped groups l at_start nodes) same g
+-- each edge of the group of a node that is left leaves it
+pub leaving_in : (groups : Groups) (edges es : List Edge) (nodes u : ℕ) (v : Vec Edge Global) → u < nodes → IsGrouped groups edges nodes → v ≡ get_or groups u v → es ≡ v.items →
+    (P : ℕ → Type 0) → ((e : Edge) → Contains edges e → e.from ≡ u → P e.cost) → All (λ (e : Edge). P e.cost) es
+leaving_in groups edges es nodes u v lu g is same P each k d lt =
+    let has : Contains (get_or groups u v).items (get_or es k d) = subst (λ l. Contains l (get_or es k d)) (same ∙ ap (λ (w : Vec Edge Global). w.items) is) (Contains-get_or es k d lt) in
+    let both = (g.members u v (get_or es k d) lu).0 has in each (get_or es k d) both.0 both.1

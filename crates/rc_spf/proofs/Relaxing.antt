@@ -1,13 +1,10 @@
 -- One more edge followed.
-use Rattle.std.proofs.Common.{◌≡◌, ◌≢◌, ℕ, ◌+◌, ◌<◌, ◌≤◌, ◌⊎◌, inl, inr, List, [], ◌∷◌, ◌++◌, length, get_or, take, Option, None, sym, ◌∙◌, ap, subst, arith, refl, Contains}
+use Rattle.std.proofs.Common.{◌≡◌, ◌≢◌, ℕ, ◌+◌, ◌<◌, ◌≤◌, ◌⊎◌, inl, inr, List, [], ◌∷◌, ◌++◌, length, get_or, take, Option, None, sym, ◌∙◌, ap, subst, arith, Contains}
 use Rattle.std.proofs.lemmas.List.Elements.{Contains-push, Contains-append_left, Contains-push_cases}
 use Rattle.std.proofs.lemmas.List.{take_more}
 use Rattle.std.specs.List.{slice_index_or}
 use Rattle.rc_spf.specs.declared.graph.Edge.{Edge}
 use Rattle.rc_spf.specs.Steps.{HasCost, IsImproved, IsRelaxed}
-
-pub relaxed_none : (u x : ℕ) (c : List (Option ℕ)) → IsRelaxed [] u x c c
-relaxed_none u x c = record { reached = λ e (k, lt, _) _. absurd (omega arith); changed = λ k. inl refl }
 
 -- an edge that leads out of another node
 pub relaxed_skip : (es : List Edge) (e : Edge) (u x : ℕ) (old new : List (Option ℕ)) →

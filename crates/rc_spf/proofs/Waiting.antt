@@ -8,7 +8,7 @@ use Rattle.std.specs.Ordering.{nat_cmp, ordering_then, is_lt}
 use Rattle.std.proofs.lemmas.Bool.{cases_eq}
 use Rattle.std.proofs.lemmas.List.{get_or-set_same, get_or-set_other, get_or_default, length-replicate}
 use Rattle.std.proofs.lemmas.List.Sorted.{Contains-permutation, IsPermutation-sym}
-use Rattle.rc_spf.specs.Steps.{HasCost, NoneNearest}
+use Rattle.rc_spf.specs.Steps.{HasCost}
 use Rattle.rc_spf.specs.Waiting.{is_after, waiting, IsLeastOf, IsQueue, IsNext, IsStillQueue}
 use Rattle.rc_spf.proofs.Search.{IsSettled, IsOpen, one_cost, not_both, settled_now, open_before, open_in_range}
 
@@ -49,9 +49,6 @@ pub cost_in_range : (costs : List (Option ℕ)) (k x : ℕ) → HasCost costs k 
 cost_in_range [] k x has = absurd (cc)
 cost_in_range (c ∷ costs) zero x has = omega arith
 cost_in_range (c ∷ costs) (suc k) x has = let lt : k < length costs = cost_in_range costs k x has in omega arith
-
-pub still_same : (queue : Queue) (costs : List (Option ℕ)) → IsStillQueue queue queue costs costs
-still_same queue costs = record { still = λ settled q. q }
 
 pub still_further : (queue queue' queue'' : Queue) (costs costs' costs'' : List (Option ℕ)) →
     IsStillQueue queue queue' costs costs' → IsStillQueue queue' queue'' costs' costs'' → IsStillQueue queue queue'' costs costs''
@@ -129,14 +126,6 @@ taken queue left costs settled cost node q perm least is = record {
           (subst (λ n. IsSettled (set settled node true) n) (ap (λ (p : ℕ × ℕ). p.1) same) (settled_now settled node (open_in_range settled node is))) still)
       | inr later ↦ later
     ]
-
--- where nothing waits, no open node has a cost
-pub none_waits : (costs : List (Option ℕ)) (settled : List Bool) (queue : Queue) → IsQueue queue costs settled → queue ≡ [] → NoneNearest costs settled (length settled)
-none_waits costs settled queue q none k lt is = none_at (get_or costs k None) refl
-  where
-    none_at : (c : Option ℕ) → get_or costs k None ≡ c → get_or costs k None ≡ None
-    none_at None same = same
-    none_at (Some x) same = absurd (let (j, bad, e) = subst (λ (l : Queue). Contains l (x, k)) none (q.open_waits k x is same) in omega arith)
 
 -- the node that went out is one of the graph
 pub waits_in_range : (queue left : Queue) (costs : List (Option ℕ)) (settled : List Bool) (cost node : ℕ) → length costs ≡ length settled → IsQueue queue costs settled →

@@ -1,5 +1,5 @@
 -- Shortest paths in a graph (RFC 2328, 16.1).
-use Rattle.std.specs.Prelude.{◌≡◌, ℕ, ◌+◌, ◌≤◌, List, [], ◌∷◌, Option, Some, None, Contains}
+use Rattle.std.specs.Prelude.{◌≡◌, ℕ, ◌+◌, ◌≤◌, List, [], ◌∷◌, Contains}
 use Rattle.rc_spf.specs.declared.graph.Edge.{Edge}
 
 -- the edges lead from node a to node b
@@ -11,10 +11,6 @@ abbrev pub walk_cost : List Edge → ℕ
 walk_cost [] = 0
 walk_cost (e ∷ walk) = e.cost + walk_cost walk
 
-abbrev pub first_hop : List Edge → Option ℕ
-first_hop [] = None
-first_hop (e ∷ walk) = Some e.hop
-
 -- a walk from a to b, and none costs less
 pub record IsLeastWalk (edges : List Edge) (a b : ℕ) (walk : List Edge) : Type 0 where
   pub is_walk : IsWalk edges a walk b
@@ -23,7 +19,3 @@ pub record IsLeastWalk (edges : List Edge) (a b : ℕ) (walk : List Edge) : Type
 -- the cost of a least walk
 abbrev pub IsLeastCost : List Edge → ℕ → ℕ → ℕ → Type 0
 IsLeastCost edges a b cost = (walk : List Edge) × IsLeastWalk edges a b walk × (walk_cost walk ≡ cost)
-
--- the first hop of some least walk
-abbrev pub IsFirstHop : List Edge → ℕ → ℕ → ℕ → Type 0
-IsFirstHop edges a b hop = (walk : List Edge) × IsLeastWalk edges a b walk × (first_hop walk ≡ Some hop)

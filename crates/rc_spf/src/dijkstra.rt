@@ -1,13 +1,12 @@
-//! The search: the nearest node that is not settled is settled, and the edges out of it are followed (RFC 2328, section
-//! 16.1, steps 1 to 5). At any moment each node that was reached and is not settled waits in the queue at its cost.
-ghost use Rattle.std.specs.Prelude.{◌≡◌, ℕ, ◌+◌, ◌*◌, ◌^◌, ◌<◌, ◌≤◌, ◌↔◌, length, IsTrue, IfOk, MatchOption, All, vec_len, replicate, false};
+//! The search: the nearest node that is not settled is settled, and the edges out of it are followed (RFC 2328, section 16.1,
+//! steps 1 to 5). At any moment each node that was reached and is not settled waits in the queue at its cost.
+ghost use Rattle.std.specs.Prelude.{◌≡◌, ℕ, ◌+◌, ◌^◌, ◌<◌, ◌≤◌, ◌↔◌, length, IsTrue, IfOk, MatchOption, All, vec_len, replicate, false};
 ghost use Rattle.rc_spf.specs.Waiting.{IsQueue, IsNext, IsStillQueue};
-ghost use Rattle.rc_spf.specs.Steps.{NoneNearest, IsImproved, IsRelaxed, HasNoRepeats, AreBounded, AreGroups, HasSpans, AreLeastCosts, AreFirstHops, IsStart, IsTree};
+ghost use Rattle.rc_spf.specs.Weights.{FirstNodesCost};
+ghost use Rattle.rc_spf.specs.Steps.{NoneNearest, IsImproved, IsRelaxed, HasShortWalks, AreBounded, AreGroups, AreLeastCosts, IsStart, AreCostsFrom};
 
-use crate::groups::groups_of;
-use crate::hops::{find_hops, record_span};
 use crate::queue::Queue;
-use crate::{Edge, Graph, Groups, Tree};
+use crate::{Edge, Graph, Groups};
 use std::alloc::{AllocError, Global};
 
 /// Takes the node of least cost among those that are not settled out of the queue, with its cost.
@@ -52,7 +51,7 @@ fn improve(
     Ok(())
 }
 
-/// Follows the edges out of a node of that cost.
+/// Follows those of some edges that lead out of a node of that cost.
 fn relax(
     edges: &[Edge],
     node: usize,
@@ -75,145 +74,110 @@ fn relax(
 
 /// A search under way.
 struct Search {
-    /// What is known of the walks so far.
-    tree: Tree,
-    /// By node: whether its cost and its first hops are final.
+    /// By node: the cost of the least walk that is known so far.
+    costs: Vec<Option<u32>>,
+    /// By node: whether its cost is final.
     settled: Vec<bool>,
     queue: Queue,
-    /// The hops found at the node that was settled last.
-    found: Vec<usize>,
 }
 
 /// By a function of its own, so that what holds a search drops it by one call.
 impl Drop for Search {
     fn drop(self) {
         let Search {
-            tree: _,
+            costs: _,
             settled: _,
             queue: _,
-            found: _,
         } = self;
     }
 }
 
-/// What is known of the walks from a root before the search: the root alone is reached.
-fn start(alloc: Global, nodes: usize, root: usize) -> Result<Tree, AllocError>
+/// The costs before the search: the root alone is reached.
+fn start(alloc: Global, nodes: usize, root: usize) -> Result<Vec<Option<u32>>, AllocError>
     requires { root < nodes }
-    ensures { IfOk result (λ t. IsStart nodes root t) }
+    ensures { IfOk result (λ costs. IsStart nodes root costs.items) }
 {
     let mut costs = vec![in alloc; None; nodes]?;
     costs[root] = Some(0);
-    let spans = vec![in alloc; (0, 0); nodes]?;
-    Ok(Tree {
-        costs,
-        firsts: Vec::new(alloc),
-        spans,
-    })
+    Ok(costs)
 }
 
 impl Search {
     /// A search from a root, at its start.
     fn new(alloc: Global, nodes: usize, root: usize) -> Result<Search, AllocError>
         requires { root < nodes }
-        ensures tree { IfOk result (λ s. IsStart nodes root s.tree) }
+        ensures costs { IfOk result (λ s. IsStart nodes root s.costs.items) }
         ensures settled { IfOk result (λ s. s.settled.items ≡ replicate nodes false) }
-        ensures queue { IfOk result (λ s. IsQueue s.queue s.tree.costs.items s.settled.items) }
+        ensures queue { IfOk result (λ s. IsQueue s.queue s.costs.items s.settled.items) }
     {
         let mut queue = Queue::new(alloc);
         queue.push(0, root)?;
         let settled = vec![in alloc; false; nodes]?;
-        let tree = start(alloc, nodes, root)?;
+        let costs = start(alloc, nodes, root)?;
         Ok(Search {
-            tree,
+            costs,
             settled,
             queue,
-            found: Vec::new(alloc),
         })
     }
 
-    /// Settles all nodes that walks from the root lead to, the nearest first.
+    /// Settles all nodes to which walks from the root lead, the nearest first.
     fn run(&mut self, graph: &Graph, groups: &Groups, root: usize) -> Result<(), AllocError>
         requires root { root < graph.now.nodes }
         requires ends { All (λ e. (e.from < graph.now.nodes) × (e.to < graph.now.nodes)) graph.now.edges.items }
-        requires costs { All (λ e. (1 ≤ e.cost) × (e.cost * graph.now.nodes < 2 ^ 32)) graph.now.edges.items }
+        requires short { HasShortWalks graph.now }
         requires groups { AreGroups graph.now groups.now }
-        requires tree { IsStart graph.now.nodes root self.old.tree }
+        requires costs { IsStart graph.now.nodes root self.old.costs.items }
         requires settled { self.old.settled.items ≡ replicate graph.now.nodes false }
-        requires queue { IsQueue self.old.queue self.old.tree.costs.items self.old.settled.items }
-        ensures { IfOk result (λ u. IsTree graph.now root self.new.tree) }
+        requires queue { IsQueue self.old.queue self.old.costs.items self.old.settled.items }
+        ensures { IfOk result (λ u. AreCostsFrom graph.now root self.new.costs.items) }
     {
-        while let Some((node, cost)) = next(&mut self.queue, &self.tree.costs, &self.settled) {
-            let incoming = &groups.incoming[node];
-            find_hops(&mut self.found, incoming, root, node, cost, &self.tree)?;
-            record_span(
-                &mut self.tree.firsts,
-                &mut self.tree.spans,
-                node,
-                &self.found,
-            )?;
+        while let Some((node, cost)) = next(&mut self.queue, &self.costs, &self.settled) {
             self.settled[node] = true;
             let outgoing = &groups.outgoing[node];
-            relax(outgoing, node, cost, &mut self.tree.costs, &mut self.queue)?;
+            relax(outgoing, node, cost, &mut self.costs, &mut self.queue)?;
         }
         Ok(())
     }
 
     /// What the search found.
-    fn into_tree(self) -> Tree
-        ensures { result ≡ self.tree }
+    fn into_costs(self) -> Vec<Option<u32>>
+        ensures { result ≡ self.costs }
     {
         let Search {
-            tree,
+            costs,
             settled: _,
             queue: _,
-            found: _,
         } = self;
-        tree
+        costs
     }
 }
 
-/// The least walks from a root, by the groups of the graph's edges: the least cost to each node, and the first hops of all
-/// least walks, each once.
+/// The costs of the least walks from a root, by node, from the groups of the graph's edges; `None` where no walk leads.
 ///
-/// Costs are at least 1, and so small that no walk through all nodes reaches 2^32. No cost in the tree is more than that of
-/// so many edges of the greatest cost as there are nodes. It errs only where memory runs out.
-pub fn tree_by(
+/// To enter each node once by its dearest edge, and to follow one edge more, must cost less than 2^32, so that no sum wraps. No
+/// cost that is given is more than what entering each node once costs. It errs only where memory runs out.
+pub fn costs_by(
     alloc: Global,
     graph: &Graph,
     groups: &Groups,
     root: usize,
-) -> Result<Tree, AllocError>
+) -> Result<Vec<Option<u32>>, AllocError>
     requires root { root < graph.now.nodes }
     requires ends { All (λ e. (e.from < graph.now.nodes) × (e.to < graph.now.nodes)) graph.now.edges.items }
-    requires costs { All (λ e. (1 ≤ e.cost) × (e.cost * graph.now.nodes < 2 ^ 32)) graph.now.edges.items }
+    requires short { HasShortWalks graph.now }
     requires groups { AreGroups graph.now groups.now }
-    ensures nodes { IfOk result (λ t. vec_len t.costs ≡ graph.now.nodes) }
-    ensures cost { IfOk result (λ t. AreLeastCosts graph.now root t.costs.items) }
-    ensures spans { IfOk result (λ t. HasSpans graph.now.nodes t) }
-    ensures small { IfOk result (λ t. AreBounded t.costs.items graph.now.edges.items graph.now.nodes) }
-    ensures hops { IfOk result (λ t. AreFirstHops graph.now root t.firsts.items) }
-    ensures once { IfOk result (λ t. HasNoRepeats t.firsts.items) }
+    ensures nodes { IfOk result (λ costs. vec_len costs ≡ graph.now.nodes) }
+    ensures cost { IfOk result (λ costs. AreLeastCosts graph.now root costs.items) }
+    ensures small { IfOk result (λ costs. AreBounded costs.items graph.now) }
 {
     let mut search = Search::new(alloc, graph.nodes, root)?;
     search.run(graph, groups, root)?;
-    Ok(search.into_tree())
+    Ok(search.into_costs())
 }
 
-/// The least walks from a root: the least cost to each node, and the first hops of all least walks, each once.
-///
-/// Costs are at least 1, and so small that no walk through all nodes reaches 2^32. It errs only where memory runs out. Who
-/// asks for many roots of one graph makes its groups once and calls `tree_by`.
-pub fn tree(alloc: Global, graph: &Graph, root: usize) -> Result<Tree, AllocError>
-    requires root { root < graph.now.nodes }
-    requires ends { All (λ e. (e.from < graph.now.nodes) × (e.to < graph.now.nodes)) graph.now.edges.items }
-    requires costs { All (λ e. (1 ≤ e.cost) × (e.cost * graph.now.nodes < 2 ^ 32)) graph.now.edges.items }
-    ensures nodes { IfOk result (λ t. vec_len t.costs ≡ graph.now.nodes) }
-    ensures cost { IfOk result (λ t. AreLeastCosts graph.now root t.costs.items) }
-    ensures spans { IfOk result (λ t. HasSpans graph.now.nodes t) }
-    ensures small { IfOk result (λ t. AreBounded t.costs.items graph.now.edges.items graph.now.nodes) }
-    ensures hops { IfOk result (λ t. AreFirstHops graph.now root t.firsts.items) }
-    ensures once { IfOk result (λ t. HasNoRepeats t.firsts.items) }
-{
-    let groups = groups_of(alloc, graph)?;
-    tree_by(alloc, graph, &groups, root)
-}
+/// Where each of the first nodes costs so much to enter and the others cost nothing, entering each node once costs no more than
+/// the first ones do, however many others there are.
+pub fn first_nodes_cost()
+    ensures { FirstNodesCost }
+{}

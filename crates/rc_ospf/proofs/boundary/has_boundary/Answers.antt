@@ -1,5 +1,5 @@
 use Rattle.std.proofs.Common.{not, sym, ◌∙◌, ap}
-use Rattle.rc_ospf.proofs.ReachLaws.{empty_of}
+use Rattle.rc_ospf.proofs.ListLaws.{empty_of}
 use Rattle.rc_ospf.proofs.boundary.has_boundary.Goals as goal
 
 pub returns : goal.returns

@@ -1,12 +1,14 @@
-use Rattle.std.proofs.Common.{◌≡◌, ◌∙◌, ap, map, List, All}
+use Rattle.std.proofs.Common.{◌≡◌, ◌∙◌, sym, subst, map, All}
 use Rattle.std.proofs.lemmas.Result.{IfOk-weaker}
 use Rattle.rc_ospf.specs.BoundaryForms.{target_of, boundary_paths}
 use Rattle.rc_ospf.specs.BoundaryPaths.{IsNear}
 use Rattle.rc_ospf.specs.Boundaries.{boundary_routers}
 use Rattle.rc_ospf.specs.Members.{known}
-use Rattle.rc_ospf.specs.declared.boundary.Target.{Target}
+use Rattle.rc_ospf.specs.Shares.{AreMade}
+use Rattle.rc_ospf.specs.Wanted.{IsTarget}
 use Rattle.rc_ospf.specs.declared.member.StubAreas.TheVariants.{LeftOut}
 use Rattle.rc_ospf.proofs.ShareLaws.{all_given, all_of_kind}
+use Rattle.rc_ospf.proofs.WantedLaws.{boundaries_alike}
 use Rattle.rc_ospf.proofs.tables.boundaries.Goals as goal
 
 pub made_by-requires-clause-fits : goal.made_by-requires-clause-fits
@@ -20,4 +22,5 @@ returns-clause-value g c =
     let ms = c.args.members.now in
     let net = c.args.net.now in
     IfOk-weaker c.made_by.result _ (λ ps. ps ≡ map (boundary_paths (map (target_of net (map (known LeftOut) ms)) (boundary_routers net))) ms)
-    (λ ps made. all_given (boundary_paths c.as_slice.result.now) (All IsNear) ms ps made ∙ ap (λ (ts : List Target). map (boundary_paths ts) ms) (c.as_slice.ensures ∙ c.in_ok-targets.ensures)) c.made_by.ensures
+    (λ ps made. all_given (boundary_paths c.as_slice.result.now) (All IsNear) ms ps made ∙ boundaries_alike net ms (boundary_routers net) c.as_slice.result.now
+    (subst (AreMade (IsTarget net (map (known LeftOut) ms)) (boundary_routers net)) (sym c.as_slice.ensures) c.in_ok-targets.ensures)) c.made_by.ensures

@@ -1,12 +1,14 @@
-use Rattle.std.proofs.Common.{◌≡◌, ◌∙◌, ap, map, List, All}
+use Rattle.std.proofs.Common.{◌≡◌, ◌∙◌, sym, subst, map, All}
 use Rattle.std.proofs.lemmas.Result.{IfOk-weaker}
 use Rattle.rc_ospf.specs.Internal.{adverts_in, tables_asked}
 use Rattle.rc_ospf.specs.Members.{known, table_of}
-use Rattle.rc_ospf.specs.Routes.{IsShortRoute, internal_routes}
-use Rattle.rc_ospf.specs.declared.destination.Destination.{Destination}
+use Rattle.rc_ospf.specs.Routes.{IsShortRoute, internal_routes, offered_rows, rows_asked, with_default}
+use Rattle.rc_ospf.specs.Shares.{AreMade}
+use Rattle.rc_ospf.specs.Wanted.{IsDestination}
 use Rattle.rc_ospf.specs.declared.member.StubAreas.TheVariants.{Kept}
 use Rattle.rc_ospf.proofs.ShareLaws.{all_given, all_of_kind}
 use Rattle.rc_ospf.proofs.HoldingLaws.{asked_are}
+use Rattle.rc_ospf.proofs.WantedLaws.{tables_alike}
 use Rattle.rc_ospf.proofs.tables.tables.Goals as goal
 
 pub made_by-requires-clause-fits : goal.made_by-requires-clause-fits
@@ -21,4 +23,6 @@ returns-clause-value g c =
     let adverts = adverts_in c.args.net.now in
     IfOk-weaker c.made_by.result _ (λ ts. ts ≡ tables_asked c.args.asked (map (internal_routes (map (known Kept) ms) adverts) (map (known Kept) ms)))
     (λ ts made. all_given (table_of c.as_slice.result.now) (All IsShortRoute) ms ts made
-    ∙ ap (λ (ds : List Destination). map (table_of ds) ms) (c.as_slice.ensures ∙ c.in_ok-destinations.ensures) ∙ asked_are c.args.asked (map (known Kept) ms) adverts ms) c.made_by.ensures
+    ∙ tables_alike ms (rows_asked c.args.asked (with_default (offered_rows adverts))) c.as_slice.result.now
+    (subst (AreMade (IsDestination (map (known Kept) ms)) (rows_asked c.args.asked (with_default (offered_rows adverts)))) (sym c.as_slice.ensures) c.in_ok-destinations.ensures)
+    ∙ asked_are c.args.asked (map (known Kept) ms) adverts ms) c.made_by.ensures

@@ -3,4 +3,4 @@ use Rattle.rc_spf.specs.Steps.{IsGrouped}
 use Rattle.rc_spf.proofs.groups.grouped.Given as goal
 
 abbrev pub invariant-loop-edge : goal.invariant-loop-edge
-invariant-loop-edge l = IsGrouped l.groups.items (take l.edge-index l.edges) l.at_start l.nodes
+invariant-loop-edge l = IsGrouped l.groups.items (take l.edge-index l.edges) l.nodes

@@ -1,0 +1,23 @@
+pub mod Members
+mod GraphLaws
+mod AreaLaws
+mod HopLaws
+mod WholeLaws
+pub mod TowardsLaws
+mod HopsByLaws
+mod ColumnLaws
+mod SplitLaws
+mod PartLaws
+mod AdjacencyLaws
+mod ListingLaws
+mod PrefixLaws
+mod SplitFits
+mod HopOrderLaws
+mod CostLaws
+mod InwardLaws
+mod KeptLaws
+mod InsideLaws
+mod ToldLaws
+mod ReachLaws
+mod TableLaws
+mod SplitKept
