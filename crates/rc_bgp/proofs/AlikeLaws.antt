@@ -1,95 +1,170 @@
 -- Where a router reads alike, its best paths change by those of its senders alone.
-use Rattle.std.proofs.Common.{refl, ◌≡◌, ap, sym, ◌∙◌, subst, ℕ, ◌+◌, ◌<◌, length, get_or, drop, Bool, true, false, not, cond, ◌||◌, List, [], ◌∷◌, ◌++◌, Option, Some, None, option_and_then}
-use Rattle.std.specs.List.{AllByRecursion, cons_option, filter_map, flat_map, list_any}
+use Rattle.std.proofs.Common.{refl, ◌≡◌, ◌⊎◌, inl, inr, ap, sym, ◌∙◌, subst, ℕ, ◌+◌, ◌<◌, ◌==◌, length, get_or, drop, Bool, true, false, not, cond, ◌&&◌, ◌||◌, List, [], ◌∷◌, ◌++◌, Option, Some, None, IfSome, option_and_then, unwrap_or}
+use Rattle.std.specs.List.{AllByRecursion, cons_option, filter_map, flat_map, list_any, slice_get}
 use Rattle.std.specs.List.Sorted.{IsStrictlySortedBy}
-use Rattle.std.specs.Option.{option_map, option_or}
+use Rattle.std.specs.Option.{option_map, option_map_or, option_or}
 use Rattle.std.proofs.lemmas.Bool.{or_parts}
+use Rattle.rc_base.specs.Communities.{has_community}
+use Rattle.rc_base.specs.Lists.{in_order}
 use Rattle.rc_base.specs.Prefix.{Cidr, prefix_cmp, same_prefix, default_prefix}
 use Rattle.rc_base.proofs.OrderedLaws.{any-in_order, in_order-sorted, prefix_cmp_total, same_by_prefix_cmp}
-use Rattle.rc_bgp_decide.specs.Decision.{is_originated}
+use Rattle.rc_bgp_decide.specs.Decision.{is_internal, is_originated}
 use Rattle.rc_config.specs.declared.bgp.Neighbor.{Neighbor}
 use Rattle.rc_config.specs.declared.network.Network.{Network}
 use Rattle.rc_config.specs.declared.router_text.RouterText.{RouterText}
-use Rattle.rc_route.specs.Tables.{IsBestList, best_for, best_path_for}
+use Rattle.rc_route.specs.Tables.{IsBestList, best_for}
 use Rattle.rc_route.specs.declared.best.Best.{Best}
 use Rattle.rc_route.specs.declared.path.BgpPath.{BgpPath}
 use Rattle.rc_route.specs.declared.route.Route.{Route}
 use Rattle.rc_route.specs.declared.state.RouterState.{RouterState}
-use Rattle.rc_topology.proofs.ListLaws.{all_filter, any_append, filter_agree}
+use Rattle.rc_topology.proofs.ListLaws.{all_filter, any_append, filter_agree, found_has}
 use Rattle.rc_bgp.specs.Candidates.{advertised_best, advertised_default, best_at, best_among, best_with_further, best_paths, path_heard, own_at, prefixes_of, prefixes_seen, reachable, sender_prefixes}
-use Rattle.rc_bgp.specs.Changes.{AreChanges, AreUpdated, CoversChange, IsHeardAlike, ReadsAlike, changes_of, updated_paths, changed_at_senders}
+use Rattle.rc_bgp.specs.Changes.{AreChanges, AreChangesInside, AreUpdated, CoversChange, IsHeardAlike, IsToldAlike, NothingChanged, ReadsAlike, changes_of, changes_over, told_of, updated_paths, changed_at_senders}
 use Rattle.rc_bgp.specs.Maximum.{maximum_of}
 use Rattle.rc_config.specs.declared.bgp.MaximumPaths.{MaximumPaths}
 use Rattle.rc_bgp.specs.RouterStates.{paths_of, table_of}
+use Rattle.rc_bgp.specs.Telling.{AreListed, may_tell, offered}
 use Rattle.rc_bgp.specs.Updating.{updated}
 use Rattle.rc_bgp.specs.AllOriginated.{own_paths}
-use Rattle.rc_bgp_session.specs.Passing.{as_received, as_sent, default_path, export, exported, import, imported, is_withheld, mapped_path, next_hop_over, originated_default, passes_list, weight_of, with_med}
+use Rattle.rc_bgp_session.specs.Passing.{as_received, as_sent, default_path, export, exported, import, imported, is_withheld, mapped_path, next_hop_over, no_advertise, no_export, no_export_subconfed, originated_default, passes_list, weight_of, with_med}
 use Rattle.rc_bgp.specs.Reaching.{metric_to}
 use Rattle.rc_bgp.specs.Sessions.{is_up, sessions_of, up_sessions}
 use Rattle.rc_bgp_session.specs.declared.session.Session.{Session}
 use Rattle.rc_bgp.proofs.BestLaws.{among_has, best_in_order}
 use Rattle.rc_bgp.proofs.ChangeLaws.{covered, none_best_for, none_named}
-use Rattle.rc_bgp.proofs.ListLaws.{first_left}
+use Rattle.rc_bgp.proofs.ListLaws.{all_of_filter, first_left}
 use Rattle.rc_bgp.proofs.ListedLaws.{at_made, at_updated, same_lists, up_updated}
-use Rattle.rc_bgp.proofs.PartLaws.{Has, ask_has, either_has, map_has, mapped_has, none_has, or_has, some_has, then_has}
+use Rattle.rc_bgp.proofs.PartLaws.{Each, ask_each, either_each, map_each, mapped_each, none_each, or_each, some_each, then_each}
+use Rattle.rc_bgp.proofs.WithheldLaws.{none_exported}
 
 abbrev best_prefix : Best → Cidr
 best_prefix b = b.path.prefix
 
--- ---- what comes over a session to another AS has the sender's address as its next hop
+-- ---- what comes over a session has the sender's address as its next hop, or over an internal one that of a path which the sender heard outside
 
-abbrev hop_of : BgpPath → ℕ
-hop_of x = x.next_hop
+module _ (s : Session) (t u : List Route) (metric : metric_to t s.sender_address ≡ metric_to u s.sender_address) where
+  -- the next hop of a path is known alike in both tables
+  abbrev IsKnownAlike : BgpPath → Type 0
+  IsKnownAlike x = metric_to t x.next_hop ≡ metric_to u x.next_hop
 
-sender_hop : (s : Session) → s.is_external ≡ true → (n : Neighbor) (x : BgpPath) → next_hop_over s n x ≡ s.sender_address
-sender_hop s is n x = ap (λ b. cond (b || n.settings.next_hop_self || is_originated x.source) s.sender_address x.next_hop) is
+  -- that of a path which its sender tells with the next hop that it has
+  abbrev pub IsPassedAlike : BgpPath → Type 0
+  IsPassedAlike x = s.is_external ≡ false → is_internal x.source ≡ false → is_originated x.source ≡ false → IsKnownAlike x
 
-exported_hop : (s : Session) → s.is_external ≡ true → (x : BgpPath) (file : RouterText) (asn : ℕ) (n : Neighbor) → Has hop_of s.sender_address (exported file asn n s x)
-exported_hop s is x file asn n =
-    either_has hop_of s.sender_address (is_withheld s x) None _ (none_has hop_of s.sender_address)
-    (either_has hop_of s.sender_address (not (passes_list file n.settings.list_out x.prefix)) None _ (none_has hop_of s.sender_address) (sent (mapped_path file n.settings.map_out (with_med s x))))
+  hop_alike : (n : Neighbor) (x : BgpPath) → (s.is_external ≡ false → is_originated x.source ≡ false → IsKnownAlike x) → metric_to t (next_hop_over s n x) ≡ metric_to u (next_hop_over s n x)
+  hop_alike n x known = by s.is_external n.settings.next_hop_self (is_originated x.source) refl refl
+    where
+      by : (e h o : Bool) → s.is_external ≡ e → is_originated x.source ≡ o → metric_to t (cond (e || h || o) s.sender_address x.next_hop) ≡ metric_to u (cond (e || h || o) s.sender_address x.next_hop)
+      by true h o is own = metric
+      by false true o is own = metric
+      by false false true is own = metric
+      by false false false is own = known is own
+
+  abbrev SameWay : BgpPath → BgpPath → Type 0
+  SameWay x y = (y.source ≡ x.source) × (y.next_hop ≡ x.next_hop)
+
+  kept_in : (i e a b : Bool) → (i && not e) || a || b ≡ false → e ≡ false → i ≡ false
+  kept_in true true a b is inside = absurd (let clash : true ≡ false = inside in cc)
+  kept_in true false a b is inside = absurd (let clash : true ≡ false = is in cc)
+  kept_in false e a b is inside = refl
+
+  exported_alike : (x : BgpPath) → IsPassedAlike x → (file : RouterText) (asn : ℕ) (n : Neighbor) → Each IsKnownAlike (exported file asn n s x)
+  exported_alike x known file asn n = by (is_withheld s x) refl
+    where
+      sent : (y : BgpPath) → is_internal x.source ≡ false ⊎ (s.is_external ≡ true) → SameWay x y → IsKnownAlike (as_sent asn s n y)
+      sent y outside is = hop_alike n y (λ inside other. ap (metric_to t) is.1 ∙ known inside (told outside inside) (ap is_originated (sym is.0) ∙ other) ∙ sym (ap (metric_to u) is.1))
+        where
+          told : is_internal x.source ≡ false ⊎ (s.is_external ≡ true) → s.is_external ≡ false → is_internal x.source ≡ false
+          told (inl not_inside) inside = not_inside
+          told (inr outer) inside = absurd (let clash : true ≡ false = sym outer ∙ inside in cc)
+
+      by : (b : Bool) → is_withheld s x ≡ b → Each IsKnownAlike (cond b None (cond (not (passes_list file n.settings.list_out x.prefix)) None (option_map (as_sent asn s n) (mapped_path file n.settings.map_out (with_med s x)))))
+      by true is = none_each IsKnownAlike
+      by false is =
+          either_each IsKnownAlike (not (passes_list file n.settings.list_out x.prefix)) None _ (none_each IsKnownAlike)
+          (mapped_each IsKnownAlike (SameWay x) (as_sent asn s n) (λ y same. sent y (outside s.is_external refl) same) (mapped_path file n.settings.map_out (with_med s x)) (map_each (SameWay x) file n.settings.map_out (with_med s x) (λ a. (refl, refl))))
+        where
+          outside : (e : Bool) → s.is_external ≡ e → is_internal x.source ≡ false ⊎ (s.is_external ≡ true)
+          outside true e = inr e
+          outside false e =
+              inl (kept_in (is_internal x.source) s.is_external (has_community x.communities no_advertise) (s.is_external && (has_community x.communities no_export || has_community x.communities no_export_subconfed)) is e)
+
+  imported_alike : (x : BgpPath) → IsKnownAlike x → (file : RouterText) (asn : ℕ) (n : Neighbor) → Each IsKnownAlike (imported file asn n s x)
+  imported_alike x is file asn n =
+      either_each IsKnownAlike (list_any (λ a. a == asn) x.as_path) None _ (none_each IsKnownAlike)
+      (either_each IsKnownAlike (not (passes_list file n.settings.list_in x.prefix)) None _ (none_each IsKnownAlike)
+      (mapped_each IsKnownAlike IsKnownAlike (as_received s) (λ y same. same) (mapped_path file n.settings.map_in (record x { weight = weight_of n })) (map_each IsKnownAlike file n.settings.map_in (record x { weight = weight_of n }) (λ a. is))))
+
+  module _ (net : Network) where
+    -- what goes over the session of a best path of the sender
+    abbrev pub sent : Option Best → Option BgpPath
+    sent o = option_and_then (export net s) (option_map (λ (b : Best). b.path) o)
+
+    abbrev offered_of : Cidr → Option BgpPath → Option BgpPath
+    offered_of p o = cond (same_prefix p default_prefix) (option_or (originated_default net s) o) o
+
+    abbrev pub ArePassedAlike : Option Best → Type 0
+    ArePassedAlike o = (b : Best) → o ≡ Some b → IsPassedAlike b.path
+
+    sent_alike : (o : Option Best) → ArePassedAlike o → Each IsKnownAlike (sent o)
+    sent_alike None known = none_each IsKnownAlike
+    sent_alike (Some b) known = ask_each IsKnownAlike net s.sender s.receiver_address (λ file asn n. exported file asn n s b.path) (exported_alike b.path (known b refl))
+
+    default_alike : Each IsKnownAlike (originated_default net s)
+    default_alike = ask_each IsKnownAlike net s.sender s.receiver_address (λ file asn n. cond n.settings.default_originate (Some (default_path asn s)) None)
+        (λ file asn n. either_each IsKnownAlike n.settings.default_originate (Some (default_path asn s)) None (some_each IsKnownAlike (default_path asn s) metric) (none_each IsKnownAlike))
+
+    taken_alike : (p : Cidr) (o : Option Best) → ArePassedAlike o → Each IsKnownAlike (option_and_then (import net s) (offered_of p (sent o)))
+    taken_alike p o known =
+        then_each IsKnownAlike IsKnownAlike (import net s) (λ x is. ask_each IsKnownAlike net s.receiver s.sender_address (λ file asn n. imported file asn n s x) (imported_alike x is)) (offered_of p (sent o))
+        (either_each IsKnownAlike (same_prefix p default_prefix) _ _ (or_each IsKnownAlike (originated_default net s) (sent o) default_alike (sent_alike o known)) (sent_alike o known))
+
+    -- ---- so the same is heard where the sender says the same and its next hops are known alike
+
+    reached_alike : (o : Option BgpPath) → Each IsKnownAlike o → option_and_then (reachable t) o ≡ option_and_then (reachable u) o
+    reached_alike None known = refl
+    reached_alike (Some x) known = ap (option_map (λ metric. record x { igp_metric = metric })) (known x refl)
+
+    pub heard_alike : (old now : List RouterState) (p : Cidr) → ArePassedAlike (best_for (paths_of now s.sender) p) → sent (best_for (paths_of old s.sender) p) ≡ sent (best_for (paths_of now s.sender) p)
+        → path_heard net old t s p ≡ path_heard net now u s p
+    heard_alike old now p known same =
+        ap (λ o. option_and_then (reachable t) (option_and_then (import net s) (offered_of p o))) same
+        ∙ reached_alike (option_and_then (import net s) (offered_of p (sent (best_for (paths_of now s.sender) p)))) (taken_alike p (best_for (paths_of now s.sender) p) known)
+
+    -- over an internal session goes what internal peers may be told
+    told_sent : s.is_external ≡ false → (o : Option Best) → sent o ≡ sent (told_of o)
+    told_sent inside None = refl
+    told_sent inside (Some b) = by (is_internal b.path.source) refl
+      where
+        by : (c : Bool) → is_internal b.path.source ≡ c → export net s b.path ≡ sent (cond c None (Some b))
+        by true is = none_exported net s b.path (λ i. inside i || not (is i))
+        by false is = refl
+
+    pub told_alike_sent : s.is_external ≡ false → (o q : Option Best) → told_of o ≡ told_of q → sent o ≡ sent q
+    told_alike_sent inside o q same = told_sent inside o ∙ ap sent same ∙ sym (told_sent inside q)
+
+-- what may be told is told alike, so what is told for a prefix is
+passed_alike : (s : Session) (t u : List Route) (metric : metric_to t s.sender_address ≡ metric_to u s.sender_address) (net : Network) (paths : List Best) (p : Cidr)
+    → (s.is_external ≡ false → AllByRecursion (IsToldAlike t u) (may_tell paths)) → ArePassedAlike s t u metric net (best_for paths p)
+passed_alike s t u metric net paths p told b here inside not_internal other =
+    found_has (λ (x : Best). not (is_internal x.path.source) ≡ true → IsToldAlike t u x) (λ (x : Best). same_prefix p x.path.prefix) paths b
+    (all_of_filter (IsToldAlike t u) (λ (x : Best). not (is_internal x.path.source)) paths (told inside)) here (ap not not_internal) other
+
+-- what is listed of the sender is all that it may tell
+pub told_alike : (t u : List Route) (all : List (Option (List Best))) (now : List RouterState) (s : Session) (paths : List Best) → AreListed all now → paths ≡ offered all now s → s.is_external ≡ false
+    → AllByRecursion (IsToldAlike t u) paths → AllByRecursion (IsToldAlike t u) (may_tell (paths_of now s.sender))
+told_alike t u all now s paths listed is inside alike =
+    at (slice_get all s.sender) (listed.each s.sender)
+    (subst (AllByRecursion (IsToldAlike t u)) (is ∙ ap (λ b. cond b (paths_of now s.sender) (option_map_or (λ l. unwrap_or l (paths_of now s.sender)) (slice_get all s.sender) (paths_of now s.sender))) inside) alike)
   where
-    sent : (o : Option BgpPath) → Has hop_of s.sender_address (option_map (as_sent asn s n) o)
-    sent None = none_has hop_of s.sender_address
-    sent (Some y) = some_has hop_of s.sender_address (as_sent asn s n y) (sender_hop s is n y)
+    whole : AllByRecursion (IsToldAlike t u) (paths_of now s.sender) → AllByRecursion (IsToldAlike t u) (may_tell (paths_of now s.sender))
+    whole = all_filter (IsToldAlike t u) (λ (b : Best). not (is_internal b.path.source)) (paths_of now s.sender)
 
-imported_hop : (a : ℕ) (s : Session) (x : BgpPath) → x.next_hop ≡ a → (file : RouterText) (asn : ℕ) (n : Neighbor) → Has hop_of a (imported file asn n s x)
-imported_hop a s x is file asn n =
-    either_has hop_of a _ None _ (none_has hop_of a)
-    (either_has hop_of a (not (passes_list file n.settings.list_in x.prefix)) None _ (none_has hop_of a)
-    (mapped_has hop_of a (as_received s) (λ y. refl) (mapped_path file n.settings.map_in (record x { weight = weight_of n })) (map_has hop_of (λ y b. refl) a file n.settings.map_in (record x { weight = weight_of n }) is)))
-
-module _ (net : Network) (s : Session) (external : s.is_external ≡ true) where
-  abbrev offered : Cidr → Option BgpPath → Option BgpPath
-  offered p o = cond (same_prefix p default_prefix) (option_or (originated_default net s) (option_and_then (export net s) o)) (option_and_then (export net s) o)
-
-  best_hop : (o : Option BgpPath) → Has hop_of s.sender_address (option_and_then (export net s) o)
-  best_hop None = none_has hop_of s.sender_address
-  best_hop (Some x) = ask_has hop_of s.sender_address net s.sender s.receiver_address (λ file asn n. exported file asn n s x) (exported_hop s external x)
-
-  default_hop : Has hop_of s.sender_address (originated_default net s)
-  default_hop = ask_has hop_of s.sender_address net s.sender s.receiver_address (λ file asn n. cond n.settings.default_originate (Some (default_path asn s)) None)
-      (λ file asn n. either_has hop_of s.sender_address n.settings.default_originate (Some (default_path asn s)) None (some_has hop_of s.sender_address (default_path asn s) refl) (none_has hop_of s.sender_address))
-
-  offered_hop : (p : Cidr) (o : Option BgpPath) → Has hop_of s.sender_address (offered p o)
-  offered_hop p o = either_has hop_of s.sender_address (same_prefix p default_prefix) _ _ (or_has hop_of s.sender_address (originated_default net s) _ default_hop (best_hop o)) (best_hop o)
-
-  taken_hop : (p : Cidr) (o : Option BgpPath) → Has hop_of s.sender_address (option_and_then (import net s) (offered p o))
-  taken_hop p o = then_has hop_of s.sender_address (import net s) (λ x is. ask_has hop_of s.sender_address net s.receiver s.sender_address (λ file asn n. imported file asn n s x) (imported_hop s.sender_address s x is)) (offered p o) (offered_hop p o)
-
-  -- ---- so the same is heard where the sender says the same and its address is known alike
-
-  reached_alike : (t u : List Route) → metric_to t s.sender_address ≡ metric_to u s.sender_address → (o : Option BgpPath) → Has hop_of s.sender_address o → option_and_then (reachable t) o ≡ option_and_then (reachable u) o
-  reached_alike t u same None has = refl
-  reached_alike t u same (Some x) has =
-      let is = has x refl in
-      ap (option_map (λ metric. record x { igp_metric = metric })) (ap (metric_to t) is ∙ same ∙ sym (ap (metric_to u) is))
-
-  heard_alike : (old now : List RouterState) (t u : List Route) (p : Cidr) → metric_to t s.sender_address ≡ metric_to u s.sender_address → best_path_for (paths_of old s.sender) p ≡ best_path_for (paths_of now s.sender) p
-      → path_heard net old t s p ≡ path_heard net now u s p
-  heard_alike old now t u p metric same =
-      ap (λ o. option_and_then (reachable t) (option_and_then (import net s) (offered p o))) same
-      ∙ reached_alike t u metric (option_and_then (import net s) (offered p (best_path_for (paths_of now s.sender) p))) (taken_hop p (best_path_for (paths_of now s.sender) p))
+    at : (o : Option (Option (List Best))) → IfSome o (λ l. IfSome l (λ xs. xs ≡ may_tell (paths_of now s.sender)))
+        → AllByRecursion (IsToldAlike t u) (option_map_or (λ l. unwrap_or l (paths_of now s.sender)) o (paths_of now s.sender)) → AllByRecursion (IsToldAlike t u) (may_tell (paths_of now s.sender))
+    at None is alike = whole alike
+    at (Some None) is alike = whole alike
+    at (Some (Some xs)) is alike = subst (AllByRecursion (IsToldAlike t u)) is alike
 
 -- ---- session by session
 
@@ -128,29 +203,29 @@ module _ (net : Network) (old : List RouterState) where
       let others = or_parts (list_any (same_prefix p) (flat_map prefixes_of own)) (list_any (same_prefix p) (flat_map (sender_prefixes old) ss)) (sym (any_append (same_prefix p) (flat_map prefixes_of own) (flat_map (sender_prefixes old) ss)) ∙ parts.1) in
       ap (best_with_further most) (λ i. none_own own p others.0 i ++ none_heard table ss p parts.0 others.1 i)
 
-module _ (net : Network) (sessions : List (List Session)) (r : ℕ) (changes : List (List Cidr)) (now : List RouterState) where
+module _ (net : Network) (sessions : List (List Session)) (r : ℕ) (changes inside : List (List Cidr)) (now : List RouterState) where
   keeps : (p : Cidr) (b : Best) → best_at net sessions now r p ≡ Some b → b.path.prefix ≡ p
   keeps p = among_has net now p (maximum_of net r) (table_of now r) (own_paths net (table_of now r) r) (up_sessions sessions now r)
 
-  ordered : IsStrictlySortedBy prefix_cmp (changed_at_senders changes (up_sessions sessions now r))
-  ordered = in_order-sorted prefix_cmp prefix_cmp_total (flat_map (λ (s : Session). changes_of changes s.sender) (up_sessions sessions now r))
+  ordered : IsStrictlySortedBy prefix_cmp (changed_at_senders changes inside (up_sessions sessions now r))
+  ordered = in_order-sorted prefix_cmp prefix_cmp_total (flat_map (changes_over changes inside) (up_sessions sessions now r))
 
   -- what is updated, from its parts
   pub of_parts : (most : MaximumPaths) (table : List Route) (own : List (List BgpPath)) (up : List Session) (known paths : List Best) (ps : List Cidr) → most ≡ maximum_of net r → table ≡ table_of now r → own ≡ own_paths net (table_of now r) r → up ≡ up_sessions sessions now r
-      → known ≡ paths_of now r → ps ≡ changed_at_senders changes (up_sessions sessions now r) → paths ≡ updated best_prefix (best_among net now most table own up) known ps → paths ≡ updated_paths net sessions changes now r
+      → known ≡ paths_of now r → ps ≡ changed_at_senders changes inside (up_sessions sessions now r) → paths ≡ updated best_prefix (best_among net now most table own up) known ps → paths ≡ updated_paths net sessions changes inside now r
   of_parts most table own up known paths ps m a b c d e is = is ∙ (λ i. updated best_prefix (best_among net now (m i) (a i) (b i) (c i)) (d i) (e i))
 
   -- what is updated is in order; at the prefixes that changed at senders it says what is best now, and at others what is known
-  pub updated_in_order : IsBestList (paths_of now r) → (paths : List Best) → paths ≡ updated_paths net sessions changes now r → IsBestList paths
-  updated_in_order up paths is = subst IsBestList (sym is) (up_updated best_prefix (best_at net sessions now r) keeps (changed_at_senders changes (up_sessions sessions now r)) ordered (paths_of now r) up)
+  pub updated_in_order : IsBestList (paths_of now r) → (paths : List Best) → paths ≡ updated_paths net sessions changes inside now r → IsBestList paths
+  updated_in_order up paths is = subst IsBestList (sym is) (up_updated best_prefix (best_at net sessions now r) keeps (changed_at_senders changes inside (up_sessions sessions now r)) ordered (paths_of now r) up)
 
-  says_updated : (paths : List Best) → paths ≡ updated_paths net sessions changes now r → (p : Cidr)
-      → best_for paths p ≡ cond (list_any (same_prefix p) (changed_at_senders changes (up_sessions sessions now r))) (best_at net sessions now r p) (best_for (paths_of now r) p)
-  says_updated paths is p = ap (λ l. best_for l p) is ∙ at_updated best_prefix (best_at net sessions now r) keeps (changed_at_senders changes (up_sessions sessions now r)) ordered (paths_of now r) p
+  says_updated : (paths : List Best) → paths ≡ updated_paths net sessions changes inside now r → (p : Cidr)
+      → best_for paths p ≡ cond (list_any (same_prefix p) (changed_at_senders changes inside (up_sessions sessions now r))) (best_at net sessions now r p) (best_for (paths_of now r) p)
+  says_updated paths is p = ap (λ l. best_for l p) is ∙ at_updated best_prefix (best_at net sessions now r) keeps (changed_at_senders changes inside (up_sessions sessions now r)) ordered (paths_of now r) p
 
-  pub updated_covered : (paths : List Best) (changed : List Cidr) → AreUpdated net sessions changes now r paths changed → CoversChange changed (paths_of now r) paths
+  pub updated_covered : (paths : List Best) (changed : List Cidr) → AreUpdated net sessions changes inside now r paths changed → CoversChange changed (paths_of now r) paths
   updated_covered paths changed updated =
-      covered (changed_at_senders changes (up_sessions sessions now r)) changed (paths_of now r) paths
+      covered (changed_at_senders changes inside (up_sessions sessions now r)) changed (paths_of now r) paths
       (λ p none. sym (says_updated paths updated.value p ∙ ap (λ b. cond b (best_at net sessions now r p) (best_for (paths_of now r) p)) none)) updated.told
 
 module _ (net : Network) (sessions : List (List Session)) (r : ℕ) where
@@ -168,7 +243,7 @@ module _ (net : Network) (sessions : List (List Session)) (r : ℕ) where
   unfolding best_paths
   best_up old = best_in_order net old (maximum_of net r) (table_of old r) (own_paths net (table_of old r) r) (up_sessions sessions old r) (best_paths net sessions old r) refl
 
-  module _ (old now : List RouterState) (alike : ReadsAlike net sessions old now r) (changes : List (List Cidr)) (told : AreChanges changes old now) where
+  module _ (old now : List RouterState) (alike : ReadsAlike net sessions old now r) (changes inside : List (List Cidr)) (told : AreChanges changes old now) (told_inside : AreChangesInside inside old now) where
     ups_alike : (ss : List Session) → AllByRecursion (IsHeardAlike r old now) ss → AllByRecursion (λ s. is_up old s ≡ is_up now s) ss
     ups_alike [] all = tt
     ups_alike (s ∷ ss) all = (all.0.up, ups_alike ss all.1)
@@ -176,29 +251,52 @@ module _ (net : Network) (sessions : List (List Session)) (r : ℕ) where
     same_up : up_sessions sessions old r ≡ up_sessions sessions now r
     same_up = filter_agree (is_up old) (is_up now) (sessions_of sessions r) (ups_alike (sessions_of sessions r) alike.heard)
 
-    all_heard : (p : Cidr) (ss : List Session) → AllByRecursion (IsHeardAlike r old now) ss → list_any (same_prefix p) (flat_map (λ (s : Session). changes_of changes s.sender) ss) ≡ false
+    -- over a session goes the same for a prefix at which nothing changed over it
+    goes_alike : (p : Cidr) (s : Session) (heard : IsHeardAlike r old now s) → list_any (same_prefix p) (changes_over changes inside s) ≡ false
+        → sent s (table_of old r) (table_of now r) heard.metric net (best_for (paths_of old s.sender) p) ≡ sent s (table_of old r) (table_of now r) heard.metric net (best_for (paths_of now s.sender) p)
+    goes_alike p s heard none = by s.is_external refl none
+      where
+        by : (e : Bool) → s.is_external ≡ e → list_any (same_prefix p) (cond e (changes_of changes s.sender) (changes_of inside s.sender)) ≡ false
+            → sent s (table_of old r) (table_of now r) heard.metric net (best_for (paths_of old s.sender) p) ≡ sent s (table_of old r) (table_of now r) heard.metric net (best_for (paths_of now s.sender) p)
+        by true e none = ap (sent s (table_of old r) (table_of now r) heard.metric net) ((told.each s.sender).elsewhere p none)
+        by false e none = told_alike_sent s (table_of old r) (table_of now r) heard.metric net e (best_for (paths_of old s.sender) p) (best_for (paths_of now s.sender) p) ((told_inside.each s.sender).elsewhere p none)
+
+    all_heard : (p : Cidr) (ss : List Session) → AllByRecursion (IsHeardAlike r old now) ss → list_any (same_prefix p) (flat_map (changes_over changes inside) ss) ≡ false
         → filter_map (λ s. path_heard net old (table_of old r) s p) ss ≡ filter_map (λ s. path_heard net now (table_of now r) s p) ss
     all_heard p [] all none = refl
     all_heard p (s ∷ ss) all none =
-        let parts = or_parts (list_any (same_prefix p) (changes_of changes s.sender)) (list_any (same_prefix p) (flat_map (λ (t : Session). changes_of changes t.sender) ss))
-        (sym (any_append (same_prefix p) (changes_of changes s.sender) (flat_map (λ (t : Session). changes_of changes t.sender) ss)) ∙ none) in
-        let here = heard_alike net s all.0.external old now (table_of old r) (table_of now r) p all.0.metric (ap (option_map (λ (b : Best). b.path)) ((told.each s.sender).elsewhere p parts.0)) in
+        let parts = or_parts (list_any (same_prefix p) (changes_over changes inside s)) (list_any (same_prefix p) (flat_map (changes_over changes inside) ss))
+        (sym (any_append (same_prefix p) (changes_over changes inside s) (flat_map (changes_over changes inside) ss)) ∙ none) in
+        let here = heard_alike s (table_of old r) (table_of now r) all.0.metric net old now p (passed_alike s (table_of old r) (table_of now r) all.0.metric net (paths_of now s.sender) p all.0.next_hops) (goes_alike p s all.0 parts.0) in
         λ i. cons_option (here i) (all_heard p ss all.1 parts.1 i)
 
     -- what didn't change at a sender of a session that is up has the best path that it had
-    stays_best : (p : Cidr) → list_any (same_prefix p) (changed_at_senders changes (up_sessions sessions now r)) ≡ false → best_at net sessions old r p ≡ best_at net sessions now r p
+    stays_best : (p : Cidr) → list_any (same_prefix p) (changed_at_senders changes inside (up_sessions sessions now r)) ≡ false → best_at net sessions old r p ≡ best_at net sessions now r p
     stays_best p none =
-        let unsuspected = sym (any-in_order prefix_cmp same_by_prefix_cmp (same_prefix p) (flat_map (λ (s : Session). changes_of changes s.sender) (up_sessions sessions now r))) ∙ none in
+        let unsuspected = sym (any-in_order prefix_cmp same_by_prefix_cmp (same_prefix p) (flat_map (changes_over changes inside) (up_sessions sessions now r))) ∙ none in
         ap (λ ss. best_with_further (maximum_of net r) (own_at (own_paths net (table_of old r) r) p ++ filter_map (λ s. path_heard net old (table_of old r) s p) ss)) same_up
         ∙ (λ i. best_with_further (maximum_of net r) (own_at (alike.own i) p ++ all_heard p (up_sessions sessions now r) (all_filter (IsHeardAlike r old now) (is_up now) (sessions_of sessions r) alike.heard) unsuspected i))
 
-    pub updated_is_best : (paths : List Best) (changed : List Cidr) → paths_of now r ≡ best_paths net sessions old r → AreUpdated net sessions changes now r paths changed → paths ≡ best_paths net sessions now r
+    pub updated_is_best : (paths : List Best) (changed : List Cidr) → paths_of now r ≡ best_paths net sessions old r → AreUpdated net sessions changes inside now r paths changed → paths ≡ best_paths net sessions now r
     updated_is_best paths changed is updated =
-        same_lists best_prefix paths (best_paths net sessions now r) (updated_in_order net sessions r changes now (subst IsBestList (sym is) (best_up old)) paths updated.value) (best_up now)
-        (λ p. says_updated net sessions r changes now paths updated.value p ∙ by p (list_any (same_prefix p) (changed_at_senders changes (up_sessions sessions now r))) refl ∙ sym (says_best now p))
+        same_lists best_prefix paths (best_paths net sessions now r) (updated_in_order net sessions r changes inside now (subst IsBestList (sym is) (best_up old)) paths updated.value) (best_up now)
+        (λ p. says_updated net sessions r changes inside now paths updated.value p ∙ by p (list_any (same_prefix p) (changed_at_senders changes inside (up_sessions sessions now r))) refl ∙ sym (says_best now p))
       where
-        by : (p : Cidr) (b : Bool) → list_any (same_prefix p) (changed_at_senders changes (up_sessions sessions now r)) ≡ b
-            → cond (list_any (same_prefix p) (changed_at_senders changes (up_sessions sessions now r))) (best_at net sessions now r p) (best_for (paths_of now r) p) ≡ best_at net sessions now r p
+        by : (p : Cidr) (b : Bool) → list_any (same_prefix p) (changed_at_senders changes inside (up_sessions sessions now r)) ≡ b
+            → cond (list_any (same_prefix p) (changed_at_senders changes inside (up_sessions sessions now r))) (best_at net sessions now r p) (best_for (paths_of now r) p) ≡ best_at net sessions now r p
         by p true e = ap (λ b. cond b (best_at net sessions now r p) (best_for (paths_of now r) p)) e
         by p false e =
             ap (λ b. cond b (best_at net sessions now r p) (best_for (paths_of now r) p)) e ∙ ap (λ paths. best_for paths p) is ∙ says_best old p ∙ stays_best p e
+
+    none_over : (ss : List Session) → NothingChanged changes inside ss → flat_map (changes_over changes inside) ss ≡ []
+    none_over [] none = refl
+    none_over (s ∷ ss) none = (λ i. none.0 i ++ none_over ss none.1 i)
+
+    -- where nothing changed over any session all best paths stay
+    pub all_stay : NothingChanged changes inside (sessions_of sessions r) → best_paths net sessions old r ≡ best_paths net sessions now r
+    all_stay none =
+        same_lists best_prefix (best_paths net sessions old r) (best_paths net sessions now r) (best_up old) (best_up now)
+        (λ p. says_best old p ∙ stays_best p (ap (λ ps. list_any (same_prefix p) (in_order prefix_cmp ps)) (none_over (up_sessions sessions now r) up_none)) ∙ sym (says_best now p))
+      where
+        up_none : NothingChanged changes inside (up_sessions sessions now r)
+        up_none = all_filter (λ (s : Session). changes_over changes inside s ≡ []) (is_up now) (sessions_of sessions r) none

@@ -8,7 +8,6 @@ use Rattle.std.specs.declared.cmp.Ordering.TheVariants.{Less}
 use Rattle.std.proofs.lemmas.Bool.{or_parts}
 use Rattle.std.proofs.lemmas.List.Elements.{filter-append, recursion_from_All}
 use Rattle.std.proofs.lemmas.List.Sums.{fold-append}
-use Rattle.rc_base.specs.Communities.{has_community}
 use Rattle.rc_base.specs.Groups.{value_at, value_of}
 use Rattle.rc_base.specs.Lists.{in_order}
 use Rattle.rc_base.specs.Prefix.{Cidr, prefix_cmp, same_prefix, default_prefix}
@@ -16,14 +15,8 @@ use Rattle.rc_base.proofs.GroupLaws.{grouped_rows, same_itself}
 use Rattle.rc_base.proofs.OrderedLaws.{any-in_order, in_order-sorted, prefix_cmp_total, same_by_prefix_cmp}
 use Rattle.rc_bgp_decide.specs.Decision.{is_internal}
 use Rattle.rc_topology.proofs.ListLaws.{found_passes}
-use Rattle.rc_config.specs.Bgp.{address_of}
-use Rattle.rc_config.specs.ByNumber.{with_number}
-use Rattle.rc_config.specs.Members.{router_at}
-use Rattle.rc_config.specs.declared.bgp.BgpProcess.{BgpProcess}
 use Rattle.rc_config.specs.declared.bgp.MaximumPaths.{MaximumPaths}
-use Rattle.rc_config.specs.declared.bgp.Neighbor.{Neighbor}
 use Rattle.rc_config.specs.declared.network.Network.{Network}
-use Rattle.rc_config.specs.declared.router_text.RouterText.{RouterText}
 use Rattle.rc_route.specs.Tables.{IsBestList, IsPathList, IsRouterState, best_for}
 use Rattle.rc_route.specs.declared.best.Best.{Best}
 use Rattle.rc_route.specs.declared.path.BgpPath.{BgpPath}
@@ -32,7 +25,7 @@ use Rattle.rc_route.specs.declared.state.RouterState.{RouterState}
 use Rattle.rc_bgp.specs.Candidates.{advertised_best, advertised_default, all_best, best_among, best_with_further, candidates_at, own_at, path_heard, prefixes_of, prefixes_seen, reachable, sender_prefixes}
 use Rattle.rc_bgp.specs.Gathering.{gathered, heard_of, heard_over, may_go, prefix_of, told_of, with_path, with_paths}
 use Rattle.rc_bgp.specs.RouterStates.{path_at, paths_of}
-use Rattle.rc_bgp_session.specs.Passing.{as_sent, ask, export, exported, import, imported, is_withheld, mapped_path, no_advertise, no_export, no_export_subconfed, passes_list, with_med}
+use Rattle.rc_bgp_session.specs.Passing.{export, exported, import, imported}
 use Rattle.rc_bgp_session.specs.declared.session.Session.{Session}
 use Rattle.rc_bgp.proofs.AlikeLaws.{none_best}
 use Rattle.rc_bgp.proofs.BestLaws.{among_has, exported_has, heard_has, imported_has, reachable_has}
@@ -40,6 +33,7 @@ use Rattle.rc_bgp.proofs.KnownLaws.{paths_in_order}
 use Rattle.rc_bgp.proofs.ListLaws.{first_left, in_front}
 use Rattle.rc_bgp.proofs.ListedLaws.{at_made, same_lists}
 use Rattle.rc_bgp.proofs.PartLaws.{Has, ask_has, either_has, none_has, then_has}
+use Rattle.rc_bgp.proofs.WithheldLaws.{none_exported}
 use Rattle.rc_bgp.proofs.PrefixLaws.{made_in_order, same_is}
 
 abbrev best_prefix : Best → Cidr
@@ -119,39 +113,6 @@ originated_here p (paths ∷ own) up =
   where
     here : of_prefix p paths ≡ option_to_list (path_at paths p)
     here = ap (of_prefix p) (sym (all_some paths)) ∙ one_of prefix_of (λ x. Some x) itself p paths up.0 ∙ ap option_to_list (then_some (path_at paths p))
-
--- ---- what the sender of a session keeps to itself
-
-kept_back : (e i : Bool) → (e || not i) ≡ false → (i && not e) ≡ true
-kept_back true i is = absurd (let clash : true ≡ false = is in cc)
-kept_back false true is = refl
-kept_back false false is = absurd (let clash : true ≡ false = is in cc)
-
-none_asked : (net : Network) (r a : ℕ) (f : RouterText → ℕ → Neighbor → Option BgpPath) → ((file : RouterText) (asn : ℕ) (n : Neighbor) → f file asn n ≡ None) → ask net r a f ≡ None
-none_asked net r a f none = at_router (router_at net r)
-  where
-    at_neighbor : (file : RouterText) (asn : ℕ) (o : Option Neighbor) → option_and_then (f file asn) o ≡ None
-    at_neighbor file asn None = refl
-    at_neighbor file asn (Some n) = none file asn n
-
-    at_process : (file : RouterText) (o : Option BgpProcess) → option_and_then (λ (process : BgpProcess). option_and_then (f file process.asn) (with_number address_of a process.neighbors)) o ≡ None
-    at_process file None = refl
-    at_process file (Some process) = at_neighbor file process.asn (with_number address_of a process.neighbors)
-
-    at_router : (o : Option RouterText) → option_and_then (λ (file : RouterText). option_and_then (λ (process : BgpProcess). option_and_then (f file process.asn) (with_number address_of a process.neighbors)) file.bgp) o ≡ None
-    at_router None = refl
-    at_router (Some file) = at_process file file.bgp
-
-none_exported : (net : Network) (s : Session) (x : BgpPath) → (s.is_external || not (is_internal x.source)) ≡ false → export net s x ≡ None
-none_exported net s x is = none_asked net s.sender s.receiver_address (λ file asn n. exported file asn n s x) stays
-  where
-    withheld : is_withheld s x ≡ true
-    withheld =
-        ap (λ b. b || has_community x.communities no_advertise || (s.is_external && (has_community x.communities no_export || has_community x.communities no_export_subconfed))) (kept_back s.is_external (is_internal x.source) is)
-
-    stays : (file : RouterText) (asn : ℕ) (n : Neighbor) → exported file asn n s x ≡ None
-    stays file asn n =
-        ap (λ b. cond b None (cond (not (passes_list file n.settings.list_out x.prefix)) None (option_map (as_sent asn s n) (mapped_path file n.settings.map_out (with_med s x))))) withheld
 
 module _ (net : Network) (table : List Route) (s : Session) where
   heard_of_has : (b : Best) → Has prefix_of b.path.prefix (heard_of net table s b)

@@ -9,7 +9,9 @@ mod WayLaws
 mod ChangeLaws
 mod PartLaws
 mod ListedLaws
+mod WithheldLaws
 mod AlikeLaws
+mod InsideLaws
 mod GatheringLaws
 mod TellingLaws
 mod UpLaws

@@ -1,6 +1,6 @@
 -- One element more of a loop that keeps what a function makes.
-use Rattle.std.proofs.Common.{refl, ◌≡◌, ap, sym, ◌∙◌, ℕ, suc, ◌+◌, ◌-◌, ◌<◌, List, ◌∷◌, ◌++◌, length, get_or, drop, take, drop-cons, add-one, append_assoc, Option, Some, None}
-use Rattle.std.specs.List.{cons_option, filter_map}
+use Rattle.std.proofs.Common.{refl, ◌≡◌, ap, sym, ◌∙◌, ℕ, suc, ◌+◌, ◌-◌, ◌<◌, Bool, true, false, cond, List, [], ◌∷◌, ◌++◌, length, get_or, drop, take, drop-cons, add-one, append_assoc, Option, Some, None}
+use Rattle.std.specs.List.{AllByRecursion, cons_option, filter, filter_map}
 use Rattle.std.proofs.lemmas.List.{take_rest}
 use Rattle.std.specs.Option.{option_to_list}
 
@@ -29,3 +29,13 @@ one_row f row left rest all more done o steps made pushed kept =
     ap (λ t. t ++ filter_map f rest) pushed ∙ append_assoc all (option_to_list o) (filter_map f rest)
     ∙ ap (λ t. all ++ t) (in_front o (filter_map f rest) ∙ ap (λ q. cons_option q (filter_map f rest)) made ∙ ap (filter_map f) (sym steps))
     ∙ kept
+
+-- what holds of all that pass a test holds of each that passes it
+pub all_of_filter : {X : Type 0} (P : X → Type 0) (p : X → Bool) (xs : List X) → AllByRecursion P (filter p xs) → AllByRecursion (λ x. p x ≡ true → P x) xs
+all_of_filter P p [] all = tt
+all_of_filter P p (x ∷ xs) all = by (p x) refl all (all_of_filter P p xs)
+  where
+    by : (b : Bool) → p x ≡ b → AllByRecursion P (cond b (x ∷ filter p xs) (filter p xs)) → (AllByRecursion P (filter p xs) → AllByRecursion (λ y. p y ≡ true → P y) xs)
+        → (p x ≡ true → P x) × AllByRecursion (λ y. p y ≡ true → P y) xs
+    by true e all rest = (λ is. all.0, rest all.1)
+    by false e all rest = (λ is. absurd (let clash : true ≡ false = sym is ∙ e in cc), rest all)

@@ -1,18 +1,19 @@
 -- Worked cases of what changes from one state to the next, each by computation.
-use Rattle.std.specs.Prelude.{◌≡◌, true, false, List, [], ◌∷◌, map, refl}
+use Rattle.std.specs.Prelude.{◌≡◌, ℕ, true, false, List, [], ◌∷◌, map, refl}
 use Rattle.rc_base.specs.Prefix.{Cidr}
 use Rattle.rc_config.specs.declared.network.Network.{Network}
 use Rattle.rc_fib.specs.Forwarding.{hops_within}
 use Rattle.rc_route.specs.Best.{alone}
 use Rattle.rc_route.specs.declared.best.Best.{Best}
 use Rattle.rc_route.specs.declared.path.BgpPath.{BgpPath}
-use Rattle.rc_route.specs.declared.path.PathSource.TheVariants.{Network as ByNetwork, External}
+use Rattle.rc_route.specs.declared.path.PathSource.{PathSource}
+use Rattle.rc_route.specs.declared.path.PathSource.TheVariants.{Network as ByNetwork, External, Internal}
 use Rattle.rc_route.specs.declared.route.Route.{Route}
 use Rattle.rc_route.specs.declared.state.RouterState.{RouterState}
 use Rattle.rc_bgp_decide.specs.Multipath.{multi_places}
 use Rattle.rc_bgp.specs.Candidates.{best_paths}
-use Rattle.rc_bgp.specs.Changes.{changes_of, updated_paths, changed_at_senders}
-use Rattle.rc_bgp_session.specs.Nets.{ip, subnet, gigabit, gigabit_1, on, peer, process, router, two, external, connected, knows, ninth}
+use Rattle.rc_bgp.specs.Changes.{changed_inside, changes_of, updated_paths, changed_at_senders}
+use Rattle.rc_bgp_session.specs.Nets.{ip, subnet, gigabit, gigabit_1, on, peer, process, router, two, external, internal, connected, knows, ninth}
 use Rattle.rc_bgp.specs.Sessions.{is_up}
 use Rattle.rc_bgp_session.specs.declared.session.Session.{Session}
 
@@ -20,8 +21,43 @@ pub changes_past_the_end : changes_of ((subnet 9 ∷ []) ∷ []) 1 ≡ []
 changes_past_the_end = refl
 
 -- what two senders tell counts once, in order; a router without a session to this one is none of them
-pub changed_at_two : changed_at_senders ((subnet 9 ∷ subnet 8 ∷ []) ∷ (subnet 7 ∷ []) ∷ (subnet 9 ∷ []) ∷ []) (external 0 (ip 12 1) 1 (ip 12 2) ∷ external 2 (ip 23 3) 1 (ip 23 2) ∷ []) ≡ subnet 8 ∷ subnet 9 ∷ []
+pub changed_at_two : changed_at_senders ((subnet 9 ∷ subnet 8 ∷ []) ∷ (subnet 7 ∷ []) ∷ (subnet 9 ∷ []) ∷ []) [] (external 0 (ip 12 1) 1 (ip 12 2) ∷ external 2 (ip 23 3) 1 (ip 23 2) ∷ []) ≡ subnet 8 ∷ subnet 9 ∷ []
 changed_at_two = refl
+
+-- over an internal session counts what changed in what internal peers may be told, and over an external one all that changed
+pub changed_inside_at_one : changed_at_senders ((subnet 9 ∷ subnet 8 ∷ []) ∷ (subnet 7 ∷ []) ∷ (subnet 6 ∷ []) ∷ []) ((subnet 9 ∷ []) ∷ [] ∷ [] ∷ []) (internal 0 (ip 12 1) 1 (ip 12 2) ∷ external 2 (ip 23 3) 1 (ip 23 2) ∷ [])
+    ≡ subnet 6 ∷ subnet 9 ∷ []
+changed_inside_at_one = refl
+
+-- ---- what internal peers may be told: of a router with such a peer what it originates or heard outside, before or now
+
+abbrev has_peer : List (List Session)
+has_peer = (internal 1 (ip 12 2) 0 (ip 12 1) ∷ []) ∷ []
+
+abbrev from_source : PathSource → ℕ → BgpPath
+from_source source n = record (ninth 0 source) { prefix = subnet n }
+
+abbrev first_knows : List BgpPath → List RouterState
+first_knows paths = knows [] paths ∷ []
+
+abbrev told_anew : List BgpPath → List BgpPath → List (List Cidr)
+told_anew before now = changed_inside has_peer ((subnet 8 ∷ subnet 9 ∷ []) ∷ []) (first_knows before) (first_knows now)
+
+pub it_originates_it_now : told_anew [] (from_source ByNetwork 9 ∷ []) ≡ (subnet 9 ∷ []) ∷ []
+it_originates_it_now = refl
+
+pub it_heard_it_outside_before : told_anew (from_source External 8 ∷ []) [] ≡ (subnet 8 ∷ []) ∷ []
+it_heard_it_outside_before = refl
+
+pub an_internal_peer_tells_it : told_anew [] (from_source Internal 8 ∷ from_source Internal 9 ∷ []) ≡ [] ∷ []
+an_internal_peer_tells_it = refl
+
+pub an_internal_peer_tells_it_in_place_of_another : told_anew (from_source External 9 ∷ []) (from_source Internal 9 ∷ []) ≡ (subnet 9 ∷ []) ∷ []
+an_internal_peer_tells_it_in_place_of_another = refl
+
+-- and of one without internal peers all that changed
+pub nobody_asks : changed_inside ([] ∷ []) ((subnet 8 ∷ subnet 9 ∷ []) ∷ []) (first_knows []) (first_knows (from_source Internal 9 ∷ [])) ≡ (subnet 8 ∷ subnet 9 ∷ []) ∷ []
+nobody_asks = refl
 
 -- ---- R1 of AS 65001 has a session with R2 of AS 65002 on 10.0.12.0/24
 
@@ -46,7 +82,7 @@ heard p = record (ninth 0 External) { prefix = p; next_hop = ip 12 1; weight = 0
 
 -- what R2 makes of its known paths, where R1 tells of these prefixes
 abbrev made : List Cidr → List BgpPath → List BgpPath → List Best
-made changed first second = updated_paths net all (changed ∷ [] ∷ []) (state first second) 1
+made changed first second = updated_paths net all (changed ∷ [] ∷ []) [] (state first second) 1
 
 pub gains : made (subnet 9 ∷ []) (sent (subnet 9) ∷ []) [] ≡ map alone (heard (subnet 9) ∷ [])
 unfolding hops_within multi_places

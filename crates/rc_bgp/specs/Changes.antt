@@ -1,11 +1,14 @@
 -- What changes in best paths from one state to the next.
-use Rattle.std.specs.Prelude.{◌≡◌, ℕ, true, false, List, [], slice_get, unwrap_or}
-use Rattle.std.specs.List.{AllByRecursion, flat_map, list_any}
+use Rattle.std.specs.Prelude.{◌≡◌, ℕ, Bool, true, false, not, ◌||◌, if◌then◌else◌, List, [], map, Option, Some, None, filter, length, option_and_then, slice_get, unwrap_or}
+use Rattle.std.specs.List.{AllByRecursion, flat_map, list_any, range_with_len}
+use Rattle.std.specs.Option.{option_map_or}
 use Rattle.rc_base.specs.Lists.{in_order}
 use Rattle.rc_base.specs.Prefix.{Cidr, prefix_cmp, same_prefix}
+use Rattle.rc_bgp_decide.specs.Decision.{is_internal, is_originated}
 use Rattle.rc_config.specs.declared.network.Network.{Network}
 use Rattle.rc_route.specs.Tables.{best_for}
 use Rattle.rc_route.specs.declared.best.Best.{Best}
+use Rattle.rc_route.specs.declared.route.Route.{Route}
 use Rattle.rc_route.specs.declared.state.RouterState.{RouterState}
 use Rattle.rc_bgp.specs.Candidates.{best_at}
 use Rattle.rc_bgp.specs.RouterStates.{paths_of, table_of}
@@ -13,6 +16,7 @@ use Rattle.rc_bgp.specs.Updating.{updated}
 use Rattle.rc_bgp.specs.AllOriginated.{own_paths}
 use Rattle.rc_bgp.specs.Reaching.{metric_to}
 use Rattle.rc_bgp.specs.Sessions.{is_up, sessions_of, up_sessions}
+use Rattle.rc_bgp.specs.Telling.{has_internal, may_tell}
 use Rattle.rc_bgp_session.specs.declared.session.Session.{Session}
 
 -- the prefixes that are told of a router; none past the end
@@ -31,29 +35,71 @@ pub record AreChanges (changes : List (List Cidr)) (old new : List RouterState) 
 pub record AreToldAmong (prefixes changed : List Cidr) (old new : List Best) : Type 0 where
   pub each : (p : Cidr) → list_any (same_prefix p) prefixes ≡ true → list_any (same_prefix p) changed ≡ false → best_for old p ≡ best_for new p
 
+-- ---- what internal peers may be told
+
+-- what an internal peer may be told of a best path: nothing where an internal peer told it (RFC 4271 s.9.2.1)
+abbrev pub told_of : Option Best → Option Best
+told_of best = option_and_then (λ (b : Best). if is_internal b.path.source then None else Some b) best
+
+-- internal peers may be told something for a prefix
+abbrev pub is_told : List Best → Cidr → Bool
+is_told paths p = option_map_or (λ (b : Best). not (is_internal b.path.source)) (best_for paths p) false
+
+abbrev pub is_told_by_either : List Best → List Best → Cidr → Bool
+is_told_by_either old new p = is_told old p || is_told new p
+
+-- of what internal peers may be told all that changes is told: at a prefix that isn't, both lists let the same be told
+pub record CoversInside (changed : List Cidr) (old new : List Best) : Type 0 where
+  pub elsewhere : (p : Cidr) → list_any (same_prefix p) changed ≡ false → told_of (best_for old p) ≡ told_of (best_for new p)
+
+-- so it is with each router
+pub record AreChangesInside (inside : List (List Cidr)) (old new : List RouterState) : Type 0 where
+  pub each : (r : ℕ) → CoversInside (changes_of inside r) (paths_of old r) (paths_of new r)
+
+-- of the prefixes that are told of a router with internal peers those for which these may be told something
+abbrev pub changed_inside_at : List (List Session) → List (List Cidr) → List RouterState → List RouterState → ℕ → List Cidr
+changed_inside_at sessions changes old new r =
+    if has_internal sessions r then filter (is_told_by_either (paths_of old r) (paths_of new r)) (changes_of changes r) else changes_of changes r
+
+abbrev pub changed_inside : List (List Session) → List (List Cidr) → List RouterState → List RouterState → List (List Cidr)
+changed_inside sessions changes old new = map (changed_inside_at sessions changes old new) (range_with_len 0 (length changes))
+
 -- ---- where a router's best paths change by those of its senders alone
 
--- over a session to another AS, up in both states or in neither, whose sender's address is known with the same metric
+-- what a path is told with: a next hop that is the sender's own, where the sender originates it, or one that two tables know with the same metric
+abbrev pub IsToldAlike : List Route → List Route → Best → Type 0
+IsToldAlike t u b = is_originated b.path.source ≡ false → metric_to t b.path.next_hop ≡ metric_to u b.path.next_hop
+
+-- over a session that is up in both states or in neither, whose sender's address is known with the same metric; and if it is internal, so are
+-- the next hops of all that may be told over it
 pub record IsHeardAlike (r : ℕ) (old now : List RouterState) (s : Session) : Type 0 where
-  pub external : s.is_external ≡ true
   pub up : is_up old s ≡ is_up now s
   pub metric : metric_to (table_of old r) s.sender_address ≡ metric_to (table_of now r) s.sender_address
+  pub next_hops : s.is_external ≡ false → AllByRecursion (IsToldAlike (table_of old r) (table_of now r)) (may_tell (paths_of now s.sender))
 
 -- a router originates the same in both states, and all its sessions are such
 pub record ReadsAlike (net : Network) (sessions : List (List Session)) (old now : List RouterState) (r : ℕ) : Type 0 where
   pub own : own_paths net (table_of old r) r ≡ own_paths net (table_of now r) r
   pub heard : AllByRecursion (IsHeardAlike r old now) (sessions_of sessions r)
 
--- the prefixes that changed at the senders of some sessions, in order
-abbrev pub changed_at_senders : List (List Cidr) → List Session → List Cidr
-changed_at_senders changes ss = in_order prefix_cmp (flat_map (λ (s : Session). changes_of changes s.sender) ss)
+-- the prefixes that changed at the sender of a session, in what may go over it
+abbrev pub changes_over : List (List Cidr) → List (List Cidr) → Session → List Cidr
+changes_over changes inside s = if s.is_external then changes_of changes s.sender else changes_of inside s.sender
+
+-- those of some sessions, in order
+abbrev pub changed_at_senders : List (List Cidr) → List (List Cidr) → List Session → List Cidr
+changed_at_senders changes inside ss = in_order prefix_cmp (flat_map (changes_over changes inside) ss)
+
+-- nothing changed in what may go over some sessions
+abbrev pub NothingChanged : List (List Cidr) → List (List Cidr) → List Session → Type 0
+NothingChanged changes inside ss = AllByRecursion (λ (s : Session). changes_over changes inside s ≡ []) ss
 
 -- the known paths of a router, with what is best now at the prefixes that changed at the senders of its sessions
-abbrev pub updated_paths : Network → List (List Session) → List (List Cidr) → List RouterState → ℕ → List Best
-updated_paths net sessions changes now r =
-    updated (λ (b : Best). b.path.prefix) (best_at net sessions now r) (paths_of now r) (changed_at_senders changes (up_sessions sessions now r))
+abbrev pub updated_paths : Network → List (List Session) → List (List Cidr) → List (List Cidr) → List RouterState → ℕ → List Best
+updated_paths net sessions changes inside now r =
+    updated (λ (b : Best). b.path.prefix) (best_at net sessions now r) (paths_of now r) (changed_at_senders changes inside (up_sessions sessions now r))
 
 -- these are those paths, and of those prefixes all are told at which they say other than what is known
-pub record AreUpdated (net : Network) (sessions : List (List Session)) (changes : List (List Cidr)) (now : List RouterState) (r : ℕ) (paths : List Best) (changed : List Cidr) : Type 0 where
-  pub value : paths ≡ updated_paths net sessions changes now r
-  pub told : AreToldAmong (changed_at_senders changes (up_sessions sessions now r)) changed (paths_of now r) paths
+pub record AreUpdated (net : Network) (sessions : List (List Session)) (changes inside : List (List Cidr)) (now : List RouterState) (r : ℕ) (paths : List Best) (changed : List Cidr) : Type 0 where
+  pub value : paths ≡ updated_paths net sessions changes inside now r
+  pub told : AreToldAmong (changed_at_senders changes inside (up_sessions sessions now r)) changed (paths_of now r) paths

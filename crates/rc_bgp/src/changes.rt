@@ -1,5 +1,8 @@
 //! What changed in best paths from one round to the next.
-use rc_base::{Items, Prefix};
+ghost use Rattle.std.specs.Prelude.{◌≡◌};
+ghost use Rattle.rc_bgp.specs.Changes as spec;
+
+use rc_base::{Items, Prefix, RouterId};
 use rc_route::Best;
 
 /// For each router, in order, the prefixes whose best path may differ from the one a round earlier.
@@ -10,4 +13,15 @@ pub type Changes = Items<Items<Prefix>>;
 pub struct Renewed {
     pub paths: Items<Best>,
     pub changed: Items<Prefix>,
+}
+
+/// The prefixes that are told of a router.
+pub(crate) fn changes_of(changes: &Changes, router: RouterId) -> &[Prefix]
+    ensures { result.now ≡ spec.changes_of changes.now router }
+{
+    let found = changes.as_slice().get(router.index());
+    match found {
+        Some(found) => found.as_slice(),
+        None => &[],
+    }
 }

@@ -11,9 +11,10 @@ ghost use Rattle.rc_bgp.specs.Telling.{AreListed};
 
 use crate::hearing::{heard_path, path_heard};
 use crate::resolver::Resolver;
-use crate::telling::{is_internal, offered};
+use crate::telling::offered;
 use crate::{Inside, Session, export};
 use rc_base::{Items, Prefix, PrefixMap};
+use rc_bgp_session::is_internal;
 use rc_config::Network;
 use rc_route::{Best, BgpPath, State};
 use std::alloc::{AllocError, Global};

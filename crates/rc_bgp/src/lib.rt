@@ -11,8 +11,9 @@
 //! (`originating` by lines `network`, `redistributing`, and `all_originated`), what it knew (`router_state`) and hears of what others knew
 //! (`hearing`), for one prefix or, path by path as its senders tell them, for all (`gathering`), its candidates and the best of them
 //! (`deciding`) with as many further next hops as it may use (`maximum`, `further`), and the routes that these give (`learning`).
-//! `round_paths` gives a router's best paths from one round to the next and what changed in them (`changes`): where a router reads what it
-//! read before (`same_inputs`), only the prefixes that its senders told anew are decided again (`updating`).
+//! `round_paths` gives a router's best paths from one round to the next and what changed in them (`changes`), and in what internal peers may be
+//! told of them (`inside`): where a router reads what it read before (`same_inputs`), only the prefixes that its senders told anew are decided
+//! again (`updating`), and where they told none its best paths stay.
 #![tactic(auto)]
 
 mod all_originated;
@@ -21,6 +22,7 @@ mod deciding;
 mod further;
 mod gathering;
 mod hearing;
+mod inside;
 mod learning;
 mod maximum;
 mod originating;
@@ -40,9 +42,10 @@ mod updating;
 
 pub use changes::{Changes, Renewed};
 pub use deciding::candidates;
+pub use inside::changed_inside;
 pub use learning::learned_route;
 pub use pairing::{ConfiguredSessions, configured_sessions};
 pub use rc_bgp_session::{Session, export, import};
-pub use round_paths::{first_paths, renewed_paths};
+pub use round_paths::{first_paths, renewed_paths, stay_best};
 pub use telling::{Inside, told_inside};
 pub use up::{Sessions, sessions};

@@ -1,25 +1,27 @@
 //! A router's best paths after a round, beside those of the round before.
 ghost use Rattle.std.specs.BTreeSet.{insert_key, keys};
 ghost use Rattle.std.specs.List.{flat_map, fold};
-ghost use Rattle.std.specs.Prelude.{◌≡◌, ◌↔◌, ◌++◌, All, IfOk, IsTrue, OnOk, false};
+ghost use Rattle.std.specs.Prelude.{◌≡◌, ◌↔◌, ◌++◌, All, IfOk, IsTrue, OnOk, false, true};
 ghost use Rattle.rc_base.specs.Lists.{in_order};
 ghost use Rattle.rc_base.specs.Prefix.{prefix_cmp};
 ghost use Rattle.rc_route.specs.Tables.{IsBestList, IsRouterState, best_for};
 ghost use Rattle.rc_bgp.specs.Candidates as spec;
-ghost use Rattle.rc_bgp.specs.Changes.{AreChanges, AreUpdated, AreToldAmong, CoversChange};
+ghost use Rattle.rc_bgp.specs.Changes.{AreChanges, AreChangesInside, AreUpdated, AreToldAmong, CoversChange, NothingChanged, ReadsAlike};
 ghost use Rattle.rc_bgp.specs.Changes as change_spec;
-ghost use Rattle.rc_bgp_session.specs.declared.session.Session.{Session as SessionModel};
 ghost use Rattle.rc_bgp.specs.RouterStates as known_spec;
+ghost use Rattle.rc_bgp.specs.Sessions as session_spec;
 ghost use Rattle.rc_bgp.specs.Telling.{told_inside};
 
 use crate::all_originated::own_paths;
+use crate::changes::changes_of;
 use crate::deciding::{add_best_prefixes, best_paths};
 use crate::maximum::maximum_of;
 use crate::originating::{insert_all, listed};
 use crate::resolver::Resolver;
 use crate::router_state::{paths_of, table_of};
 use crate::same_inputs::reads_alike;
-use crate::up::up_sessions;
+use crate::telling::offered;
+use crate::up::{sessions_of, up_sessions};
 use crate::updating::updated;
 use crate::{Changes, ConfiguredSessions, Inside, Renewed, Session};
 use rc_base::{Items, Prefix, RouterId};
@@ -27,6 +29,10 @@ use rc_config::Network;
 use rc_route::{Best, State, listed_at};
 use std::alloc::{AllocError, Global};
 use std::collections::BTreeSet;
+
+/// So many times as many look-ups as there are paths of senders are made for the prefixes that changed; where it would be more, all these
+/// paths are gone through in their place.
+const MANY: usize = 8;
 
 /// Whether two best paths are the same, with what goes with them.
 #[tactic(auto, using(rc_route::proofs::EqualLaws::best_decides))]
@@ -117,61 +123,115 @@ pub fn first_paths(
     beside(alloc, paths_of(previous, router), paths)
 }
 
-/// The prefixes that are told of a router.
-fn changes_of(changes: &Changes, router: RouterId) -> &[Prefix]
-    ensures { result.now ≡ change_spec.changes_of changes.now router }
+/// The prefixes that changed at the sender of a session, in what may go over it.
+fn changes_over<'a>(changes: &'a Changes, inside: &'a Changes, session: &Session) -> &'a [Prefix]
+    ensures { result.now ≡ change_spec.changes_over changes.now inside.now session.now }
 {
-    let found = changes.as_slice().get(router.index());
-    match found {
-        Some(found) => found.as_slice(),
-        None => &[],
+    if session.is_external {
+        changes_of(changes, session.sender)
+    } else {
+        changes_of(inside, session.sender)
     }
 }
 
-/// Puts the prefixes that are told of the senders of sessions into a set.
+/// Puts the prefixes that changed over sessions into a set.
 fn add_changes(
     set: &mut BTreeSet<Prefix>,
     changes: &Changes,
+    inside: &Changes,
     sessions: &[Session],
 ) -> Result<(), AllocError>
-    ensures { OnOk result (keys set.new ≡ fold (insert_key prefix_cmp) (keys set.old) (flat_map (λ (s : SessionModel). change_spec.changes_of changes.now s.sender) sessions.now)) }
+    ensures { OnOk result (keys set.new ≡ fold (insert_key prefix_cmp) (keys set.old) (flat_map (change_spec.changes_over changes.now inside.now) sessions.now)) }
 {
     for session in sessions {
-        insert_all(set, changes_of(changes, session.sender))?;
+        insert_all(set, changes_over(changes, inside, session))?;
     }
     Ok(())
 }
 
-/// The prefixes that changed at the senders of sessions, in order, each once.
+/// The prefixes that changed over sessions, in order, each once.
 fn changed_at_senders(
     alloc: Global,
     changes: &Changes,
+    inside: &Changes,
     sessions: &[Session],
 ) -> Result<Items<Prefix>, AllocError>
-    ensures { IfOk result (λ prefixes. prefixes ≡ change_spec.changed_at_senders changes.now sessions.now) }
+    ensures { IfOk result (λ prefixes. prefixes ≡ change_spec.changed_at_senders changes.now inside.now sessions.now) }
 {
     let mut set = BTreeSet::new(alloc);
-    add_changes(&mut set, changes, sessions)?;
+    add_changes(&mut set, changes, inside, sessions)?;
     listed(alloc, set)
 }
 
-/// The best paths of a router after a state, where they are those known but for the prefixes that changed at its senders.
+/// Whether nothing changed over sessions.
+fn nothing_changed(changes: &Changes, inside: &Changes, sessions: &[Session]) -> bool
+    ensures { IsTrue result → NothingChanged changes.now inside.now sessions.now }
+{
+    for session in sessions {
+        if !changes_over(changes, inside, session).is_empty() {
+            return false;
+        }
+    }
+    true
+}
+
+/// Whether the best paths of a router stay what they are after a state, as can be told without deciding any: it reads what it read in an
+/// earlier state, and nothing changed since in what its senders tell it. Where this isn't told they may stay all the same. It errs only where memory runs out.
+pub fn stay_best(
+    alloc: Global,
+    net: &Network,
+    sessions: &ConfiguredSessions,
+    earlier: &State,
+    changes: &Changes,
+    changes_inside: &Changes,
+    previous: &State,
+    inside: &Inside,
+    router: RouterId,
+) -> Result<bool, AllocError>
+    requires earlier { All IsRouterState earlier.now }
+    requires previous { All IsRouterState previous.now }
+    requires changes { AreChanges changes.now earlier.now previous.now }
+    requires changes_inside { AreChangesInside changes_inside.now earlier.now previous.now }
+    requires inside { inside.now ≡ told_inside sessions.now previous.now }
+    ensures { IfOk result (λ stay. stay ≡ true → spec.best_paths net.now sessions.now earlier.now router ≡ spec.best_paths net.now sessions.now previous.now router) }
+{
+    if !nothing_changed(changes, changes_inside, sessions_of(sessions, router)) {
+        return Ok(false);
+    }
+    reads_alike(alloc, net, sessions, earlier, previous, inside, router)
+}
+
+/// How many best paths are gone through for some sessions.
+fn all_offered(inside: &Inside, state: &State, sessions: &[Session]) -> usize
+    requires { All IsRouterState state.now }
+{
+    let mut count: usize = 0;
+    for session in sessions {
+        count = count.saturating_add(offered(inside, state, session).len());
+    }
+    count
+}
+
+/// The best paths of a router after a state, where they are those known but for the prefixes that changed over its sessions.
 fn updated_paths(
     alloc: Global,
     net: &Network,
     sessions: &ConfiguredSessions,
     changes: &Changes,
+    changes_inside: &Changes,
     previous: &State,
     router: RouterId,
+    up: &[Session],
+    prefixes: &[Prefix],
 ) -> Result<Renewed, AllocError>
-    requires { All IsRouterState previous.now }
-    ensures { IfOk result (λ r. AreUpdated net.now sessions.now changes.now previous.now router r.paths r.changed) }
+    requires previous { All IsRouterState previous.now }
+    requires up { up.now ≡ session_spec.up_sessions sessions.now previous.now router }
+    requires prefixes { prefixes.now ≡ change_spec.changed_at_senders changes.now changes_inside.now up.now }
+    ensures { IfOk result (λ r. AreUpdated net.now sessions.now changes.now changes_inside.now previous.now router r.paths r.changed) }
 {
     let known = paths_of(previous, router);
     let table = table_of(previous, router);
     let own = own_paths(alloc, net, table, router)?;
-    let up = up_sessions(alloc, sessions, previous, router)?;
-    let prefixes = changed_at_senders(alloc, changes, up.as_slice())?;
     let mut resolver = Resolver::new(alloc, table);
     let paths = updated(
         alloc,
@@ -180,12 +240,55 @@ fn updated_paths(
         maximum_of(net, router),
         &mut resolver,
         own.as_slice(),
-        up.as_slice(),
+        up,
         known,
+        prefixes,
+    )?;
+    let changed = differing(alloc, known, paths.as_slice(), prefixes)?;
+    Ok(Renewed { paths, changed })
+}
+
+/// The best paths of a router that reads what it read before, and the prefixes whose path may be another. Where many prefixes changed and
+/// many senders would be asked for each, all that they tell is gone through once in place of that.
+fn paths_again(
+    alloc: Global,
+    net: &Network,
+    sessions: &ConfiguredSessions,
+    earlier: &State,
+    changes: &Changes,
+    changes_inside: &Changes,
+    previous: &State,
+    inside: &Inside,
+    router: RouterId,
+) -> Result<Renewed, AllocError>
+    requires previous { All IsRouterState previous.now }
+    requires alike { ReadsAlike net.now sessions.now earlier.now previous.now router }
+    requires known { known_spec.paths_of previous.now router ≡ spec.best_paths net.now sessions.now earlier.now router }
+    requires changes { AreChanges changes.now earlier.now previous.now }
+    requires changes_inside { AreChangesInside changes_inside.now earlier.now previous.now }
+    requires inside { inside.now ≡ told_inside sessions.now previous.now }
+    ensures paths { IfOk result (λ r. r.paths ≡ spec.best_paths net.now sessions.now previous.now router) }
+    ensures in_order { IfOk result (λ r. IsBestList r.paths) }
+    ensures changed { IfOk result (λ r. CoversChange r.changed (known_spec.paths_of previous.now router) r.paths) }
+{
+    let up = up_sessions(alloc, sessions, previous, router)?;
+    let prefixes = changed_at_senders(alloc, changes, changes_inside, up.as_slice())?;
+    let offered = all_offered(inside, previous, up.as_slice());
+    if prefixes.len().saturating_mul(up.len()) > offered.saturating_mul(MANY) {
+        return first_paths(alloc, net, sessions, previous, inside, router);
+    }
+    let made = updated_paths(
+        alloc,
+        net,
+        sessions,
+        changes,
+        changes_inside,
+        previous,
+        router,
+        up.as_slice(),
         prefixes.as_slice(),
     )?;
-    let changed = differing(alloc, known, paths.as_slice(), prefixes.as_slice())?;
-    Ok(Renewed { paths, changed })
+    Ok(made)
 }
 
 /// The best paths of a router, where the state came from an earlier one and all that changed from there to here is told, and the prefixes
@@ -196,6 +299,7 @@ pub fn renewed_paths(
     sessions: &ConfiguredSessions,
     earlier: &State,
     changes: &Changes,
+    changes_inside: &Changes,
     previous: &State,
     inside: &Inside,
     router: RouterId,
@@ -204,14 +308,24 @@ pub fn renewed_paths(
     requires previous { All IsRouterState previous.now }
     requires known { known_spec.paths_of previous.now router ≡ spec.best_paths net.now sessions.now earlier.now router }
     requires changes { AreChanges changes.now earlier.now previous.now }
+    requires changes_inside { AreChangesInside changes_inside.now earlier.now previous.now }
     requires inside { inside.now ≡ told_inside sessions.now previous.now }
     ensures paths { IfOk result (λ r. r.paths ≡ spec.best_paths net.now sessions.now previous.now router) }
     ensures in_order { IfOk result (λ r. IsBestList r.paths) }
     ensures changed { IfOk result (λ r. CoversChange r.changed (known_spec.paths_of previous.now router) r.paths) }
 {
-    if reads_alike(alloc, net, sessions, earlier, previous, router)? {
-        let made = updated_paths(alloc, net, sessions, changes, previous, router)?;
-        return Ok(made);
+    if !reads_alike(alloc, net, sessions, earlier, previous, inside, router)? {
+        return first_paths(alloc, net, sessions, previous, inside, router);
     }
-    first_paths(alloc, net, sessions, previous, inside, router)
+    paths_again(
+        alloc,
+        net,
+        sessions,
+        earlier,
+        changes,
+        changes_inside,
+        previous,
+        inside,
+        router,
+    )
 }

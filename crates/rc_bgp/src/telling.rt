@@ -1,7 +1,6 @@
 //! What routers may tell inside of their ASes, listed once for all who hear it.
 ghost use Rattle.std.specs.List.{list_any};
 ghost use Rattle.std.specs.Prelude.{◌≡◌, All, IfOk, unwrap_or};
-ghost use Rattle.rc_bgp_decide.specs.Decision.{is_internal};
 ghost use Rattle.rc_bgp.specs.Telling as spec;
 ghost use Rattle.rc_route.specs.Tables.{IsRouterState};
 
@@ -9,21 +8,12 @@ use crate::router_state::paths_of;
 use crate::up::sessions_of;
 use crate::{ConfiguredSessions, Session};
 use rc_base::{Items, RouterId};
-use rc_route::{Best, PathSource, State};
+use rc_bgp_session::is_internal;
+use rc_route::{Best, State};
 use std::alloc::{AllocError, Global};
 
 /// For each router, in order, what it may tell its internal peers, where it has such peers.
 pub type Inside = Items<Option<Items<Best>>>;
-
-/// Whether a path came from a peer in the router's own AS.
-pub(crate) fn is_internal(source: PathSource) -> bool
-    ensures { result ≡ is_internal source }
-{
-    match source {
-        PathSource::Internal => true,
-        _ => false,
-    }
-}
 
 /// Those of some best paths that may be told to an internal peer.
 fn not_heard_inside(alloc: Global, paths: &[Best]) -> Result<Items<Best>, AllocError>
@@ -51,7 +41,7 @@ fn some_internal(sessions: &[Session]) -> bool
 }
 
 /// Whether some session to a router is internal.
-fn has_internal(sessions: &ConfiguredSessions, router: RouterId) -> bool
+pub(crate) fn has_internal(sessions: &ConfiguredSessions, router: RouterId) -> bool
     ensures { result ≡ spec.has_internal sessions.now router }
 {
     some_internal(sessions_of(sessions, router))

@@ -9,6 +9,6 @@ mod passing;
 mod policy;
 mod session;
 
-pub use passing::{export, import, originated_default, taken};
+pub use passing::{export, import, is_internal, is_originated, originated_default, taken};
 pub use policy::mapped_path;
 pub use session::Session;

@@ -11,7 +11,8 @@ use rc_config::{Neighbor, Network, RouterText};
 use rc_route::{BgpPath, PathSource};
 use std::alloc::{AllocError, Global};
 
-fn is_internal(source: PathSource) -> bool
+/// Whether a peer in the router's own AS sent a path.
+pub fn is_internal(source: PathSource) -> bool
     ensures { result ≡ is_internal source }
 {
     match source {
@@ -20,7 +21,8 @@ fn is_internal(source: PathSource) -> bool
     }
 }
 
-fn is_originated(source: PathSource) -> bool
+/// Whether the router originates a path: no peer sent it.
+pub fn is_originated(source: PathSource) -> bool
     ensures { result ≡ is_originated source }
 {
     match source {

@@ -1,6 +1,6 @@
 -- A router that reads what it read a round earlier knows the same again.
-use Rattle.std.proofs.Common.{refl, ◌≡◌, ◌⊎◌, inl, inr, ap, sym, ◌∙◌, subst, ℕ, zero, suc, ◌+◌, ◌<◌, List, [], ◌∷◌, ◌++◌, All, Option, Some, None, IfSome, length, arith}
-use Rattle.std.specs.List.{cons_option, filter, filter_map, range_with_len, slice_get}
+use Rattle.std.proofs.Common.{refl, ◌≡◌, ◌⊎◌, inl, inr, ap, sym, ◌∙◌, subst, ℕ, zero, suc, ◌+◌, ◌<◌, false, List, [], ◌∷◌, ◌++◌, All, Option, Some, None, IfSome, length, arith}
+use Rattle.std.specs.List.{cons_option, filter, filter_map, list_any, range_with_len, slice_get}
 use Rattle.std.specs.Option.{option_map, option_map_or}
 use Rattle.std.proofs.lemmas.Option.{same_Some, slice_get-map, slice_get-get_or, slice_get_past, slice_get_within, get_or_from_slice_get}
 use Rattle.std.proofs.lemmas.List.FromFn.{length-range_with_len, get_or-range_with_len, length-map-range_with_len}
@@ -28,14 +28,15 @@ use Rattle.rc_ospf.specs.declared.model.Internal.{Internal}
 use Rattle.rc_route.specs.Tables.{IsRouterState, best_for}
 use Rattle.rc_route.specs.Ways.{best_of}
 use Rattle.rc_route.specs.declared.best.Best.{Best}
-use Rattle.rc_ospf.specs.Internal.{routes_of}
+use Rattle.rc_ospf.specs.Internal.{boundaries_of, routes_of}
 use Rattle.rc_route.specs.declared.route.Route.{Route}
 use Rattle.rc_route.specs.declared.state.RouterState.{RouterState}
 use Rattle.rc_rib.specs.Again.{AreUnchanged, IsUnchanged, ReadsNoOthers}
 use Rattle.rc_rib.specs.Best.{best_routes}
 use Rattle.rc_rib.specs.Connected.{connected}
 use Rattle.rc_rib.specs.Next.{learned_routes, next_router, next_state, router_after, to_others}
-use Rattle.rc_rib.specs.Static.{active_lines, static_routes}
+use Rattle.rc_rib.specs.Static.{active_lines, asks_table, static_routes}
+use Rattle.rc_rib.proofs.StaticLaws.{none_asks}
 
 numbered : (n r : ℕ) → r < n → slice_get (range_with_len 0 n) r ≡ Some r
 numbered n r less =
@@ -122,15 +123,43 @@ module _ (net : Network) (internal : Internal) (all : List (List Session)) (r : 
   unfolding after with_lines
   from_file file t u none = ap (with_lines file t) none ∙ sym (ap (with_lines file u) none)
 
-  pub again : all ≡ configured_sessions net internal.links → (state before : List RouterState) (s : RouterState) → state ≡ next_state net internal before → IsUnchanged net internal all state before r s → s ≡ next_router net internal state r
-  again these state before s is same =
-      same_Some s (next_router net internal before r) (sym same.known ∙ ap (λ all. slice_get all r) is ∙ row before) ∙ by (router_at net r) same.reads
+  -- from the same table, or where no line asks one, it comes to the same
+  same_active : (file : RouterText) (t u : List Route) → (list_any (λ (s : StaticRoute). asks_table s.target) file.static_routes ≡ false) ⊎ (u ≡ t) → (paths : List Best) (outside : List Route) → after file t paths outside ≡ after file u paths outside
+  unfolding after
+  same_active file t u (inl none) paths outside =
+      ap (λ lines. record {
+        table = best_routes (connected r file.interfaces ++ (static_routes lines ++ (learned_routes paths ++ (routes_of internal r ++ to_others internal r outside))));
+        paths = paths;
+      }) (none_asks r file.interfaces (resolved t) (resolved u) file.static_routes none)
+  same_active file t u (inr same) paths outside = ap (λ table. after file table paths outside) (sym same)
+
+  -- where nothing comes from outside of the AS
+  inside_only : (file : RouterText) → all ≡ configured_sessions net internal.links → boundaries_of internal r ≡ [] → (old : List RouterState) → router_after net internal old r file ≡ after file (table_of old r) (best_paths net all old r) []
+  unfolding after
+  inside_only file these none old =
+      ap (λ paths. after file (table_of old r) paths (external_routes internal (externals net old) r)) (ap (λ ss. best_paths net ss old r) (sym these))
+      ∙ ap (after file (table_of old r) (best_paths net all old r)) (ap (λ bs. routes_over bs (externals net old)) none ∙ nothing_outside (externals net old))
+
+  pub same_next : all ≡ configured_sessions net internal.links → (state before : List RouterState) → IsUnchanged net internal all state before r → next_router net internal before r ≡ next_router net internal state r
+  same_next these state before same = by (router_at net r) same.reads
     where
-      by : (o : Option RouterText) → (IfSome o (λ (file : RouterText). file.static_routes ≡ []) ⊎ (table_of state r ≡ table_of before r))
+      by : (o : Option RouterText) → (IfSome o (λ (file : RouterText). list_any (λ (s : StaticRoute). asks_table s.target) file.static_routes ≡ false) ⊎ (table_of state r ≡ table_of before r))
           → option_map_or (router_after net internal before r) o (record { table = []; paths = [] }) ≡ option_map_or (router_after net internal state r) o (record { table = []; paths = [] })
       by None reads = refl
-      by (Some file) (inl none) = alone file these same.others before ∙ from_file file (table_of before r) (table_of state r) none ∙ sym (alone file these same.others state)
-      by (Some file) (inr tables) = alone file these same.others before ∙ ap (λ t. after file t [] []) (sym tables) ∙ sym (alone file these same.others state)
+      by (Some file) reads =
+          inside_only file these same.no_boundaries before
+          ∙ same_active file (table_of before r) (table_of state r) reads (best_paths net all before r) []
+          ∙ ap (λ paths. after file (table_of state r) paths []) same.paths
+          ∙ sym (inside_only file these same.no_boundaries state)
+
+  pub again : all ≡ configured_sessions net internal.links → (state before : List RouterState) (s : RouterState) → state ≡ next_state net internal before → slice_get state r ≡ Some s → IsUnchanged net internal all state before r → s ≡ next_router net internal state r
+  again these state before s is known same =
+      same_Some s (next_router net internal before r) (sym known ∙ ap (λ all. slice_get all r) is ∙ row before) ∙ same_next these state before same
+
+-- what stands for a router in two states tells its tables there
+pub tables_of : (state before : List RouterState) (r : ℕ) (s t : RouterState) → slice_get state r ≡ Some s → slice_get before r ≡ Some t → s.table ≡ t.table → table_of state r ≡ table_of before r
+tables_of state before r s t here there same =
+    ap (λ o. option_map_or (λ (k : RouterState). k.table) o []) here ∙ same ∙ sym (ap (λ o. option_map_or (λ (k : RouterState). k.table) o []) there)
 
 -- what stands in a state in order is in order
 pub known_in_order : (state : List RouterState) (r : ℕ) (s : RouterState) → All IsRouterState state → slice_get state r ≡ Some s → IsRouterState s
@@ -160,6 +189,5 @@ module _ (net : Network) (internal : Internal) (all : List (List Session)) (stat
 
       at : (k : ℕ) → Dec (k < length net.routers) → slice_get (next_state net internal state) k ≡ slice_get state k
       at k (yes here) =
-          let one = same k here in
-          row net internal all k here state ∙ ap Some (sym (again net internal all k here these state before one.0 is one.1)) ∙ sym one.1.known
+          row net internal all k here state ∙ ap Some (sym (same_next net internal all k here these state before (same k here))) ∙ sym (ap (λ all. slice_get all k) is ∙ row net internal all k here before)
       at k (no past) = slice_get_past (next_state net internal state) k (omega (arith, past, as_many)) ∙ sym (slice_get_past state k (omega (arith, past, as_long)))

@@ -11,6 +11,8 @@ pub struct Earlier<'a> {
     pub state: &'a State,
     /// The prefixes whose best path may be another since.
     pub changes: &'a Changes,
+    /// Those of them for which internal BGP peers may be told other than then.
+    pub inside: &'a Changes,
 }
 
 /// What the next tables are made from: all routers of a round read the same.

@@ -1,5 +1,5 @@
 //! One router's next table and best paths.
-ghost use Rattle.std.specs.Prelude.{◌≡◌, ◌++◌, ◌∷◌, [], All, IfOk, IfSome, IsTrue, OnOk, None, false};
+ghost use Rattle.std.specs.Prelude.{◌≡◌, ◌⊎◌, [], All, IfOk, IfSome, IsTrue, None, Some, false, slice_get, true};
 ghost use Rattle.std.specs.List.{list_any};
 ghost use Rattle.std.specs.Option.{option_map_or};
 ghost use Rattle.rc_bgp.specs.Candidates as bgp_spec;
@@ -14,8 +14,8 @@ ghost use Rattle.rc_fib.specs.Forwarding.{resolved};
 ghost use Rattle.rc_ospf.specs.Internal.{boundaries_of, routes_of};
 ghost use Rattle.rc_route.specs.Tables.{IsBestList, IsRouterState, IsTable};
 ghost use Rattle.rc_rib.specs.Connected as connected_spec;
-ghost use Rattle.rc_rib.specs.Again.{HasNoLines, IsUnchanged, ReadsNoOthers};
-ghost use Rattle.rc_rib.specs.Inputs.{AreInputs};
+ghost use Rattle.rc_rib.specs.Again.{AsksNoTable, HasNoLines, IsUnchanged};
+ghost use Rattle.rc_rib.specs.Inputs.{AreInputs, IsEarlier};
 ghost use Rattle.rc_rib.specs.Merging as merging_spec;
 ghost use Rattle.rc_rib.specs.Next as spec;
 ghost use Rattle.rc_rib.specs.Static.{active_lines, asks_table, static_routes};
@@ -26,9 +26,9 @@ use crate::grouping::static_routes;
 use crate::learned::with_learned;
 use crate::merging::merged;
 use crate::outside::outside_routes;
-use crate::{Inputs, Made};
+use crate::{Earlier, Inputs, Made};
 use rc_base::{Items, RouterId};
-use rc_bgp::{ConfiguredSessions, Renewed, first_paths, renewed_paths};
+use rc_bgp::{ConfiguredSessions, Renewed, first_paths, renewed_paths, stay_best};
 use rc_config::{Network, RouterText};
 use rc_fib::Fib;
 use rc_ospf::Internal;
@@ -199,6 +199,7 @@ fn paths_after(alloc: Global, inputs: &Inputs<'_>, router: RouterId) -> Result<R
             inputs.sessions,
             earlier.state,
             earlier.changes,
+            earlier.inside,
             inputs.previous,
             inputs.inside,
             router,
@@ -301,33 +302,109 @@ pub(crate) fn has_no_boundaries(internal: &Internal, router: RouterId) -> bool
     internal.boundaries_of(router).is_empty()
 }
 
-/// Whether what other routers know changes nothing for this one.
-fn reads_no_others(inputs: &Inputs<'_>, router: RouterId) -> bool
-    ensures { IsTrue result → ReadsNoOthers inputs.now.network.now inputs.now.internal.now inputs.now.sessions.now router }
+/// Whether no line `ip route` of a file asks its router's table.
+fn is_free_of_tables(file: &RouterText) -> bool
+    ensures { IsTrue result → list_any (λ (s : Line). asks_table s.target) file.now.static_routes ≡ false }
 {
-    has_no_process(inputs.network, router)
-        && has_no_sessions(inputs.sessions, router)
-        && has_no_boundaries(inputs.internal, router)
+    if some_ask_table(file.static_routes.as_slice()) {
+        return false;
+    }
+    true
 }
 
-/// What a router knows in the state before, where it reads at most its own table, and that is the one of a state earlier yet.
-pub(crate) fn unchanged<'a>(
+/// Whether no line `ip route` of a router asks its table.
+fn asks_no_table(net: &Network, router: RouterId) -> bool
+    ensures { IsTrue result → AsksNoTable net.now router }
+{
+    let found = net.router_at(router);
+    match found {
+        Some(file) => is_free_of_tables(file),
+        None => true,
+    }
+}
+
+/// Whether a router has the same table in two states.
+#[tactic(auto, using(crate::proofs::AgainLaws::tables_of))]
+fn has_same_table(earlier: &State, previous: &State, router: RouterId) -> bool
+    ensures { IsTrue result → table_of previous.now router ≡ table_of earlier.now router }
+{
+    let known = known_at(previous, router);
+    let old = known_at(earlier, router);
+    match known {
+        None => false,
+        Some(known) => match old {
+            None => false,
+            Some(old) => same_table(&known.table, &old.table),
+        },
+    }
+}
+
+/// Whether no line of a router asks its table, or the table is the same in two states.
+fn lines_read_alike(net: &Network, earlier: &State, previous: &State, router: RouterId) -> bool
+    ensures { IsTrue result → AsksNoTable net.now router ⊎ (table_of previous.now router ≡ table_of earlier.now router) }
+{
+    if asks_no_table(net, router) {
+        return true;
+    }
+    has_same_table(earlier, previous, router)
+}
+
+/// Whether the best paths of a router stay what they are, as can be told without deciding any.
+fn stay_best_at(
+    alloc: Global,
+    inputs: &Inputs<'_>,
+    earlier: &Earlier<'_>,
+    router: RouterId,
+) -> Result<bool, AllocError>
+    requires inputs { AreInputs inputs.now }
+    requires earlier { IsEarlier inputs.now.network.now inputs.now.internal.now inputs.now.previous.now earlier.now.state.now earlier.now.changes.now earlier.now.inside.now }
+    ensures { IfOk result (λ stay. stay ≡ true → bgp_spec.best_paths inputs.now.network.now inputs.now.sessions.now earlier.now.state.now router ≡ bgp_spec.best_paths inputs.now.network.now inputs.now.sessions.now inputs.now.previous.now router) }
+{
+    stay_best(
+        alloc,
+        inputs.network,
+        inputs.sessions,
+        earlier.state,
+        earlier.changes,
+        earlier.inside,
+        inputs.previous,
+        inputs.inside,
+        router,
+    )
+}
+
+/// Whether a router reads what it read a round earlier, but for what other routers know that changes nothing for it: its best paths stay, it
+/// has no path to an AS boundary router, and no line of it asks its table, or the table is the same.
+pub(crate) fn is_unchanged(
+    alloc: Global,
+    inputs: &Inputs<'_>,
+    earlier: &Earlier<'_>,
+    router: RouterId,
+) -> Result<bool, AllocError>
+    requires inputs { AreInputs inputs.now }
+    requires earlier { IsEarlier inputs.now.network.now inputs.now.internal.now inputs.now.previous.now earlier.now.state.now earlier.now.changes.now earlier.now.inside.now }
+    ensures { IfOk result (λ is. is ≡ true → IsUnchanged inputs.now.network.now inputs.now.internal.now inputs.now.sessions.now inputs.now.previous.now earlier.now.state.now router) }
+{
+    if !has_no_boundaries(inputs.internal, router) {
+        return Ok(false);
+    }
+    if !stay_best_at(alloc, inputs, earlier, router)? {
+        return Ok(false);
+    }
+    let net = inputs.network;
+    Ok(lines_read_alike(net, earlier.state, inputs.previous, router))
+}
+
+/// What a router knows in the state before, where it is to know the same once more.
+fn known_again<'a>(
     inputs: &Inputs<'a>,
-    earlier: &State,
+    is_unchanged: bool,
     router: RouterId,
 ) -> Option<&'a RouterState>
-    ensures { IfSome result (λ s. IsUnchanged inputs.now.network.now inputs.now.internal.now inputs.now.sessions.now inputs.now.previous.now earlier.now router s.now) }
+    ensures { IfSome result (λ s. (is_unchanged ≡ true) × (slice_get inputs.now.previous.now router ≡ Some s.now)) }
 {
-    if !reads_no_others(inputs, router) {
-        return None;
-    }
-    let known = known_at(inputs.previous, router)?;
-    if has_no_lines(inputs.network, router) {
-        return Some(known);
-    }
-    let old = known_at(earlier, router)?;
-    if same_table(&known.table, &old.table) {
-        Some(known)
+    if is_unchanged {
+        known_at(inputs.previous, router)
     } else {
         None
     }
@@ -337,9 +414,8 @@ pub(crate) fn unchanged<'a>(
 /// at which these may be others than before.
 ///
 /// Its connected routes, its static routes that its previous table makes active, and its routes by BGP and by OSPF; for each prefix
-/// the least administrative distance wins, and at one distance the source that stands first. A router that reads no more than its
-/// own table, and reads what it read a round earlier, knows the same again, and nothing is made anew for it. It errs only where
-/// memory runs out.
+/// the least administrative distance wins, and at one distance the source that stands first. A router for which nothing changed that it
+/// reads, as can be told at once, knows the same again, and nothing is made anew for it. It errs only where memory runs out.
 pub fn table(alloc: Global, inputs: &Inputs<'_>, router: RouterId) -> Result<Made, AllocError>
     requires inputs { AreInputs inputs.now }
     requires router { IsRouter inputs.now.network.now router }
@@ -350,7 +426,8 @@ pub fn table(alloc: Global, inputs: &Inputs<'_>, router: RouterId) -> Result<Mad
     match &inputs.earlier {
         None => anew(alloc, inputs, router),
         Some(earlier) => {
-            let known = unchanged(inputs, earlier.state, router);
+            let is_unchanged = is_unchanged(alloc, inputs, earlier, router)?;
+            let known = known_again(inputs, is_unchanged, router);
             match known {
                 Some(known) => again(alloc, known),
                 None => anew(alloc, inputs, router),

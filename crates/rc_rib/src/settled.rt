@@ -1,42 +1,40 @@
 //! Whether a round changes anything, as can be told without making it.
-ghost use Rattle.std.specs.Prelude.{◌≡◌, IsTrue};
-ghost use Rattle.rc_rib.specs.Again.{AreUnchanged, IsUnchanged};
-ghost use Rattle.rc_rib.specs.Inputs.{AreInputs};
+ghost use Rattle.std.specs.Prelude.{◌≡◌, IfOk, true};
+ghost use Rattle.rc_rib.specs.Again.{AreUnchanged};
+ghost use Rattle.rc_rib.specs.Inputs.{AreInputs, IsEarlier};
 ghost use Rattle.rc_rib.specs.Next.{next_state};
-ghost use Rattle.rc_route.specs.declared.state.RouterState.{RouterState};
 
-use crate::Inputs;
-use crate::next::unchanged;
+use crate::next::is_unchanged;
+use crate::{Earlier, Inputs};
 use rc_base::RouterId;
-use rc_route::State;
+use std::alloc::{AllocError, Global};
 
-/// Whether a router reads at most its own table, and that is the one of a state earlier yet.
-fn is_unchanged(inputs: &Inputs<'_>, earlier: &State, router: RouterId) -> bool
-    ensures { IsTrue result → (s : RouterState) × IsUnchanged inputs.now.network.now inputs.now.internal.now inputs.now.sessions.now inputs.now.previous.now earlier.now router s }
-{
-    unchanged(inputs, earlier, router).is_some()
-}
-
-/// Whether so it is of each router.
-fn are_unchanged(inputs: &Inputs<'_>, earlier: &State) -> bool
-    ensures { IsTrue result → AreUnchanged inputs.now.network.now inputs.now.internal.now inputs.now.sessions.now inputs.now.previous.now earlier.now }
+/// Whether each router reads what it read a round earlier, but for what changes nothing for it.
+fn are_unchanged(
+    alloc: Global,
+    inputs: &Inputs<'_>,
+    earlier: &Earlier<'_>,
+) -> Result<bool, AllocError>
+    requires inputs { AreInputs inputs.now }
+    requires earlier { IsEarlier inputs.now.network.now inputs.now.internal.now inputs.now.previous.now earlier.now.state.now earlier.now.changes.now earlier.now.inside.now }
+    ensures { IfOk result (λ are. are ≡ true → AreUnchanged inputs.now.network.now inputs.now.internal.now inputs.now.sessions.now inputs.now.previous.now earlier.now.state.now) }
 {
     for index in 0..inputs.network.routers.len() {
-        if !is_unchanged(inputs, earlier, RouterId::at(index)) {
-            return false;
+        if !is_unchanged(alloc, inputs, earlier, RouterId::at(index))? {
+            return Ok(false);
         }
     }
-    true
+    Ok(true)
 }
 
-/// Whether a round in which all routers read these inputs changes nothing, where that can be told without making it: each router reads
-/// no more than its own table, and reads what it read a round earlier. Where it isn't told, the round may change nothing all the same.
-pub fn is_settled(inputs: &Inputs<'_>) -> bool
+/// Whether a round in which all routers read these inputs changes nothing, where that can be told without making it: for no router anything
+/// changed that it reads. Where it isn't told, the round may change nothing all the same. It errs only where memory runs out.
+pub fn is_settled(alloc: Global, inputs: &Inputs<'_>) -> Result<bool, AllocError>
     requires { AreInputs inputs.now }
-    ensures { IsTrue result → next_state inputs.now.network.now inputs.now.internal.now inputs.now.previous.now ≡ inputs.now.previous.now }
+    ensures { IfOk result (λ is. is ≡ true → next_state inputs.now.network.now inputs.now.internal.now inputs.now.previous.now ≡ inputs.now.previous.now) }
 {
     match &inputs.earlier {
-        None => false,
-        Some(earlier) => are_unchanged(inputs, earlier.state),
+        None => Ok(false),
+        Some(earlier) => are_unchanged(alloc, inputs, earlier),
     }
 }

@@ -3,7 +3,7 @@ use Rattle.std.proofs.Common.{refl, ◌≡◌, ◌≢◌, ◌⊎◌, inl, inr, s
 use Rattle.std.proofs.lemmas.Bool.Decides.{Decides-eqb}
 use Rattle.std.proofs.Math.Decide.{dec_lt}
 use Rattle.rc_base.specs.Prefix.{Cidr}
-use Rattle.rc_bgp.specs.Changes.{AreChanges}
+use Rattle.rc_bgp.specs.Changes.{AreChanges, AreChangesInside}
 use Rattle.rc_config.specs.declared.network.Network.{Network}
 use Rattle.rc_ospf.specs.declared.model.Internal.{Internal}
 use Rattle.rc_route.specs.Tables.{IsStateOf}
@@ -108,11 +108,11 @@ module _ (net : Network) (internal : Internal) (p : Progress) (at : IsUnderWay n
         within (inr same) = omega (arith, same, at.within)
 
 -- the last state is made from the one before
-pub last_is_next : (net : Network) (internal : Internal) (p : Progress) → IsProgress net internal p → 1 ≤ p.done → IsEarlier net internal p.last p.before p.changes
-last_is_next net internal p at some =
+pub last_is_next : (net : Network) (internal : Internal) (p : Progress) (inside : List (List Cidr)) → IsProgress net internal p → (1 ≤ p.done → AreChangesInside inside p.before p.last) → 1 ≤ p.done → IsEarlier net internal p.last p.before p.changes inside
+last_is_next net internal p inside at told_inside some =
     let more : p.done - 1 + 1 ≡ p.done = omega arith in
     let made = next_is net internal (p.done - 1) (next_state net internal p.before) p.before refl (at.before some) in
-    record { made = at.under_way.last ∙ ap (state_after net internal) (sym more) ∙ sym made; in_order = at.before_in_order; told = at.changes some }
+    record { made = at.under_way.last ∙ ap (state_after net internal) (sym more) ∙ sym made; in_order = at.before_in_order; told = at.changes some; told_inside = told_inside some }
 
 -- ---- a round is put together
 

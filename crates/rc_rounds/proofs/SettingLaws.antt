@@ -22,10 +22,11 @@ use Rattle.rc_rib.specs.declared.inputs.Inputs.{Inputs}
 use Rattle.rc_rounds.specs.Setting.{IsSetting}
 
 -- the state a round earlier and what changed since, where they are told
-pub told_earlier : (net : Network) (internal : Internal) (state : List RouterState) (o : Option Earlier) (has : Bool) (old : List RouterState) (changes : List (List Cidr))
-    → IfSome o (λ (e : Earlier). (has ≡ true) × (e.state.now ≡ old) × (e.changes.now ≡ changes)) → (has ≡ true → IsEarlier net internal state old changes) → IfSome o (λ (e : Earlier). IsEarlier net internal state e.state.now e.changes.now)
-told_earlier net internal state None has old changes told is = tt
-told_earlier net internal state (Some e) has old changes told is = subst (λ s. IsEarlier net internal state s e.changes.now) (sym told.1) (subst (IsEarlier net internal state old) (sym told.2) (is told.0))
+pub told_earlier : (net : Network) (internal : Internal) (state : List RouterState) (o : Option Earlier) (has : Bool) (old : List RouterState) (changes inside : List (List Cidr))
+    → IfSome o (λ (e : Earlier). (has ≡ true) × (e.state.now ≡ old) × (e.changes.now ≡ changes) × (e.inside.now ≡ inside)) → (has ≡ true → IsEarlier net internal state old changes inside) → IfSome o (λ (e : Earlier). IsEarlier net internal state e.state.now e.changes.now e.inside.now)
+told_earlier net internal state None has old changes inside told is = tt
+told_earlier net internal state (Some e) has old changes inside told is =
+    subst (λ s. IsEarlier net internal state s e.changes.now e.inside.now) (sym told.1) (subst (λ c. IsEarlier net internal state old c e.inside.now) (sym told.2) (subst (IsEarlier net internal state old changes) (sym told.3) (is told.0)))
 
 -- where no flag is set
 pub nobody_stayed : (net : Network) (old now : List RouterState) → HaveStayed net (record { routers = []; boundaries = false }) old now
@@ -36,23 +37,23 @@ nobody_stayed net old now = record { routers = none; boundaries = λ set. absurd
     none (suc s) set = absurd (cc)
 
 -- who knew the same after that round as before it
-pub told_stayed : (net : Network) (stayed : Stayed) (state : List RouterState) (o : Option Earlier) (has : Bool) (old : List RouterState) (changes : List (List Cidr))
-    → IfSome o (λ (e : Earlier). (has ≡ true) × (e.state.now ≡ old) × (e.changes.now ≡ changes)) → (has ≡ true → HaveStayed net stayed old state) → IfSome o (λ (e : Earlier). HaveStayed net stayed e.state.now state)
-told_stayed net stayed state None has old changes told have = tt
-told_stayed net stayed state (Some e) has old changes told have = subst (λ s. HaveStayed net stayed s state) (sym told.1) (have told.0)
+pub told_stayed : (net : Network) (stayed : Stayed) (state : List RouterState) (o : Option Earlier) (has : Bool) (old : List RouterState) (changes inside : List (List Cidr))
+    → IfSome o (λ (e : Earlier). (has ≡ true) × (e.state.now ≡ old) × (e.changes.now ≡ changes) × (e.inside.now ≡ inside)) → (has ≡ true → HaveStayed net stayed old state) → IfSome o (λ (e : Earlier). HaveStayed net stayed e.state.now state)
+told_stayed net stayed state None has old changes inside told have = tt
+told_stayed net stayed state (Some e) has old changes inside told have = subst (λ s. HaveStayed net stayed s state) (sym told.1) (have told.0)
 
 module _ (i : Inputs) (net : Network) (internal : Internal) (all : List (List Session)) (rows : List ExternalRow) (listed : List (Option (List Best))) (state : List RouterState)
     (same_net : i.network.now ≡ net) (same_internal : i.internal.now ≡ internal) (same_sessions : i.sessions.now ≡ all) (same_rows : i.externals.now ≡ rows) (same_listed : i.inside.now ≡ listed) (same_state : i.previous.now ≡ state) where
-  earlier_read : IfSome i.earlier (λ (e : Earlier). IsEarlier net internal state e.state.now e.changes.now) → IfSome i.earlier (λ (e : Earlier). IsEarlier i.network.now i.internal.now i.previous.now e.state.now e.changes.now)
+  earlier_read : IfSome i.earlier (λ (e : Earlier). IsEarlier net internal state e.state.now e.changes.now e.inside.now) → IfSome i.earlier (λ (e : Earlier). IsEarlier i.network.now i.internal.now i.previous.now e.state.now e.changes.now e.inside.now)
   earlier_read = by i.earlier
     where
-      by : (o : Option Earlier) → IfSome o (λ (e : Earlier). IsEarlier net internal state e.state.now e.changes.now) → IfSome o (λ (e : Earlier). IsEarlier i.network.now i.internal.now i.previous.now e.state.now e.changes.now)
+      by : (o : Option Earlier) → IfSome o (λ (e : Earlier). IsEarlier net internal state e.state.now e.changes.now e.inside.now) → IfSome o (λ (e : Earlier). IsEarlier i.network.now i.internal.now i.previous.now e.state.now e.changes.now e.inside.now)
       by None is = tt
       by (Some e) is =
-          subst (λ (n : Network). IsEarlier n i.internal.now i.previous.now e.state.now e.changes.now) (sym same_net)
-          (subst (λ (x : Internal). IsEarlier net x i.previous.now e.state.now e.changes.now) (sym same_internal) (subst (λ s. IsEarlier net internal s e.state.now e.changes.now) (sym same_state) is))
+          subst (λ (n : Network). IsEarlier n i.internal.now i.previous.now e.state.now e.changes.now e.inside.now) (sym same_net)
+          (subst (λ (x : Internal). IsEarlier net x i.previous.now e.state.now e.changes.now e.inside.now) (sym same_internal) (subst (λ s. IsEarlier net internal s e.state.now e.changes.now e.inside.now) (sym same_state) is))
 
-  pub are_inputs : IsSetting net internal all → IsStateOf (length net.routers) state → rows ≡ externals net state → IsByPrefix rows → listed ≡ told_inside all state → IfSome i.earlier (λ (e : Earlier). IsEarlier net internal state e.state.now e.changes.now) → AreInputs i
+  pub are_inputs : IsSetting net internal all → IsStateOf (length net.routers) state → rows ≡ externals net state → IsByPrefix rows → listed ≡ told_inside all state → IfSome i.earlier (λ (e : Earlier). IsEarlier net internal state e.state.now e.changes.now e.inside.now) → AreInputs i
   are_inputs s ordered made by_prefix told earlier = record {
     lawful = subst IsLawful (sym same_net) s.lawful;
     state = subst (λ (n : Network). IsStateOf (length n.routers) i.previous.now) (sym same_net) (subst (IsStateOf (length net.routers)) (sym same_state) ordered);

@@ -12,14 +12,14 @@ use Rattle.rc_rounds.specs.Setting.{IsSetting}
 use Rattle.rc_rounds.specs.declared.parts.Setting.{Setting}
 
 -- what no round changes; the state before, in order, what AS boundary routers send of it and what routers may tell inside of it; and
--- where there was a round earlier yet, the state from which that one came, and what changed since
+-- where there was a round earlier yet, the state from which that one came, and what changed since, and of that inside
 pub record AreRead (s : Setting) (inside : List (Option (List Best))) (read before : List RouterState) : Type 0 where
   pub setting : IsSetting s.network.now s.internal.now s.sessions.now
   pub state : IsStateOf (length s.network.now.routers) read
   pub externals : s.externals.now ≡ externals s.network.now read
   pub by_prefix : IsByPrefix s.externals.now
   pub listed : inside ≡ told_inside s.sessions.now read
-  pub earlier : s.has_earlier ≡ true → IsEarlier s.network.now s.internal.now read before s.changes.now
+  pub earlier : s.has_earlier ≡ true → IsEarlier s.network.now s.internal.now read before s.changes.now s.changes_inside.now
 
 -- the same, as workers hand it on, and who knew the same after that round as before it
 unfoldable pub IsReady : Setting → List (Option (List Best)) → Stayed → List RouterState → List RouterState → Type 0

@@ -17,6 +17,8 @@ pub(crate) struct Setting<'a> {
     pub(crate) has_earlier: bool,
     /// What changed in best paths since, where there was.
     pub(crate) changes: &'a Changes,
+    /// What of that changed in what internal peers may be told.
+    pub(crate) changes_inside: &'a Changes,
 }
 
 /// What a round makes of all routers, each of which it makes anew where something changed that the router reads.

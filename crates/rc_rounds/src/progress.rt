@@ -1,6 +1,6 @@
 //! What the rounds keep from one to the next.
 ghost use Rattle.std.specs.Prelude.{◌≡◌, ◌+◌, ◌≤◌, ◌<◌, ◌⊎◌, [], All, IfOk, MatchOption, length, if◌then◌else◌};
-ghost use Rattle.rc_bgp.specs.Changes.{AreChanges};
+ghost use Rattle.rc_bgp.specs.Changes.{AreChanges, AreChangesInside};
 ghost use Rattle.rc_config.specs.declared.network.Network.{Network as NetworkModel};
 ghost use Rattle.rc_rib.specs.Next as rib;
 ghost use Rattle.rc_outside.specs.Gate.{passage};
@@ -17,7 +17,7 @@ use crate::parts::{Fresh, Setting};
 use crate::round::{Round, empty_state, put_together};
 use crate::shares::next_shares;
 use rc_base::Items;
-use rc_bgp::{Changes, ConfiguredSessions, told_inside};
+use rc_bgp::{Changes, ConfiguredSessions, changed_inside, told_inside};
 use rc_config::Network;
 use rc_external::externals;
 use rc_ospf::Internal;
@@ -179,6 +179,24 @@ impl Progress {
         })
     }
 
+    /// What changed in the last round in what routers may tell inside, where two rounds are made.
+    fn changes_inside(
+        &self,
+        alloc: Global,
+        sessions: &ConfiguredSessions,
+    ) -> Result<Changes, AllocError>
+        requires changes { 1 ≤ self.now.done → AreChanges self.now.changes self.now.before self.now.last }
+        requires before { All IsRouterState self.now.before }
+        requires last { All IsRouterState self.now.last }
+        ensures { IfOk result (λ inside. 1 ≤ self.now.done → AreChangesInside inside self.now.before self.now.last) }
+    {
+        if self.done == 0 {
+            return Ok(Items::new(alloc));
+        }
+        let inside = changed_inside(alloc, sessions, &self.changes, &self.before, &self.last)?;
+        Ok(inside)
+    }
+
     /// What the next round makes anew; nothing where it changes nothing, as can be told without making it. Its number is the phase in which
     /// all its workers have passed the gate.
     pub fn next<R: Threads + Sync, G: Gate>(
@@ -201,6 +219,7 @@ impl Progress {
     {
         let externals = externals(alloc, net, &self.last)?;
         let inside = told_inside(alloc, sessions, &self.last)?;
+        let changes_inside = self.changes_inside(alloc, sessions)?;
         let setting = Setting {
             network: net,
             internal,
@@ -208,9 +227,10 @@ impl Progress {
             externals: &externals,
             has_earlier: self.done > 0,
             changes: &self.changes,
+            changes_inside: &changes_inside,
         };
         let phase = self.done + 1;
-        if setting.is_settled(&inside, &self.last, &self.before) {
+        if setting.is_settled(alloc, &inside, &self.last, &self.before)? {
             return Ok((Passed::in_turn(gate, phase, 0, workers), None));
         }
         let stayed = self.stayed(alloc, net)?;

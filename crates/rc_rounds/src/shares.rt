@@ -2,7 +2,7 @@
 //!
 //! All of them read the state before, which nobody changes, so nothing has to be locked; what they make stands in the order of the
 //! routers.
-ghost use Rattle.std.specs.Prelude.{◌≡◌, ◌≤◌, ◌<◌, IfOk, IfSome, IsTrue, length, true};
+ghost use Rattle.std.specs.Prelude.{◌≡◌, ◌≤◌, ◌<◌, IfOk, IfSome, length, true};
 ghost use Rattle.rc_rib.specs.Next.{next_state};
 ghost use Rattle.rc_rounds.specs.Parts.{AreRead, IsReady};
 ghost use Rattle.rc_outside.specs.Gate.{passage};
@@ -21,11 +21,20 @@ use std::alloc::{AllocError, Global};
 use std::thread::Threads;
 
 /// A state and what changed since, where there was a round earlier yet.
-fn earlier_of<'a>(has_earlier: bool, state: &'a State, changes: &'a Changes) -> Option<Earlier<'a>>
-    ensures { IfSome result (λ e. (has_earlier ≡ true) × (e.state.now ≡ state.now) × (e.changes.now ≡ changes.now)) }
+fn earlier_of<'a>(
+    has_earlier: bool,
+    state: &'a State,
+    changes: &'a Changes,
+    inside: &'a Changes,
+) -> Option<Earlier<'a>>
+    ensures { IfSome result (λ e. (has_earlier ≡ true) × (e.state.now ≡ state.now) × (e.changes.now ≡ changes.now) × (e.inside.now ≡ inside.now)) }
 {
     if has_earlier {
-        Some(Earlier { state, changes })
+        Some(Earlier {
+            state,
+            changes,
+            inside,
+        })
     } else {
         None
     }
@@ -68,9 +77,15 @@ pub(crate) trait Makes<B, I, S>: Sync {
 
 impl<'a> Setting<'a> {
     /// Whether the next round changes nothing, as can be told without making it.
-    pub fn is_settled(&self, inside: &Inside, read: &State, earlier: &State) -> bool
+    pub fn is_settled(
+        &self,
+        alloc: Global,
+        inside: &Inside,
+        read: &State,
+        earlier: &State,
+    ) -> Result<bool, AllocError>
         requires { AreRead self.now inside.now read.now earlier.now }
-        ensures { IsTrue result → next_state self.now.network.now self.now.internal.now read.now ≡ read.now }
+        ensures { IfOk result (λ is. is ≡ true → next_state self.now.network.now self.now.internal.now read.now ≡ read.now) }
     {
         let inputs = Inputs {
             network: self.network,
@@ -79,9 +94,9 @@ impl<'a> Setting<'a> {
             externals: self.externals,
             inside,
             previous: read,
-            earlier: earlier_of(self.has_earlier, earlier, self.changes),
+            earlier: earlier_of(self.has_earlier, earlier, self.changes, self.changes_inside),
         };
-        is_settled(&inputs)
+        is_settled(alloc, &inputs)
     }
 }
 
@@ -122,7 +137,7 @@ impl<'a> Makes<State, Inside, Stayed> for Setting<'a> {
             externals: self.externals,
             inside,
             previous: read,
-            earlier: earlier_of(self.has_earlier, earlier, self.changes),
+            earlier: earlier_of(self.has_earlier, earlier, self.changes, self.changes_inside),
         };
         table_anew(alloc, &inputs, stayed, RouterId::at(router))
     }

@@ -2,11 +2,10 @@ use Rattle.std.proofs.Common.{◌≡◌, drop}
 use Rattle.std.specs.List.{flat_map, fold}
 use Rattle.std.specs.BTreeSet.{keys, insert_key}
 use Rattle.rc_base.specs.Prefix.{prefix_cmp}
-use Rattle.rc_bgp.specs.Changes.{changes_of}
-use Rattle.rc_bgp_session.specs.declared.session.Session.{Session}
+use Rattle.rc_bgp.specs.Changes.{changes_over}
 use Rattle.rc_bgp.proofs.round_paths.add_changes.Given as goal
 
 abbrev pub invariant-loop-session : goal.invariant-loop-session
 invariant-loop-session l =
-    fold (insert_key prefix_cmp) (keys l.set) (flat_map (λ (s : Session). changes_of l.changes s.sender) (drop l.session-index l.sessions))
-    ≡ fold (insert_key prefix_cmp) (keys l.initial.set) (flat_map (λ (s : Session). changes_of l.changes s.sender) l.sessions)
+    fold (insert_key prefix_cmp) (keys l.set) (flat_map (changes_over l.changes l.inside) (drop l.session-index l.sessions))
+    ≡ fold (insert_key prefix_cmp) (keys l.initial.set) (flat_map (changes_over l.changes l.inside) l.sessions)

@@ -11,7 +11,7 @@ returns-in-Some c =
     let net = i.network.now in
     let state = i.previous.now in
     let stayed = c.args.stayed.now in
-    let earlier = subst (λ o. IfSome o (λ (e : Earlier). IsEarlier net i.internal.now state e.state.now e.changes.now)) c.in-Some.is c.requires.inputs.earlier in
+    let earlier = subst (λ o. IfSome o (λ (e : Earlier). IsEarlier net i.internal.now state e.state.now e.changes.now e.inside.now)) c.in-Some.is c.requires.inputs.earlier in
     let have = subst (λ o. IfSome o (λ (e : Earlier). HaveStayed net stayed e.state.now state)) c.in-Some.is c.requires.stayed in
     some_weaker _ _ c.unmoved.result
     (λ s both. (both.1, once_more net i.internal.now i.sessions.now c.args.router stayed c.in-Some._earlier.state.now state s.now c.requires.inputs.sessions c.requires.router have earlier.made both.0 both.1, both.0.itself)) c.unmoved.ensures

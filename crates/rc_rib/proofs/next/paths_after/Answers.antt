@@ -10,5 +10,5 @@ renewed_paths-requires-clause-known c =
     let net = inputs.network.now in
     let internal = inputs.internal.now in
     let state = inputs.previous.now in
-    let is = subst (λ o. IfSome o (λ (e : Earlier). IsEarlier net internal state e.state.now e.changes.now)) c.in-Some.is c.requires.inputs.earlier in
+    let is = subst (λ o. IfSome o (λ (e : Earlier). IsEarlier net internal state e.state.now e.changes.now e.inside.now)) c.in-Some.is c.requires.inputs.earlier in
     known_paths net internal inputs.sessions.now c.args.router c.requires.router c.requires.inputs.sessions state c.in-Some.earlier.state.now is.made

@@ -10,6 +10,15 @@ externals-requires g c = c.requires.made.under_way.in_order.each
 pub told_inside-requires : goal.told_inside-requires
 told_inside-requires g c = c.requires.made.under_way.in_order.each
 
+pub changes_inside-requires-clause-changes : goal.changes_inside-requires-clause-changes
+changes_inside-requires-clause-changes g c = c.requires.made.changes
+
+pub changes_inside-requires-clause-before : goal.changes_inside-requires-clause-before
+changes_inside-requires-clause-before g c = c.requires.made.before_in_order
+
+pub changes_inside-requires-clause-last : goal.changes_inside-requires-clause-last
+changes_inside-requires-clause-last g c = c.requires.made.under_way.in_order.each
+
 pub is_settled-requires : goal.is_settled-requires
 is_settled-requires g c = record {
   setting = c.requires.setting;
@@ -17,7 +26,7 @@ is_settled-requires g c = record {
   externals = c.in_ok-externals.ensures.value;
   by_prefix = c.in_ok-externals.ensures.in_order;
   listed = c.in_ok-inside.ensures;
-  earlier = λ has. last_is_next c.args.net.now c.args.internal.now c.args.self.now c.requires.made (ltb-true 0 c.args.self.now.done has);
+  earlier = λ has. last_is_next c.args.net.now c.args.internal.now c.args.self.now c.in_ok-changes_inside.changes_inside c.requires.made c.in_ok-changes_inside.ensures (ltb-true 0 c.args.self.now.done has);
 }
 
 pub stayed-requires-clause-few : goal.stayed-requires-clause-few
@@ -41,7 +50,7 @@ next_shares-passed-requires-clause-ready g c κs within = (
     externals = c.in_ok-externals.ensures.value;
     by_prefix = c.in_ok-externals.ensures.in_order;
     listed = c.in_ok-inside.ensures;
-    earlier = λ has. last_is_next c.args.net.now c.args.internal.now c.args.self.now c.requires.made (ltb-true 0 c.args.self.now.done has);
+    earlier = λ has. last_is_next c.args.net.now c.args.internal.now c.args.self.now c.in_ok-changes_inside.changes_inside c.requires.made c.in_ok-changes_inside.ensures (ltb-true 0 c.args.self.now.done has);
   },
   λ has. c.in_ok-stayed.ensures.have,
 )
