@@ -146,13 +146,22 @@ def repository():
         yield root
 
 
+SIGNALS = (signal.SIGTERM, signal.SIGINT, signal.SIGHUP)
+
+
+def take_signals():
+    """A script that runs in the background has them ignored, and so would all that it starts."""
+    for number in SIGNALS:
+        signal.signal(number, signal.SIG_DFL)
+
+
 class LauncherTest(CompanionTest):
     """The launcher's whole way, but for the prover."""
 
     def start(self, root, *words, **environment):
         given = {"PATH": f"{root}/kit/bin:{os.environ['PATH']}", "KIT": f"{root}/kit", "TMPDIR": f"{root}/tmp", "PROVED": VERDICT.format("")}
         how = {"stdin": subprocess.DEVNULL, "stdout": subprocess.PIPE, "stderr": subprocess.PIPE, "text": True}
-        return subprocess.Popen([root / "x/netcheck", *words], env={**os.environ, "CALLED": "write", **given, **environment}, **how)
+        return subprocess.Popen([root / "x/netcheck", *words], env={**os.environ, "CALLED": "write", **given, **environment}, preexec_fn=take_signals, **how)
 
     def launch(self, root, *words, **environment):
         started = self.start(root, *words, **environment)
@@ -253,7 +262,7 @@ class LauncherTest(CompanionTest):
             self.assertEqual(self.asked(root), ["low", "low", "mid", "netcheck", "side"])
 
     def test_signals(self):
-        for number in (signal.SIGTERM, signal.SIGINT, signal.SIGHUP):
+        for number in SIGNALS:
             with repository() as root:
                 (root / "x/crates/mid/src/slow").write_text("3600.5")
                 started = self.start(root)
