@@ -9,8 +9,8 @@ mod ColumnLaws
 mod SplitLaws
 mod PartLaws
 mod AdjacencyLaws
-mod ListingLaws
-mod PrefixLaws
+mod SegmentLaws
+mod RowLaws
 mod SplitFits
 mod HopOrderLaws
 mod CostLaws

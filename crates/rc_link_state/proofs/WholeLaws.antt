@@ -68,7 +68,7 @@ apart_is a b apart = by (a == b) refl
 not_same : (a b : ℕ) → not (a == b) ≡ true → ¬ (a ≡ b)
 not_same a b is same = let e : (a == b) ≡ true = eq-eqb a b same in let f : (a == b) ≡ false = not_true (a == b) is in absurd (let g : true ≡ false = sym e ∙ f in cc)
 
-eq_equal : (o : Ordering) → is_eq o ≡ true → o ≡ Equal
+pub eq_equal : (o : Ordering) → is_eq o ≡ true → o ≡ Equal
 eq_equal Less e = absurd (cc e)
 eq_equal Equal e = refl
 eq_equal Greater e = absurd (cc e)

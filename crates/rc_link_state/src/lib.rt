@@ -5,15 +5,16 @@
 //! each router the cost of its least walks to another one inside an area and the first hops of all of them, over the steps between
 //! each two interfaces that are adjacent (`adjacencies`), whichever of them a transit network stands for.
 //!
-//! The crate goes one way: interfaces by prefix (`by_prefix`), which of them stand together (`whole`), transit networks and the steps that
-//! no network stands for, of a prefix (`parts`) and of all (`split`), the graph of an area with its networks as nodes (`graph`), what is
-//! left from each node towards a router, and the hops that lead there (`leading`, in order by `hops`), and the table of both (`table`).
+//! The crate goes one way: interfaces by what they have to agree on to be adjacent (`segment`, `by_segment`), which of them stand together
+//! (`whole`), transit networks and the steps that no network stands for, of a segment (`parts`) and of all (`split`), the graph of an area
+//! with its networks as nodes (`graph`), what is left from each node towards a router, and the hops that lead there (`leading`, in order by
+//! `hops`), and the table of both (`table`).
 #![tactic(auto)]
 
 mod area;
 mod areas;
-mod by_prefix;
 mod by_router;
+mod by_segment;
 mod columns;
 mod costs;
 mod end;
@@ -22,6 +23,7 @@ mod hops;
 mod inside;
 mod leading;
 mod parts;
+mod segment;
 mod split;
 mod step;
 mod table;

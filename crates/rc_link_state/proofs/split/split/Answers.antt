@@ -1,7 +1,7 @@
 use Rattle.std.specs.Prelude.{Result, Ok, Err, IfOk}
 use Rattle.rc_link_state.specs.Whole.{AreSplit}
 use Rattle.rc_link_state.specs.declared.parts.Split.{Split}
-use Rattle.rc_link_state.proofs.PrefixLaws.{rows_split}
+use Rattle.rc_link_state.proofs.RowLaws.{rows_split}
 use Rattle.rc_link_state.proofs.split.split.Goals as goal
 
 both_ok : {T E : Type 0} (r : Result T E) (P Q R : T → Type 0) → ((x : T) → P x → Q x → R x) → IfOk r P → IfOk r Q → IfOk r R
