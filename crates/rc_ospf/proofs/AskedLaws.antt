@@ -1,6 +1,6 @@
 -- Where no router is a border router and none an AS boundary router, the least walks to where an address is offered decide the routes at it.
 use Rattle.std.proofs.Common.{refl, ◌≡◌, ap, sym, ◌∙◌, subst, ℕ, zero, suc, ◌+◌, ◌<◌, inl, inr, Bool, true, false, cond, List, [], ◌∷◌, ◌++◌, length, map, Option, Some, None, arith}
-use Rattle.std.specs.Prelude.{◌==◌, ◌&&◌, ◌||◌}
+use Rattle.std.specs.Prelude.{◌==◌, ◌&&◌, ◌||◌, IfOk, Result, Ok, Err}
 use Rattle.std.specs.List.{fold, filter_map, list_any, cons_option, range_with_len, AllByRecursion}
 use Rattle.std.specs.Option.{option_map, option_or}
 use Rattle.std.specs.Ordering.{nat_cmp}
@@ -12,7 +12,7 @@ use Rattle.rc_ospf.specs.Areas.{OspfRouter, AreOspfRouters, is_offered_by, inter
 use Rattle.rc_ospf.specs.Asked.{AnswerAlike, AreEndsAt, AnswerOver}
 use Rattle.rc_ospf.specs.Boundaries as B
 use Rattle.rc_ospf.specs.BoundaryForms.{target_of, boundary_paths}
-use Rattle.rc_ospf.specs.Internal.{adverts_in, holding}
+use Rattle.rc_ospf.specs.Internal.{steps_of, adverts_in, holding}
 use Rattle.rc_ospf.specs.Ends.{is_end, end_of, with_end, with_ends, ends_of}
 use Rattle.rc_ospf.specs.Members.{known, reach_of, areas_at, areas_in, is_border_at, AreMembersOver}
 use Rattle.rc_ospf.specs.Offered.{Offered}
@@ -23,11 +23,13 @@ use Rattle.rc_link_state.specs.Towards.{IsPathTo}
 use Rattle.rc_link_state.specs.Walks.{LeastWalks, IsReach}
 use Rattle.rc_ospf.specs.Ways.{way_to, way_over, best_way}
 use Rattle.rc_link_state.specs.declared.step.Step.{Step}
+use Rattle.rc_topology.specs.Topology.{Topology}
 use Rattle.rc_ospf.specs.declared.grouping.Row.{Row}
+use Rattle.rc_ospf.specs.declared.known_walks.KnownWalks.{KnownWalks}
 use Rattle.rc_link_state.specs.declared.end.End.{End}
 use Rattle.rc_link_state.specs.declared.table.AreaWalks.{AreaWalks}
 use Rattle.rc_ospf.specs.declared.member.Areas.{Areas}
-use Rattle.rc_ospf.specs.declared.member.Member.{Member}
+use Rattle.rc_ospf.specs.declared.ospf_router.Member.{Member}
 use Rattle.rc_ospf.specs.declared.member.StubAreas.TheVariants.{Kept, LeftOut}
 use Rattle.rc_ospf.specs.declared.offer.Advert.{Advert}
 use Rattle.rc_ospf.proofs.Existence.{routers_in, are_routers, as_many}
@@ -35,6 +37,7 @@ use Rattle.rc_ospf.proofs.HoldingLaws.{found_holding}
 use Rattle.rc_ospf.proofs.MemberLaws.{AreMembers, ospf_routers, all_left_out, as_many_members, border_over, knows_over, members_over}
 use Rattle.rc_link_state.proofs.Members.{In, all_in}
 use Rattle.rc_ospf.proofs.OneAnswer.{one_least}
+use Rattle.rc_ospf.proofs.StayLaws.{all_stay, some_stay}
 use Rattle.rc_ospf.proofs.SummaryLaws.{borders, border_known, no_summaries}
 use Rattle.rc_ospf.specs.Wanted.{nothing}
 use Rattle.rc_ospf.proofs.TableLaws.{boundaries_are}
@@ -245,11 +248,14 @@ all_alike net steps asked ms long each = record {
 -- ---- what a table tells
 
 -- all least walks
-pub over_all : (net : Network) (steps these : List Step) (asked : Option ℕ) (walks : List AreaWalks) (n : ℕ) → n ≡ length net.routers → these ≡ steps → AreWalksOf these n walks → AnswerOver net steps asked walks
-over_all net steps these asked walks n same are of = record {
-  alike = λ ms over. all_alike net steps asked ms (as_many_members net walks ms over)
-      (members_over net steps walks ms (λ k lt. subst (λ ss. IsReach ss k (reach_in walks k)) are (of.reach k (omega (arith, lt, same)))) over);
-}
+pub over_all : (net : Network) (links : Topology) (these : List Step) (asked : Option ℕ) (walks : KnownWalks) (n : ℕ) → n ≡ length net.routers → these ≡ steps_of net links → AreWalksOf these n walks.table →
+    AnswerOver net (steps_of net links) asked walks
+over_all net links these asked walks n same are of =
+    let each : (k : ℕ) → k < length net.routers → IsReach (steps_of net links) k (reach_in walks.table k) = λ k lt. subst (λ ss. IsReach ss k (reach_in walks.table k)) are (of.reach k (omega (arith, lt, same))) in
+    record {
+      alike = λ ms over. all_alike net (steps_of net links) asked ms (as_many_members net walks.table ms over) (members_over net (steps_of net links) walks.table ms each over);
+      stay = all_stay net links walks each;
+    }
 
 members_to_from : (net : Network) (steps : List Step) (ends : List End) (walks : List AreaWalks) (r n : ℕ) (ms : List Member) →
     ((k : ℕ) → k < r + n → AllByRecursion (λ (e : End). IsPathTo steps k e.area e.router (reach_in walks k e.area e.router)) ends) →
@@ -267,12 +273,17 @@ members_to_from net steps ends walks r (suc n) (m ∷ ms) each are = (
       (subst (λ k. AreMembersOver walks (suc r) (map (areas_at net) (range_with_len k n)) ms) (let e : r + 1 ≡ suc r = omega arith in e) are.1),
 )
 
+pub both_ok : {T E : Type 0} (r : Result T E) (P Q R : T → Type 0) → ((x : T) → P x → Q x → R x) → IfOk r P → IfOk r Q → IfOk r R
+both_ok (Ok x) P Q R both p q = both x p q
+both_ok (Err e) P Q R both p q = tt
+
 -- those to where the address is offered
-pub over_ends : (net : Network) (steps these : List Step) (address : ℕ) (ends : List End) (walks : List AreaWalks) (n : ℕ) → n ≡ length net.routers → these ≡ steps → AreEndsAt net address ends → AreWalksTo these n ends walks →
-    AnswerOver net steps (Some address) walks
-over_ends net steps these address ends walks n same are at to = record {
-  alike = λ ms over. few_alike net steps address ends ms at.offered (as_many_members net walks ms over)
-      (members_to_from net steps ends walks 0 (length net.routers) ms
-      (λ k lt. subst (λ ss. AllByRecursion (λ (e : End). IsPathTo ss k e.area e.router (reach_in walks k e.area e.router)) ends) are (to.reach k (omega (arith, lt, same)))) over)
-      (border_over walks 0 (areas_in net) ms over ∙ at.no_border) at.no_boundary;
+pub over_ends : (net : Network) (steps these : List Step) (address : ℕ) (ends : List End) (walks : KnownWalks) (n : ℕ) → n ≡ length net.routers → these ≡ steps → AreEndsAt net address ends → walks.are_all ≡ false →
+    AreWalksTo these n ends walks.table → AnswerOver net steps (Some address) walks
+over_ends net steps these address ends walks n same are at some to = record {
+  alike = λ ms over. few_alike net steps address ends ms at.offered (as_many_members net walks.table ms over)
+      (members_to_from net steps ends walks.table 0 (length net.routers) ms
+      (λ k lt. subst (λ ss. AllByRecursion (λ (e : End). IsPathTo ss k e.area e.router (reach_in walks.table k e.area e.router)) ends) are (to.reach k (omega (arith, lt, same)))) over)
+      (border_over walks.table 0 (areas_in net) ms over ∙ at.no_border) at.no_boundary;
+  stay = some_stay walks some 0 (areas_in net);
 }

@@ -25,27 +25,31 @@ at_most x = grind (arith, common_steps)
 made_fit : (n : ℕ) (p : OspfProcess) (id : IfId) (name : List ℕ) (block : Interface) (primary : IfAddr) (area : ℕ) → id.router < n → IsFit n (ospf_interface p id name block primary area)
 made_fit n p id name block primary area lt = record { router = lt; least = at_least _; most = at_most _ }
 
-fit_on : (n : ℕ) (entries : Entries) (p : OspfProcess) (id : IfId) (e : List ℕ × Interface) (i : OspfInterface) → id.router < n → interface_on entries p id e ≡ Some i → IsFit n i
-fit_on n entries p id e i lt is = by_down (is_down entries e.0) is
-  where
-    by_area : (primary : IfAddr) (area : Option ℕ) → option_map (ospf_interface p id e.0 e.1 primary) area ≡ Some i → IsFit n i
-    by_area primary None is = absurd (cc)
-    by_area primary (Some area) is = subst (IsFit n) (let same : ospf_interface p id e.0 e.1 primary area ≡ i = cc in same) (made_fit n p id e.0 e.1 primary area lt)
+-- what holds of all that are made for an id holds of the one there
+module _ (P : OspfInterface → Type 0) (p : OspfProcess) where
+  made_on : (entries : Entries) (id : IfId) → ((name : List ℕ) (block : Interface) (primary : IfAddr) (area : ℕ) → P (ospf_interface p id name block primary area)) →
+      (e : List ℕ × Interface) (i : OspfInterface) → interface_on entries p id e ≡ Some i → P i
+  made_on entries id each e i is = by_down (is_down entries e.0) is
+    where
+      by_area : (primary : IfAddr) (area : Option ℕ) → option_map (ospf_interface p id e.0 e.1 primary) area ≡ Some i → P i
+      by_area primary None is = absurd (cc)
+      by_area primary (Some area) is = subst P (let same : ospf_interface p id e.0 e.1 primary area ≡ i = cc in same) (each e.0 e.1 primary area)
 
-    by_primary : (primary : Option IfAddr) → option_and_then (λ (a : IfAddr). option_map (ospf_interface p id e.0 e.1 a) (area_of p e.1.ospf a.addr)) primary ≡ Some i → IsFit n i
-    by_primary None is = absurd (cc)
-    by_primary (Some a) is = by_area a (area_of p e.1.ospf a.addr) is
+      by_primary : (primary : Option IfAddr) → option_and_then (λ (a : IfAddr). option_map (ospf_interface p id e.0 e.1 a) (area_of p e.1.ospf a.addr)) primary ≡ Some i → P i
+      by_primary None is = absurd (cc)
+      by_primary (Some a) is = by_area a (area_of p e.1.ospf a.addr) is
 
-    by_down : (b : Bool) → cond b None (option_and_then (λ (a : IfAddr). option_map (ospf_interface p id e.0 e.1 a) (area_of p e.1.ospf a.addr)) e.1.primary) ≡ Some i → IsFit n i
-    by_down true is = absurd (cc)
-    by_down false is = by_primary e.1.primary is
+      by_down : (b : Bool) → cond b None (option_and_then (λ (a : IfAddr). option_map (ospf_interface p id e.0 e.1 a) (area_of p e.1.ospf a.addr)) e.1.primary) ≡ Some i → P i
+      by_down true is = absurd (cc)
+      by_down false is = by_primary e.1.primary is
 
-fit_at : (n r : ℕ) (entries : Entries) (p : OspfProcess) (index : ℕ) (i : OspfInterface) → r < n → interface_at r entries p index ≡ Some i → IsFit n i
-fit_at n r entries p index i lt is = by (slice_get entries index) is
-  where
-    by : (o : Option (List ℕ × Interface)) → option_and_then (interface_on entries p (record { router = r; index = index })) o ≡ Some i → IsFit n i
-    by None is = absurd (cc)
-    by (Some e) is = fit_on n entries p (record { router = r; index = index }) e i lt is
+  pub made_at : (r : ℕ) (entries : Entries) (index : ℕ) → ((name : List ℕ) (block : Interface) (primary : IfAddr) (area : ℕ) → P (ospf_interface p (record { router = r; index = index }) name block primary area)) →
+      (i : OspfInterface) → interface_at r entries p index ≡ Some i → P i
+  made_at r entries index each i is = by (slice_get entries index) is
+    where
+      by : (o : Option (List ℕ × Interface)) → option_and_then (interface_on entries p (record { router = r; index = index })) o ≡ Some i → P i
+      by None is = absurd (cc)
+      by (Some e) is = made_on entries (record { router = r; index = index }) each e i is
 
 all_filter_map : {X Y : Type 0} (P : Y → Type 0) (f : X → Option Y) → ((x : X) (y : Y) → f x ≡ Some y → P y) → (xs : List X) → AllByRecursion P (filter_map f xs)
 all_filter_map P f each [] = tt
@@ -74,7 +78,7 @@ interfaces_fit net = all_flat_map (IsFit (length net.routers)) (λ r. r < length
     of_process : (r : ℕ) (file : RouterText) → r < length net.routers → (o : Option OspfProcess) →
         AllByRecursion (IsFit (length net.routers)) (option_map_or (λ (p : OspfProcess). filter_map (interface_at r file.interfaces p) (range_with_len 0 (length file.interfaces))) o [])
     of_process r file lt None = tt
-    of_process r file lt (Some p) = all_filter_map (IsFit (length net.routers)) (interface_at r file.interfaces p) (λ index i is. fit_at (length net.routers) r file.interfaces p index i lt is) (range_with_len 0 (length file.interfaces))
+    of_process r file lt (Some p) = all_filter_map (IsFit (length net.routers)) (interface_at r file.interfaces p) (λ index i is. made_at (IsFit (length net.routers)) p r file.interfaces index (λ name block primary area. made_fit (length net.routers) p (record { router = r; index = index }) name block primary area lt) i is) (range_with_len 0 (length file.interfaces))
 
     of_file : (r : ℕ) → r < length net.routers → (o : Option RouterText) → AllByRecursion (IsFit (length net.routers)) (option_map_or (interfaces_of r) o [])
     of_file r lt None = tt

@@ -12,7 +12,7 @@ use Rattle.rc_ospf.specs.Internal.{holding, tables_asked}
 use Rattle.rc_ospf.specs.Members.{known}
 use Rattle.rc_ospf.specs.Routes.{with_default, offered_rows, internal_route, internal_routes, rows_asked, rows_holding}
 use Rattle.rc_ospf.specs.declared.grouping.Row.{Row}
-use Rattle.rc_ospf.specs.declared.member.Member.{Member}
+use Rattle.rc_ospf.specs.declared.ospf_router.Member.{Member}
 use Rattle.rc_ospf.specs.declared.member.StubAreas.TheVariants.{Kept}
 use Rattle.rc_ospf.specs.declared.offer.Advert.{Advert}
 use Rattle.rc_ospf.proofs.FitLaws.{all_of}

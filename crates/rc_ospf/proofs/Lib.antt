@@ -3,6 +3,7 @@ mod WayLaws
 mod BestLaws
 mod ListLaws
 mod FitLaws
+mod StayLaws
 mod MemberLaws
 mod TableLaws
 mod SortedLaws

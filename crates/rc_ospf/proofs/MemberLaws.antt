@@ -14,7 +14,7 @@ use Rattle.rc_ospf.specs.Areas.{OspfRouter, AreOspfRouters, without_stubs}
 use Rattle.rc_ospf.specs.Members.{areas_at, areas_in, reach_of, known, is_border_at, are_border, IsMemberOver, AreMembersOver}
 use Rattle.rc_ospf.specs.RouterAreas.{open_areas}
 use Rattle.rc_ospf.specs.declared.member.Areas.{Areas}
-use Rattle.rc_ospf.specs.declared.member.Member.{Member}
+use Rattle.rc_ospf.specs.declared.ospf_router.Member.{Member}
 use Rattle.rc_ospf.specs.declared.member.StubAreas.TheVariants.{Kept, LeftOut}
 use Rattle.rc_ospf.specs.declared.router_area.RouterArea.{RouterArea}
 

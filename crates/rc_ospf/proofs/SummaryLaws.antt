@@ -8,7 +8,7 @@ use Rattle.rc_ospf.specs.Members.{known, is_border_at}
 use Rattle.rc_ospf.specs.Offered.{Offered}
 use Rattle.rc_ospf.specs.RouterAreas.{is_outside, is_border}
 use Rattle.rc_ospf.specs.Wanted.{nothing}
-use Rattle.rc_ospf.specs.declared.member.Member.{Member}
+use Rattle.rc_ospf.specs.declared.ospf_router.Member.{Member}
 use Rattle.rc_ospf.specs.declared.member.StubAreas.{StubAreas}
 use Rattle.rc_ospf.specs.declared.summaries.Summaries.{Summaries}
 

@@ -9,7 +9,7 @@ use Rattle.rc_ospf.specs.ByPrefix.{destination_of, destination_route}
 use Rattle.rc_ospf.specs.Members.{known}
 use Rattle.rc_ospf.specs.Routes.{with_default, offered_rows, internal_route, internal_routes}
 use Rattle.rc_link_state.specs.declared.step.Step.{Step}
-use Rattle.rc_ospf.specs.declared.member.Member.{Member}
+use Rattle.rc_ospf.specs.declared.ospf_router.Member.{Member}
 use Rattle.rc_ospf.specs.declared.member.StubAreas.TheVariants.{Kept, LeftOut}
 use Rattle.rc_ospf.specs.declared.offer.Advert.{Advert}
 use Rattle.rc_ospf.proofs.MemberLaws.{AreMembers, left_out}

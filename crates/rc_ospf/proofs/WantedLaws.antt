@@ -23,7 +23,7 @@ use Rattle.rc_ospf.specs.Ways.{best_way, way_over, way_to}
 use Rattle.rc_ospf.specs.declared.boundary.Target.{Target}
 use Rattle.rc_ospf.specs.declared.destination.Destination.{Destination}
 use Rattle.rc_ospf.specs.declared.grouping.Row.{Row}
-use Rattle.rc_ospf.specs.declared.member.Member.{Member}
+use Rattle.rc_ospf.specs.declared.ospf_router.Member.{Member}
 use Rattle.rc_ospf.specs.declared.member.StubAreas.{StubAreas}
 use Rattle.rc_ospf.specs.declared.member.StubAreas.TheVariants.{Kept, LeftOut}
 use Rattle.rc_ospf.specs.declared.summaries.Summaries.{Summaries}

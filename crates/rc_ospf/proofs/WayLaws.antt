@@ -1,6 +1,6 @@
 -- The best ways by the least cost and the hops at it.
 use Rattle.std.proofs.Common.{refl, ◌≡◌, ap, sym, ◌∙◌, ℕ, ◌+◌, ◌==◌, Bool, true, false, cond, List, [], ◌∷◌, ◌++◌, filter, Option, Some, None, MatchOption}
-use Rattle.std.specs.Prelude.{not}
+use Rattle.std.specs.Prelude.{not, ◌&&◌, is_some}
 use Rattle.std.specs.List.{filter_map, cons_option, flat_map}
 use Rattle.std.specs.Option.{option_map, option_map_or, option_or}
 use Rattle.std.specs.Ordering.{eq_by_cmp, nat_cmp}
@@ -12,7 +12,7 @@ use Rattle.rc_ospf.specs.RouterAreas.{is_in}
 use Rattle.rc_link_state.specs.Tables.{cost_of as walks_cost}
 use Rattle.rc_link_state.specs.Walks.{LeastWalks, Reach}
 use Rattle.rc_ospf.specs.Ways.{way_over, way_to, best_way, cost_of}
-use Rattle.rc_ospf.specs.ByPrefix.{path_to_offer, ways_of, hops_for, summary_offers}
+use Rattle.rc_ospf.specs.ByPrefix.{path_to_offer, ways_of, cost_to, hops_for, summary_offers}
 use Rattle.rc_ospf.specs.declared.summaries.Summaries.{Summaries}
 
 -- the best of some ways has their least cost, and the hops of all that cost as much
@@ -77,3 +77,21 @@ inter_by m s b offers is are =
 pub cost_over : (p : Option LeastWalks) (o c : ℕ) → walks_cost p ≡ Some c → option_map (λ (e : LeastWalks). e.cost + o) p ≡ Some (c + o)
 cost_over None o c is = absurd (cc)
 cost_over (Some e) o c is = let same : e.cost ≡ c = cc in ap (λ k. Some (k + o)) same
+
+-- ---- where no walks lead
+
+pub no_cost : (reach : Reach) (others : Bool) (r : ℕ) (o : Offered) → is_some (reach o.area o.router) ≡ false → None ≡ cost_to reach others r o
+no_cost reach others r o none = by (others && is_offered_by r o) (reach o.area o.router) none
+  where
+    by : (b : Bool) (p : Option LeastWalks) → is_some p ≡ false → None ≡ option_map (λ (e : LeastWalks). e.cost + o.cost) (cond b None p)
+    by true p none = refl
+    by false None none = refl
+    by false (Some e) none = absurd (cc)
+
+pub no_hops : (reach : Reach) (others : Bool) (r cost : ℕ) (o : Offered) → is_some (reach o.area o.router) ≡ false → hops_for reach others r cost o ≡ []
+no_hops reach others r cost o none = by (others && is_offered_by r o) (reach o.area o.router) none
+  where
+    by : (b : Bool) (p : Option LeastWalks) → is_some p ≡ false → option_map_or (λ (e : LeastWalks). cond (e.cost + o.cost == cost) e.hops []) (cond b None p) [] ≡ []
+    by true p none = refl
+    by false None none = refl
+    by false (Some e) none = absurd (cc)

@@ -7,7 +7,7 @@ use Rattle.rc_ospf.specs.BoundaryPaths.{BoundaryPath}
 use Rattle.rc_ospf.specs.Boundaries.{boundary_offers, boundary_path_by}
 use Rattle.rc_ospf.specs.Members.{known}
 use Rattle.rc_ospf.specs.declared.boundary.Target.{Target}
-use Rattle.rc_ospf.specs.declared.member.Member.{Member}
+use Rattle.rc_ospf.specs.declared.ospf_router.Member.{Member}
 use Rattle.rc_ospf.specs.declared.member.StubAreas.TheVariants.{LeftOut}
 
 abbrev pub target_of : Network → List OspfRouter → ℕ → Target

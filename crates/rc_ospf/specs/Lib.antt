@@ -20,5 +20,6 @@ pub mod AreaRows
 pub mod SummaryRows
 pub mod BoundaryRows
 pub mod Ends
+pub mod Stays
 pub mod Asked
 pub mod Shares

@@ -12,7 +12,7 @@ use Rattle.rc_ospf.specs.ByPrefix.{destination_route}
 use Rattle.rc_ospf.specs.RouterAreas.{router_areas, open_areas, is_border}
 use Rattle.rc_ospf.specs.declared.destination.Destination.{Destination}
 use Rattle.rc_ospf.specs.declared.member.Areas.{Areas}
-use Rattle.rc_ospf.specs.declared.member.Member.{Member}
+use Rattle.rc_ospf.specs.declared.ospf_router.Member.{Member}
 use Rattle.rc_ospf.specs.declared.member.StubAreas.{StubAreas}
 use Rattle.rc_ospf.specs.declared.member.StubAreas.TheVariants.{Kept, LeftOut}
 use Rattle.rc_ospf.specs.declared.router_area.RouterArea.{RouterArea}
@@ -26,7 +26,7 @@ areas_in net = map (areas_at net) (router_ids net)
 
 -- the least walks from it
 abbrev pub reach_of : Member → Reach
-reach_of m = reach_in m.walks.now m.router
+reach_of m = reach_in m.walks.now.table m.router
 
 abbrev pub areas_known : StubAreas → Member → List RouterArea
 areas_known Kept m = m.areas.now.all
@@ -39,7 +39,7 @@ known stubs m = record { router = m.router; areas = areas_known stubs m; reach =
 pub record IsMemberOver (table : List AreaWalks) (r : ℕ) (own : Areas) (m : Member) : Type 0 where
   pub router : m.router ≡ r
   pub areas : m.areas.now ≡ own
-  pub walks : m.walks.now ≡ table
+  pub walks : m.walks.now.table ≡ table
 
 -- they are those from one on
 abbrev pub AreMembersOver : List AreaWalks → ℕ → List Areas → List Member → Type 0

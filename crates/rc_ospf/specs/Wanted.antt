@@ -12,7 +12,7 @@ use Rattle.rc_ospf.specs.Ways.{best_way}
 use Rattle.rc_ospf.specs.declared.boundary.Target.{Target}
 use Rattle.rc_ospf.specs.declared.destination.Destination.{Destination}
 use Rattle.rc_ospf.specs.declared.grouping.Row.{Row}
-use Rattle.rc_ospf.specs.declared.member.Member.{Member}
+use Rattle.rc_ospf.specs.declared.ospf_router.Member.{Member}
 use Rattle.rc_ospf.specs.declared.summaries.Summaries.{Summaries}
 
 abbrev pub is_reached : Reach → Offered → Bool

@@ -13,11 +13,12 @@ use crate::boundary::has_boundary;
 use crate::destination::rows_wanted;
 use crate::ends::ends_of;
 use crate::grouping::{Row, offers_by_prefix};
+use crate::known_walks::KnownWalks;
 use crate::member::Areas;
 use crate::router_area::is_border;
 use rc_base::{Addr, Items};
 use rc_config::Network;
-use rc_link_state::{End, WalkTable};
+use rc_link_state::End;
 use rc_ospf_interfaces::OspfInterface;
 use rc_topology::Links;
 use std::alloc::{AllocError, Global};
@@ -87,7 +88,7 @@ fn walks_at<R: Threads + Sync>(
     areas: &[Areas],
     address: Addr,
     workers: u32,
-) -> Result<WalkTable, AllocError>
+) -> Result<KnownWalks, AllocError>
     requires few { length net.now.routers ≤ 512 }
     requires interfaces { interfaces.now ≡ interface.ospf_interfaces net.now }
     requires areas { areas.now ≡ areas_in net.now }
@@ -98,9 +99,9 @@ fn walks_at<R: Threads + Sync>(
     match found {
         Some(ends) => {
             let ends = ends.as_slice();
-            WalkTable::to_ends(rt, alloc, routers, links, interfaces, ends, workers)
+            KnownWalks::to_ends(rt, alloc, routers, links, interfaces, ends, workers)
         }
-        None => WalkTable::to_all(rt, alloc, routers, links, interfaces, workers),
+        None => KnownWalks::to_all(rt, alloc, routers, links, interfaces, workers),
     }
 }
 
@@ -114,7 +115,7 @@ pub(crate) fn walks<R: Threads + Sync>(
     areas: &[Areas],
     asked: &Option<Addr>,
     workers: u32,
-) -> Result<WalkTable, AllocError>
+) -> Result<KnownWalks, AllocError>
     requires few { length net.now.routers ≤ 512 }
     requires interfaces { interfaces.now ≡ interface.ospf_interfaces net.now }
     requires areas { areas.now ≡ areas_in net.now }
@@ -122,6 +123,6 @@ pub(crate) fn walks<R: Threads + Sync>(
 {
     match asked {
         Some(address) => walks_at(rt, alloc, net, links, interfaces, areas, *address, workers),
-        None => WalkTable::to_all(rt, alloc, net.routers.len(), links, interfaces, workers),
+        None => KnownWalks::to_all(rt, alloc, net.routers.len(), links, interfaces, workers),
     }
 }

@@ -12,7 +12,7 @@ ghost use Rattle.rc_route.specs.Ways as ways;
 ghost use Rattle.rc_route.specs.Ways.{best_of};
 
 use crate::Offer;
-use crate::member::Member;
+use crate::ospf_router::Member;
 use crate::way::{cost_to, hops_at, hops_for};
 use rc_route::Hops;
 use std::alloc::{AllocError, Global};
@@ -52,6 +52,7 @@ fn better_of(known: Best, cost: u32, at: usize) -> Best
 }
 
 /// The best way known, and one to a later offer at this cost, where there is one.
+#[inline]
 fn cheaper(cost: Option<u32>, best: Option<Best>, at: usize) -> Option<Best>
     requires best { IfSome best (λ b. b.cost < 2 ^ 27) }
     requires cost { IfSome cost (λ c. c < 2 ^ 27) }

@@ -16,7 +16,8 @@ ghost use Rattle.rc_ospf.specs.declared.member.StubAreas.TheVariants.{LeftOut};
 ghost use Rattle.rc_route.specs.Ways.{best_of};
 
 use crate::best::{best_hops, best_way};
-use crate::member::{Member, StubAreas};
+use crate::member::StubAreas;
+use crate::ospf_router::Member;
 use crate::router_area::{is_in_backbone, router_areas};
 use crate::routes::summary_offers;
 use crate::shares::{Makes, made_by};

@@ -7,7 +7,8 @@ ghost use Rattle.rc_ospf.specs.Shares.{AreMade};
 ghost use Rattle.rc_ospf.specs.Wanted.{IsDestination};
 ghost use Rattle.rc_ospf.specs.declared.member.StubAreas.TheVariants.{Kept};
 
-use crate::member::{Member, StubAreas};
+use crate::member::StubAreas;
+use crate::ospf_router::Member;
 use crate::shares::{Makes, made_by};
 use crate::summaries::{Summaries, has_border, summaries_wanted};
 use crate::{Offer, Row};

@@ -6,9 +6,9 @@
 //! `one_internal`).
 //!
 //! The crate goes one way: the areas of routers (`router_area`), what their interfaces offer (`advertising`, `offer`, `grouping`),
-//! routers as the others have them (`member`), with the least walks that an address asks for (`ends`, `asked`), ways to what is offered
-//! and the best of them (`way`, `best`), what border routers summarise of a destination (`summaries`), and what each router makes of it
-//! (`routes`, `boundary`). What is made of each router by itself is made by workers at once (`shares`).
+//! routers as the others have them (`ospf_router`, `member`), with the least walks (`known_walks`) that an address asks for (`ends`,
+//! `asked`), ways to what is offered and the best of them (`way`, `best`), what border routers summarise of a destination (`summaries`),
+//! and what each router makes of it (`routes`, `boundary`). What is made of each router by itself is made by workers at once (`shares`).
 #![tactic(auto)]
 
 mod advertising;
@@ -18,9 +18,11 @@ mod boundary;
 mod destination;
 mod ends;
 mod grouping;
+mod known_walks;
 mod member;
 mod model;
 mod offer;
+mod ospf_router;
 mod own;
 mod router_area;
 mod routes;

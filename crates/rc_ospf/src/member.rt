@@ -1,17 +1,19 @@
-//! Routers as OSPF has them: their areas, and the least walks from them.
-ghost use Rattle.std.specs.Prelude.{◌≡◌, ◌<◌, ◌^◌, IfOk, IfSome};
+//! What is known of routers: their areas, and the least walks from them.
+ghost use Rattle.std.specs.Prelude.{◌≡◌, ◌<◌, ◌^◌, true, false, IfOk, IfSome, is_some};
 ghost use Rattle.std.specs.List.{range_with_len};
 ghost use Rattle.std.specs.List.Sorted.{IsStrictlySortedBy};
 ghost use Rattle.rc_link_state.specs.Tables.{cost_of, hops_of};
 ghost use Rattle.rc_ospf.specs.Members.{areas_in, areas_known, reach_of, AreMembersOver};
+ghost use Rattle.rc_ospf.specs.Stays.{StayFrom};
 ghost use Rattle.rc_route.specs.Hops.{hop_cmp};
 
 use crate::RouterArea;
-use crate::router_area::{open_areas, router_areas};
+use crate::known_walks::KnownWalks;
+use crate::ospf_router::Member;
+use crate::router_area::{is_in, open_areas, router_areas};
 use crate::shares::{Makes, made_by, with_room};
 use rc_base::{Items, RouterId};
 use rc_config::Network;
-use rc_link_state::WalkTable;
 use rc_route::Hops;
 use std::alloc::{AllocError, Global};
 use std::thread::Threads;
@@ -33,15 +35,6 @@ impl Drop for Areas {
     }
 }
 
-/// A router, as the others have it.
-#[derive(Clone, Copy)]
-pub(crate) struct Member<'a> {
-    pub router: RouterId,
-    pub areas: &'a Areas,
-    /// The least walks of the network.
-    pub walks: &'a WalkTable,
-}
-
 /// Whether stub areas count. Routes from outside of the AS aren't sent into them (RFC 2328, section 3.6), so that no path to
 /// an AS boundary router leads through one.
 #[derive(Clone, Copy)]
@@ -51,12 +44,24 @@ pub(crate) enum StubAreas {
 }
 
 impl Member<'_> {
+    /// Whether a router is another one and this one isn't in the area, where that tells that no walk leads there. So nothing has to be
+    /// looked up for it, and most of what is offered between areas is offered in areas where a router isn't.
+    #[inline]
+    pub fn is_apart(&self, area: u32, router: RouterId) -> bool
+        ensures { result ≡ true → is_some (reach_of self.now area router) ≡ false }
+    {
+        if is_in(area, self.areas.all.as_slice()) {
+            return false;
+        }
+        self.walks.are_all && router != self.router
+    }
+
     /// The cost of the least walks to a router inside an area, below 2^26, where there are any.
     pub fn cost_to(&self, area: u32, router: RouterId) -> Option<u32>
         ensures value { result ≡ cost_of (reach_of self.now area router) }
         ensures small { IfSome result (λ c. c < 2 ^ 26) }
     {
-        self.walks.cost(self.router, area, router)
+        self.walks.table.cost(self.router, area, router)
     }
 
     /// The first hops of the least walks to a router inside an area, in order; none where there are no walks. It errs only where
@@ -65,7 +70,7 @@ impl Member<'_> {
         ensures value { IfOk result (λ hops. hops ≡ hops_of (reach_of self.now area router)) }
         ensures in_order { IfOk result (λ hops. IsStrictlySortedBy hop_cmp hops) }
     {
-        self.walks.hops(alloc, self.router, area, router)
+        self.walks.table.hops(alloc, self.router, area, router)
     }
 
     /// Its areas, by rising area.
@@ -135,9 +140,10 @@ pub(crate) fn areas_of_routers<R: Threads + Sync>(
 pub(crate) fn members<'a>(
     alloc: Global,
     areas: &'a [Areas],
-    walks: &'a WalkTable,
+    walks: &'a KnownWalks,
 ) -> Result<Items<Member<'a>>, AllocError>
-    ensures { IfOk result (AreMembersOver walks.now 0 areas.now) }
+    requires { StayFrom walks.now 0 areas.now }
+    ensures { IfOk result (AreMembersOver walks.now.table 0 areas.now) }
 {
     let mut members = with_room(alloc, areas.len())?;
     for (index, own) in areas.iter().enumerate() {

@@ -126,16 +126,24 @@ pub(crate) fn open_areas(
     Ok(left)
 }
 
-/// Whether some area is the backbone.
-pub(crate) fn is_in_backbone(areas: &[RouterArea]) -> bool
-    ensures { result ≡ spec.is_in 0 areas.now }
+/// Whether an area is among some.
+#[inline]
+pub(crate) fn is_in(area: u32, areas: &[RouterArea]) -> bool
+    ensures { result ≡ spec.is_in area areas.now }
 {
-    for area in areas {
-        if area.area == 0 {
+    for own in areas {
+        if own.area == area {
             return true;
         }
     }
     false
+}
+
+/// Whether some area is the backbone.
+pub(crate) fn is_in_backbone(areas: &[RouterArea]) -> bool
+    ensures { result ≡ spec.is_in 0 areas.now }
+{
+    is_in(0, areas)
 }
 
 /// Whether some area is another one than the backbone.

@@ -9,7 +9,8 @@ ghost use Rattle.rc_ospf.specs.RouterAreas.{is_outside};
 ghost use Rattle.rc_ospf.specs.Wanted.{has_inside, lacks_inside, nothing, Suffice};
 
 use crate::best::best_cost;
-use crate::member::{Member, StubAreas};
+use crate::member::StubAreas;
+use crate::ospf_router::Member;
 use crate::router_area::is_border;
 use crate::{Offer, RouterArea};
 use rc_base::{Items, RouterId};

@@ -18,14 +18,15 @@ ghost use Rattle.rc_ospf_interfaces.specs.Interfaces as interface;
 use crate::asked::walks;
 use crate::boundary::{Target, paths_to, targets};
 use crate::destination::{Destination, destinations};
-use crate::member::{Areas, Member, areas_of_routers, members, routers_below};
+use crate::known_walks::KnownWalks;
+use crate::member::{Areas, areas_of_routers, members, routers_below};
+use crate::ospf_router::Member;
 use crate::own::own_prefixes;
 use crate::routes::routes_of;
 use crate::shares::{Makes, made_by};
 use crate::{Boundary, Internal, OspfInterface, adverts, offers_by_prefix};
 use rc_base::{Addr, Items, Prefix, RouterId};
 use rc_config::Network;
-use rc_link_state::WalkTable;
 use rc_ospf_interfaces::ospf_interfaces;
 use rc_route::Table;
 use rc_topology::Links;
@@ -226,7 +227,7 @@ fn internal_over<R: Threads + Sync>(
     links: Links,
     interfaces: &[OspfInterface],
     areas: &[Areas],
-    walks: &WalkTable,
+    walks: &KnownWalks,
     asked: Option<Addr>,
     workers: u32,
 ) -> Result<Internal, AllocError>

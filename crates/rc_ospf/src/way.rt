@@ -9,16 +9,21 @@ ghost use Rattle.rc_route.specs.Hops.{hop_cmp};
 ghost use Rattle.rc_route.specs.Ways as spec;
 
 use crate::Offer;
-use crate::member::Member;
+use crate::ospf_router::Member;
 use rc_link_state::{add_hops, put_in_order};
 use rc_route::Hops;
 use std::alloc::{AllocError, Global};
 
 /// The cost of the way to an offer, where there is one. Where only offers of others count, there is none to one of the router itself.
+#[inline]
+#[tactic(auto, using(crate::proofs::WayLaws::no_cost))]
 pub(crate) fn cost_to(member: &Member, others: bool, offer: &Offer) -> Option<u32>
     ensures value { result ≡ cost_to (reach_of member.now) others member.now.router offer.now }
     ensures small { IfSome result (λ c. c < 2 ^ 27) }
 {
+    if member.is_apart(offer.area(), offer.router()) {
+        return None;
+    }
     if others && offer.router() == member.router {
         return None;
     }
@@ -53,6 +58,7 @@ pub(crate) fn hops_for(
 }
 
 /// Puts the hops of the way to an offer at the end, where it costs so much.
+#[tactic(auto, using(crate::proofs::WayLaws::no_hops))]
 fn add_hops_for(
     hops: &mut Hops,
     alloc: Global,
@@ -63,6 +69,9 @@ fn add_hops_for(
 ) -> Result<(), AllocError>
     ensures { OnOk result (hops.new ≡ hops.old ++ hops_for (reach_of member.now) others member.now.router cost offer.now) }
 {
+    if member.is_apart(offer.area(), offer.router()) {
+        return Ok(());
+    }
     let more = hops_for(alloc, member, others, cost, offer)?;
     add_hops(hops, alloc, more.as_slice())
 }

@@ -15,4 +15,4 @@ returns-in-None g c =
     let net = c.args.net.now in
     let links = c.args.links.now in
     IfOk-weaker c.to_all.result _ (AnswerOver net (steps_of net links) c.args.asked.now)
-    (λ walks of. over_all net (steps_of net links) _ c.args.asked.now walks c.len.result c.len.ensures (ap (adjacencies links) c.requires.interfaces) of) c.to_all.ensures
+    (λ walks of. over_all net links _ c.args.asked.now walks c.len.result c.len.ensures (ap (adjacencies links) c.requires.interfaces) of) c.to_all.ensures
