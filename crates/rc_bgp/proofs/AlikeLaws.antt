@@ -1,8 +1,8 @@
 -- Where a router reads alike, its best paths change by those of its senders alone.
 use Rattle.std.proofs.Common.{refl, ◌≡◌, ◌⊎◌, inl, inr, ap, sym, ◌∙◌, subst, ℕ, ◌+◌, ◌<◌, ◌==◌, length, get_or, drop, Bool, true, false, not, cond, ◌&&◌, ◌||◌, List, [], ◌∷◌, ◌++◌, Option, Some, None, IfSome, option_and_then, unwrap_or}
-use Rattle.std.specs.List.{AllByRecursion, cons_option, filter_map, flat_map, list_any, slice_get}
+use Rattle.std.specs.List.{AllByRecursion, cons_option, filter, filter_map, flat_map, list_any, slice_get}
 use Rattle.std.specs.List.Sorted.{IsStrictlySortedBy}
-use Rattle.std.specs.Option.{option_map, option_map_or, option_or}
+use Rattle.std.specs.Option.{option_map, option_or}
 use Rattle.std.proofs.lemmas.Bool.{or_parts}
 use Rattle.rc_base.specs.Communities.{has_community}
 use Rattle.rc_base.specs.Lists.{in_order}
@@ -12,6 +12,8 @@ use Rattle.rc_bgp_decide.specs.Decision.{is_internal, is_originated}
 use Rattle.rc_config.specs.declared.bgp.Neighbor.{Neighbor}
 use Rattle.rc_config.specs.declared.network.Network.{Network}
 use Rattle.rc_config.specs.declared.router_text.RouterText.{RouterText}
+use Rattle.rc_pieces.specs.Editing.{SaysAsEdited}
+use Rattle.rc_pieces.specs.declared.edit.Edit.{Edit}
 use Rattle.rc_route.specs.Tables.{IsBestList, best_for}
 use Rattle.rc_route.specs.declared.best.Best.{Best}
 use Rattle.rc_route.specs.declared.path.BgpPath.{BgpPath}
@@ -19,12 +21,12 @@ use Rattle.rc_route.specs.declared.route.Route.{Route}
 use Rattle.rc_route.specs.declared.state.RouterState.{RouterState}
 use Rattle.rc_topology.proofs.ListLaws.{all_filter, any_append, filter_agree, found_has}
 use Rattle.rc_bgp.specs.Candidates.{advertised_best, advertised_default, best_at, best_among, best_with_further, best_paths, path_heard, own_at, prefixes_of, prefixes_seen, reachable, sender_prefixes}
-use Rattle.rc_bgp.specs.Changes.{AreChanges, AreChangesInside, AreUpdated, CoversChange, IsHeardAlike, IsToldAlike, NothingChanged, ReadsAlike, changes_of, changes_over, told_of, updated_paths, changed_at_senders}
+use Rattle.rc_bgp.specs.Changes.{AreChanges, AreChangesInside, AreUpdated, CoversChange, IsHeardAlike, IsToldAlike, NothingChanged, ReadsAlike, asn_of, changes_of, changes_over, may_hear, may_hear_either, news_over, told_of, updated_paths, changed_at_senders}
 use Rattle.rc_bgp.specs.Maximum.{maximum_of}
 use Rattle.rc_config.specs.declared.bgp.MaximumPaths.{MaximumPaths}
 use Rattle.rc_bgp.specs.RouterStates.{paths_of, table_of}
 use Rattle.rc_bgp.specs.Telling.{AreListed, may_tell, offered}
-use Rattle.rc_bgp.specs.Updating.{updated}
+use Rattle.rc_bgp.specs.Updating.{AreDecided, updated}
 use Rattle.rc_bgp.specs.AllOriginated.{own_paths}
 use Rattle.rc_bgp_session.specs.Passing.{as_received, as_sent, default_path, export, exported, import, imported, is_withheld, mapped_path, next_hop_over, no_advertise, no_export, no_export_subconfed, originated_default, passes_list, weight_of, with_med}
 use Rattle.rc_bgp.specs.Reaching.{metric_to}
@@ -33,8 +35,11 @@ use Rattle.rc_bgp_session.specs.declared.session.Session.{Session}
 use Rattle.rc_bgp.proofs.BestLaws.{among_has, best_in_order}
 use Rattle.rc_bgp.proofs.ChangeLaws.{covered, none_best_for, none_named}
 use Rattle.rc_bgp.proofs.ListLaws.{all_of_filter, first_left}
+use Rattle.rc_bgp.proofs.DecidedLaws.{edited_is_updated, stays_listed}
 use Rattle.rc_bgp.proofs.ListedLaws.{at_made, at_updated, same_lists, up_updated}
+use Rattle.rc_bgp.proofs.LoopLaws.{nothing_taken, same_taken}
 use Rattle.rc_bgp.proofs.PartLaws.{Each, ask_each, either_each, map_each, mapped_each, none_each, or_each, some_each, then_each}
+use Rattle.rc_bgp.proofs.PrefixLaws.{left_out}
 use Rattle.rc_bgp.proofs.WithheldLaws.{none_exported}
 
 abbrev best_prefix : Best → Cidr
@@ -125,10 +130,14 @@ module _ (s : Session) (t u : List Route) (metric : metric_to t s.sender_address
     reached_alike None known = refl
     reached_alike (Some x) known = ap (option_map (λ metric. record x { igp_metric = metric })) (known x refl)
 
-    pub heard_alike : (old now : List RouterState) (p : Cidr) → ArePassedAlike (best_for (paths_of now s.sender) p) → sent (best_for (paths_of old s.sender) p) ≡ sent (best_for (paths_of now s.sender) p)
+    -- what is taken of a best path of the sender
+    abbrev pub taken : Cidr → Option Best → Option BgpPath
+    taken p o = option_and_then (import net s) (offered_of p (sent o))
+
+    pub heard_alike : (old now : List RouterState) (p : Cidr) → ArePassedAlike (best_for (paths_of now s.sender) p) → taken p (best_for (paths_of old s.sender) p) ≡ taken p (best_for (paths_of now s.sender) p)
         → path_heard net old t s p ≡ path_heard net now u s p
     heard_alike old now p known same =
-        ap (λ o. option_and_then (reachable t) (option_and_then (import net s) (offered_of p o))) same
+        ap (option_and_then (reachable t)) same
         ∙ reached_alike (option_and_then (import net s) (offered_of p (sent (best_for (paths_of now s.sender) p)))) (taken_alike p (best_for (paths_of now s.sender) p) known)
 
     -- over an internal session goes what internal peers may be told
@@ -155,13 +164,13 @@ pub told_alike : (t u : List Route) (all : List (Option (List Best))) (now : Lis
     → AllByRecursion (IsToldAlike t u) paths → AllByRecursion (IsToldAlike t u) (may_tell (paths_of now s.sender))
 told_alike t u all now s paths listed is inside alike =
     at (slice_get all s.sender) (listed.each s.sender)
-    (subst (AllByRecursion (IsToldAlike t u)) (is ∙ ap (λ b. cond b (paths_of now s.sender) (option_map_or (λ l. unwrap_or l (paths_of now s.sender)) (slice_get all s.sender) (paths_of now s.sender))) inside) alike)
+    (subst (AllByRecursion (IsToldAlike t u)) (is ∙ ap (λ b. unwrap_or (cond b None (unwrap_or (slice_get all s.sender) None)) (paths_of now s.sender)) inside) alike)
   where
     whole : AllByRecursion (IsToldAlike t u) (paths_of now s.sender) → AllByRecursion (IsToldAlike t u) (may_tell (paths_of now s.sender))
     whole = all_filter (IsToldAlike t u) (λ (b : Best). not (is_internal b.path.source)) (paths_of now s.sender)
 
     at : (o : Option (Option (List Best))) → IfSome o (λ l. IfSome l (λ xs. xs ≡ may_tell (paths_of now s.sender)))
-        → AllByRecursion (IsToldAlike t u) (option_map_or (λ l. unwrap_or l (paths_of now s.sender)) o (paths_of now s.sender)) → AllByRecursion (IsToldAlike t u) (may_tell (paths_of now s.sender))
+        → AllByRecursion (IsToldAlike t u) (unwrap_or (unwrap_or o None) (paths_of now s.sender)) → AllByRecursion (IsToldAlike t u) (may_tell (paths_of now s.sender))
     at None is alike = whole alike
     at (Some None) is alike = whole alike
     at (Some (Some xs)) is alike = subst (AllByRecursion (IsToldAlike t u)) is alike
@@ -203,30 +212,41 @@ module _ (net : Network) (old : List RouterState) where
       let others = or_parts (list_any (same_prefix p) (flat_map prefixes_of own)) (list_any (same_prefix p) (flat_map (sender_prefixes old) ss)) (sym (any_append (same_prefix p) (flat_map prefixes_of own) (flat_map (sender_prefixes old) ss)) ∙ parts.1) in
       ap (best_with_further most) (λ i. none_own own p others.0 i ++ none_heard table ss p parts.0 others.1 i)
 
-module _ (net : Network) (sessions : List (List Session)) (r : ℕ) (changes inside : List (List Cidr)) (now : List RouterState) where
+-- what senders may tell anew stands in order
+pub news_in_order : (net : Network) (old now : List RouterState) (changes inside : List (List Cidr)) (up : List Session) (ps : List Cidr) → ps ≡ changed_at_senders net old now changes inside up → IsStrictlySortedBy prefix_cmp ps
+news_in_order net old now changes inside up ps is = subst (IsStrictlySortedBy prefix_cmp) (sym is) (in_order-sorted prefix_cmp prefix_cmp_total (flat_map (news_over net old now changes inside) up))
+
+module _ (net : Network) (sessions : List (List Session)) (r : ℕ) (now : List RouterState) (ps : List Cidr) (ordered : IsStrictlySortedBy prefix_cmp ps) where
   keeps : (p : Cidr) (b : Best) → best_at net sessions now r p ≡ Some b → b.path.prefix ≡ p
   keeps p = among_has net now p (maximum_of net r) (table_of now r) (own_paths net (table_of now r) r) (up_sessions sessions now r)
 
-  ordered : IsStrictlySortedBy prefix_cmp (changed_at_senders changes inside (up_sessions sessions now r))
-  ordered = in_order-sorted prefix_cmp prefix_cmp_total (flat_map (changes_over changes inside) (up_sessions sessions now r))
-
   -- what is updated, from its parts
-  pub of_parts : (most : MaximumPaths) (table : List Route) (own : List (List BgpPath)) (up : List Session) (known paths : List Best) (ps : List Cidr) → most ≡ maximum_of net r → table ≡ table_of now r → own ≡ own_paths net (table_of now r) r → up ≡ up_sessions sessions now r
-      → known ≡ paths_of now r → ps ≡ changed_at_senders changes inside (up_sessions sessions now r) → paths ≡ updated best_prefix (best_among net now most table own up) known ps → paths ≡ updated_paths net sessions changes inside now r
-  of_parts most table own up known paths ps m a b c d e is = is ∙ (λ i. updated best_prefix (best_among net now (m i) (a i) (b i) (c i)) (d i) (e i))
+  of_parts : (most : MaximumPaths) (table : List Route) (own : List (List BgpPath)) (up : List Session) (known paths : List Best) → most ≡ maximum_of net r → table ≡ table_of now r → own ≡ own_paths net (table_of now r) r → up ≡ up_sessions sessions now r
+      → known ≡ paths_of now r → paths ≡ updated best_prefix (best_among net now most table own up) known ps → paths ≡ updated_paths net sessions now r ps
+  of_parts most table own up known paths m a b c d is = is ∙ (λ i. updated best_prefix (best_among net now (m i) (a i) (b i) (c i)) (d i) ps)
 
-  -- what is updated is in order; at the prefixes that changed at senders it says what is best now, and at others what is known
-  pub updated_in_order : IsBestList (paths_of now r) → (paths : List Best) → paths ≡ updated_paths net sessions changes inside now r → IsBestList paths
-  updated_in_order up paths is = subst IsBestList (sym is) (up_updated best_prefix (best_at net sessions now r) keeps (changed_at_senders changes inside (up_sessions sessions now r)) ordered (paths_of now r) up)
+  -- what is decided at some prefixes makes of what is known what is updated
+  pub decided_updates : (most : MaximumPaths) (table : List Route) (own : List (List BgpPath)) (up : List Session) (known paths : List Best) (changed : List Cidr) (edits : List (Edit Best)) → most ≡ maximum_of net r → table ≡ table_of now r → own ≡ own_paths net (table_of now r) r → up ≡ up_sessions sessions now r
+      → known ≡ paths_of now r → IsBestList known → AreDecided best_prefix (best_among net now most table own up) known ps changed edits → SaysAsEdited best_prefix known edits paths
+      → AreUpdated net sessions now r ps paths changed
+  decided_updates most table own up known paths changed edits m a b c d in_order decided edited =
+      let f = best_among net now most table own up in
+      let has = λ (p : Cidr). among_has net now p most table own up in
+      record {
+        value = of_parts most table own up known paths m a b c d (edited_is_updated best_prefix f known ps has changed edits decided paths edited in_order ordered);
+        told = record { each = λ p here none. ap (λ xs. best_for xs p) (sym d) ∙ stays_listed best_prefix f known ps has changed edits decided paths edited p none };
+      }
 
-  says_updated : (paths : List Best) → paths ≡ updated_paths net sessions changes inside now r → (p : Cidr)
-      → best_for paths p ≡ cond (list_any (same_prefix p) (changed_at_senders changes inside (up_sessions sessions now r))) (best_at net sessions now r p) (best_for (paths_of now r) p)
-  says_updated paths is p = ap (λ l. best_for l p) is ∙ at_updated best_prefix (best_at net sessions now r) keeps (changed_at_senders changes inside (up_sessions sessions now r)) ordered (paths_of now r) p
+  -- what is updated is in order; at those prefixes it says what is best now, and at others what is known
+  updated_in_order : IsBestList (paths_of now r) → (paths : List Best) → paths ≡ updated_paths net sessions now r ps → IsBestList paths
+  updated_in_order up paths is = subst IsBestList (sym is) (up_updated best_prefix (best_at net sessions now r) keeps ps ordered (paths_of now r) up)
 
-  pub updated_covered : (paths : List Best) (changed : List Cidr) → AreUpdated net sessions changes inside now r paths changed → CoversChange changed (paths_of now r) paths
+  says_updated : (paths : List Best) → paths ≡ updated_paths net sessions now r ps → (p : Cidr) → best_for paths p ≡ cond (list_any (same_prefix p) ps) (best_at net sessions now r p) (best_for (paths_of now r) p)
+  says_updated paths is p = ap (λ l. best_for l p) is ∙ at_updated best_prefix (best_at net sessions now r) keeps ps ordered (paths_of now r) p
+
+  pub updated_covered : (paths : List Best) (changed : List Cidr) → AreUpdated net sessions now r ps paths changed → CoversChange changed (paths_of now r) paths
   updated_covered paths changed updated =
-      covered (changed_at_senders changes inside (up_sessions sessions now r)) changed (paths_of now r) paths
-      (λ p none. sym (says_updated paths updated.value p ∙ ap (λ b. cond b (best_at net sessions now r p) (best_for (paths_of now r) p)) none)) updated.told
+      covered ps changed (paths_of now r) paths (λ p none. sym (says_updated paths updated.value p ∙ ap (λ b. cond b (best_at net sessions now r p) (best_for (paths_of now r) p)) none)) updated.told
 
 module _ (net : Network) (sessions : List (List Session)) (r : ℕ) where
   -- at every prefix the best paths say what is best there
@@ -251,46 +271,62 @@ module _ (net : Network) (sessions : List (List Session)) (r : ℕ) where
     same_up : up_sessions sessions old r ≡ up_sessions sessions now r
     same_up = filter_agree (is_up old) (is_up now) (sessions_of sessions r) (ups_alike (sessions_of sessions r) alike.heard)
 
-    -- over a session goes the same for a prefix at which nothing changed over it
-    goes_alike : (p : Cidr) (s : Session) (heard : IsHeardAlike r old now s) → list_any (same_prefix p) (changes_over changes inside s) ≡ false
-        → sent s (table_of old r) (table_of now r) heard.metric net (best_for (paths_of old s.sender) p) ≡ sent s (table_of old r) (table_of now r) heard.metric net (best_for (paths_of now s.sender) p)
-    goes_alike p s heard none = by s.is_external refl none
+    -- over a session the same is taken for a prefix at which nothing changed over it, and for one at which nothing is taken, before or now
+    taken_alike_at : (p : Cidr) (s : Session) (heard : IsHeardAlike r old now s) → list_any (same_prefix p) (news_over net old now changes inside s) ≡ false
+        → taken s (table_of old r) (table_of now r) heard.metric net p (best_for (paths_of old s.sender) p) ≡ taken s (table_of old r) (table_of now r) heard.metric net p (best_for (paths_of now s.sender) p)
+    taken_alike_at p s heard none = among (list_any (same_prefix p) (changes_over changes inside s)) refl
       where
-        by : (e : Bool) → s.is_external ≡ e → list_any (same_prefix p) (cond e (changes_of changes s.sender) (changes_of inside s.sender)) ≡ false
+        same_sent : (e : Bool) → s.is_external ≡ e → list_any (same_prefix p) (cond e (changes_of changes s.sender) (changes_of inside s.sender)) ≡ false
             → sent s (table_of old r) (table_of now r) heard.metric net (best_for (paths_of old s.sender) p) ≡ sent s (table_of old r) (table_of now r) heard.metric net (best_for (paths_of now s.sender) p)
-        by true e none = ap (sent s (table_of old r) (table_of now r) heard.metric net) ((told.each s.sender).elsewhere p none)
-        by false e none = told_alike_sent s (table_of old r) (table_of now r) heard.metric net e (best_for (paths_of old s.sender) p) (best_for (paths_of now s.sender) p) ((told_inside.each s.sender).elsewhere p none)
+        same_sent true e none = ap (sent s (table_of old r) (table_of now r) heard.metric net) ((told.each s.sender).elsewhere p none)
+        same_sent false e none = told_alike_sent s (table_of old r) (table_of now r) heard.metric net e (best_for (paths_of old s.sender) p) (best_for (paths_of now s.sender) p) ((told_inside.each s.sender).elsewhere p none)
 
-    all_heard : (p : Cidr) (ss : List Session) → AllByRecursion (IsHeardAlike r old now) ss → list_any (same_prefix p) (flat_map (changes_over changes inside) ss) ≡ false
+        among : (b : Bool) → list_any (same_prefix p) (changes_over changes inside s) ≡ b
+            → taken s (table_of old r) (table_of now r) heard.metric net p (best_for (paths_of old s.sender) p) ≡ taken s (table_of old r) (table_of now r) heard.metric net p (best_for (paths_of now s.sender) p)
+        among false there = ap (λ o. option_and_then (import net s) (offered_of s (table_of old r) (table_of now r) heard.metric net p o)) (same_sent s.is_external refl there)
+        among true here =
+            let parts = or_parts (may_hear (asn_of net s.receiver) (paths_of now s.sender) p) (may_hear (asn_of net s.receiver) (paths_of old s.sender) p)
+            (left_out (may_hear_either (asn_of net s.receiver) (paths_of old s.sender) (paths_of now s.sender)) p (changes_over changes inside s) here none) in
+            same_taken net s p _ _ (nothing_taken net s (paths_of old s.sender) p parts.1) (nothing_taken net s (paths_of now s.sender) p parts.0)
+
+    all_heard : (p : Cidr) (ss : List Session) → AllByRecursion (IsHeardAlike r old now) ss → list_any (same_prefix p) (flat_map (news_over net old now changes inside) ss) ≡ false
         → filter_map (λ s. path_heard net old (table_of old r) s p) ss ≡ filter_map (λ s. path_heard net now (table_of now r) s p) ss
     all_heard p [] all none = refl
     all_heard p (s ∷ ss) all none =
-        let parts = or_parts (list_any (same_prefix p) (changes_over changes inside s)) (list_any (same_prefix p) (flat_map (changes_over changes inside) ss))
-        (sym (any_append (same_prefix p) (changes_over changes inside s) (flat_map (changes_over changes inside) ss)) ∙ none) in
-        let here = heard_alike s (table_of old r) (table_of now r) all.0.metric net old now p (passed_alike s (table_of old r) (table_of now r) all.0.metric net (paths_of now s.sender) p all.0.next_hops) (goes_alike p s all.0 parts.0) in
+        let parts = or_parts (list_any (same_prefix p) (news_over net old now changes inside s)) (list_any (same_prefix p) (flat_map (news_over net old now changes inside) ss))
+        (sym (any_append (same_prefix p) (news_over net old now changes inside s) (flat_map (news_over net old now changes inside) ss)) ∙ none) in
+        let here = heard_alike s (table_of old r) (table_of now r) all.0.metric net old now p (passed_alike s (table_of old r) (table_of now r) all.0.metric net (paths_of now s.sender) p all.0.next_hops) (taken_alike_at p s all.0 parts.0) in
         λ i. cons_option (here i) (all_heard p ss all.1 parts.1 i)
 
-    -- what didn't change at a sender of a session that is up has the best path that it had
-    stays_best : (p : Cidr) → list_any (same_prefix p) (changed_at_senders changes inside (up_sessions sessions now r)) ≡ false → best_at net sessions old r p ≡ best_at net sessions now r p
+    -- what no sender over a session that is up may tell anew has the best path that it had
+    abbrev news : List Cidr
+    news = changed_at_senders net old now changes inside (up_sessions sessions now r)
+
+    stays_best : (p : Cidr) → list_any (same_prefix p) news ≡ false → best_at net sessions old r p ≡ best_at net sessions now r p
     stays_best p none =
-        let unsuspected = sym (any-in_order prefix_cmp same_by_prefix_cmp (same_prefix p) (flat_map (changes_over changes inside) (up_sessions sessions now r))) ∙ none in
+        let unsuspected = sym (any-in_order prefix_cmp same_by_prefix_cmp (same_prefix p) (flat_map (news_over net old now changes inside) (up_sessions sessions now r))) ∙ none in
         ap (λ ss. best_with_further (maximum_of net r) (own_at (own_paths net (table_of old r) r) p ++ filter_map (λ s. path_heard net old (table_of old r) s p) ss)) same_up
         ∙ (λ i. best_with_further (maximum_of net r) (own_at (alike.own i) p ++ all_heard p (up_sessions sessions now r) (all_filter (IsHeardAlike r old now) (is_up now) (sessions_of sessions r) alike.heard) unsuspected i))
 
-    pub updated_is_best : (paths : List Best) (changed : List Cidr) → paths_of now r ≡ best_paths net sessions old r → AreUpdated net sessions changes inside now r paths changed → paths ≡ best_paths net sessions now r
-    updated_is_best paths changed is updated =
-        same_lists best_prefix paths (best_paths net sessions now r) (updated_in_order net sessions r changes inside now (subst IsBestList (sym is) (best_up old)) paths updated.value) (best_up now)
-        (λ p. says_updated net sessions r changes inside now paths updated.value p ∙ by p (list_any (same_prefix p) (changed_at_senders changes inside (up_sessions sessions now r))) refl ∙ sym (says_best now p))
-      where
-        by : (p : Cidr) (b : Bool) → list_any (same_prefix p) (changed_at_senders changes inside (up_sessions sessions now r)) ≡ b
-            → cond (list_any (same_prefix p) (changed_at_senders changes inside (up_sessions sessions now r))) (best_at net sessions now r p) (best_for (paths_of now r) p) ≡ best_at net sessions now r p
-        by p true e = ap (λ b. cond b (best_at net sessions now r p) (best_for (paths_of now r) p)) e
-        by p false e =
-            ap (λ b. cond b (best_at net sessions now r p) (best_for (paths_of now r) p)) e ∙ ap (λ paths. best_for paths p) is ∙ says_best old p ∙ stays_best p e
+    ordered_news : IsStrictlySortedBy prefix_cmp news
+    ordered_news = news_in_order net old now changes inside (up_sessions sessions now r) news refl
 
-    none_over : (ss : List Session) → NothingChanged changes inside ss → flat_map (changes_over changes inside) ss ≡ []
+    -- so what is updated at these is what is best now
+    pub updated_is_best : (ps : List Cidr) (paths : List Best) (changed : List Cidr) → ps ≡ news → paths_of now r ≡ best_paths net sessions old r → AreUpdated net sessions now r ps paths changed → paths ≡ best_paths net sessions now r
+    updated_is_best ps paths changed these is updated =
+        same_lists best_prefix paths (best_paths net sessions now r) (updated_in_order net sessions r now news ordered_news (subst IsBestList (sym is) (best_up old)) paths value) (best_up now)
+        (λ p. says_updated net sessions r now news ordered_news paths value p ∙ by p (list_any (same_prefix p) news) refl ∙ sym (says_best now p))
+      where
+        value : paths ≡ updated_paths net sessions now r news
+        value = updated.value ∙ ap (updated_paths net sessions now r) these
+
+        by : (p : Cidr) (b : Bool) → list_any (same_prefix p) news ≡ b → cond (list_any (same_prefix p) news) (best_at net sessions now r p) (best_for (paths_of now r) p) ≡ best_at net sessions now r p
+        by p true e = ap (λ b. cond b (best_at net sessions now r p) (best_for (paths_of now r) p)) e
+        by p false e = ap (λ b. cond b (best_at net sessions now r p) (best_for (paths_of now r) p)) e ∙ ap (λ paths. best_for paths p) is ∙ says_best old p ∙ stays_best p e
+
+    none_over : (ss : List Session) → NothingChanged changes inside ss → flat_map (news_over net old now changes inside) ss ≡ []
     none_over [] none = refl
-    none_over (s ∷ ss) none = (λ i. none.0 i ++ none_over ss none.1 i)
+    none_over (s ∷ ss) none = (λ i. filter (may_hear_either (asn_of net s.receiver) (paths_of old s.sender) (paths_of now s.sender)) (none.0 i) ++ none_over ss none.1 i)
 
     -- where nothing changed over any session all best paths stay
     pub all_stay : NothingChanged changes inside (sessions_of sessions r) → best_paths net sessions old r ≡ best_paths net sessions now r

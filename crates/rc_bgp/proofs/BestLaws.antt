@@ -25,8 +25,8 @@ use Rattle.rc_route.specs.declared.path.PathSource.TheVariants.{Network as ByNet
 use Rattle.rc_route.specs.Tables.{IsBestList, IsPathList, IsTable, best_for, best_path_for}
 use Rattle.rc_topology.proofs.ListLaws.{all_append, found_passes}
 use Rattle.rc_bgp.specs.Maximum.{number_for}
-use Rattle.rc_bgp.specs.RouterStates.{path_at, paths_of, route_at}
-use Rattle.rc_bgp.specs.Originating.{by_network, by_networks, from_route, is_bgp, originated}
+use Rattle.rc_bgp.specs.RouterStates.{path_at, paths_of}
+use Rattle.rc_bgp.specs.Originating.{by_network, by_networks, metric_for, originated}
 use Rattle.rc_bgp.specs.Redistributing.{med_of, redistributed, redistributed_paths, redistributes}
 use Rattle.rc_bgp_session.specs.Passing.{as_sent, as_received, default_path, exported, export, imported, import, is_withheld, mapped_path, originated_default, passes_list, weight_of, with_med}
 use Rattle.rc_bgp.specs.Reaching.{metric_to}
@@ -139,11 +139,11 @@ module _ (net : Network) (old : List RouterState) where
 -- ---- own paths
 
 by_network_has : (r : ℕ) (table : List Route) (p : Cidr) → Has prefix_of p (by_network r table p)
-by_network_has r table p = by (route_at table p)
+by_network_has r table p = by (metric_for table p)
   where
-    by : (o : Option Route) → Has prefix_of p (option_and_then (from_route r p) o)
+    by : (o : Option ℕ) → Has prefix_of p (option_map (λ metric. originated r ByNetwork Igp metric p) o)
     by None = none_has prefix_of p
-    by (Some x) = either_has prefix_of p (is_bgp x.source) None (Some (originated r ByNetwork Igp x.metric p)) (none_has prefix_of p) (some_has prefix_of p (originated r ByNetwork Igp x.metric p) refl)
+    by (Some metric) = some_has prefix_of p (originated r ByNetwork Igp metric p) refl
 
 pub networks_in_order : (r : ℕ) (table : List Route) (networks : List Cidr) (paths : List BgpPath) → paths ≡ by_networks r table networks → IsPathList paths
 networks_in_order r table networks paths is = subst IsPathList (sym is)

@@ -1,5 +1,5 @@
 -- What changed in what internal peers may be told is among what changed.
-use Rattle.std.proofs.Common.{refl, ◌≡◌, ap, sym, ◌∙◌, subst, ℕ, ◌+◌, ◌<◌, Bool, true, false, not, cond, ◌||◌, List, [], ◌∷◌, Option, Some, None, length, arith, unwrap_or}
+use Rattle.std.proofs.Common.{refl, ◌≡◌, ap, sym, ◌∙◌, subst, ℕ, ◌+◌, ◌<◌, Bool, true, false, not, cond, List, [], Option, Some, None, length, arith, unwrap_or}
 use Rattle.std.specs.List.{filter, list_any, range_with_len, slice_get}
 use Rattle.std.specs.Option.{option_map, option_map_or}
 use Rattle.std.proofs.Math.Decide.{dec_lt}
@@ -15,7 +15,7 @@ use Rattle.rc_bgp.specs.Changes.{AreChanges, AreChangesInside, CoversChange, Cov
 use Rattle.rc_bgp.specs.RouterStates.{paths_of}
 use Rattle.rc_bgp.specs.Telling.{has_internal}
 use Rattle.rc_bgp_session.specs.declared.session.Session.{Session}
-use Rattle.rc_bgp.proofs.PrefixLaws.{same_is}
+use Rattle.rc_bgp.proofs.PrefixLaws.{left_out}
 
 -- where internal peers are told nothing for a prefix
 none_told : (paths : List Best) (p : Cidr) → is_told paths p ≡ false → told_of (best_for paths p) ≡ None
@@ -38,19 +38,6 @@ module _ (old new : List Best) (p : Cidr) where
       let parts = or_parts (is_told old p) (is_told new p) none in
       none_told old p parts.0 ∙ sym (none_told new p parts.1)
 
-  -- a prefix that stands among some, and not among those of them that are told
-  left_out : (changed : List Cidr) → list_any (same_prefix p) changed ≡ true → list_any (same_prefix p) (filter (is_told_by_either old new) changed) ≡ false → Alike
-  left_out [] here none = absurd (let clash : false ≡ true = here in cc)
-  left_out (q ∷ qs) here none = by (same_prefix p q) refl (is_told_by_either old new q) refl here none (left_out qs)
-    where
-      by : (b : Bool) → same_prefix p q ≡ b → (c : Bool) → is_told_by_either old new q ≡ c → b || list_any (same_prefix p) qs ≡ true
-          → list_any (same_prefix p) (cond c (q ∷ filter (is_told_by_either old new) qs) (filter (is_told_by_either old new) qs)) ≡ false
-          → (list_any (same_prefix p) qs ≡ true → list_any (same_prefix p) (filter (is_told_by_either old new) qs) ≡ false → Alike) → Alike
-      by true e true f here none rest = absurd (let clash : true ≡ false = sym (ap (λ b. b || list_any (same_prefix p) (filter (is_told_by_either old new) qs)) e) ∙ none in cc)
-      by true e false f here none rest = untold (ap (is_told_by_either old new) (same_is p q e) ∙ f)
-      by false e true f here none rest = rest here (or_parts (same_prefix p q) (list_any (same_prefix p) (filter (is_told_by_either old new) qs)) none).1
-      by false e false f here none rest = rest here none
-
 same_told : (old new : List Best) (p : Cidr) → best_for old p ≡ best_for new p → told_of (best_for old p) ≡ told_of (best_for new p)
 same_told old new p same = ap told_of same
 
@@ -58,7 +45,7 @@ told_covered : (changed : List Cidr) (old new : List Best) → CoversChange chan
 told_covered changed old new covers = record { elsewhere = λ p none. by p (list_any (same_prefix p) changed) refl none }
   where
     by : (p : Cidr) (b : Bool) → list_any (same_prefix p) changed ≡ b → list_any (same_prefix p) (filter (is_told_by_either old new) changed) ≡ false → told_of (best_for old p) ≡ told_of (best_for new p)
-    by p true e none = left_out old new p changed e none
+    by p true e none = untold old new p (left_out (is_told_by_either old new) p changed e none)
     by p false e none = same_told old new p (covers.elsewhere p e)
 
 all_covered : (changed : List Cidr) (old new : List Best) → CoversChange changed old new → CoversInside changed old new

@@ -8,8 +8,12 @@ mod BestLaws
 mod WayLaws
 mod ChangeLaws
 mod PartLaws
-mod ListedLaws
+pub mod ListedLaws
+pub mod DecidedLaws
+mod PieceLaws
 mod WithheldLaws
+mod LoopLaws
+mod OwnLaws
 mod AlikeLaws
 mod InsideLaws
 mod GatheringLaws

@@ -1,5 +1,5 @@
 -- A list in order of prefix is told by what it says at each prefix.
-use Rattle.std.proofs.Common.{refl, ◌≡◌, ap, sym, ◌∙◌, subst, ℕ, ◌+◌, ◌<◌, length, get_or, drop, append_assoc, Bool, true, false, cond, ◌&&◌, ◌||◌, List, [], ◌∷◌, ◌++◌, map, filter, Option, Some, None}
+use Rattle.std.proofs.Common.{refl, ◌≡◌, ap, sym, ◌∙◌, subst, Bool, true, false, cond, ◌&&◌, ◌||◌, List, [], ◌∷◌, ◌++◌, map, filter, Option, Some, None}
 use Rattle.std.specs.List.{AllByRecursion, cons_option, filter_map, find, list_any}
 use Rattle.std.specs.List.Sorted.{IsStrictlySortedBy}
 use Rattle.std.specs.Option.{option_or, option_to_list}
@@ -11,7 +11,6 @@ use Rattle.rc_base.proofs.GroupLaws.{same_itself}
 use Rattle.rc_base.proofs.OrderedLaws.{all-weaker, prefix_cmp_total, same_by_prefix_cmp}
 use Rattle.rc_topology.proofs.ListLaws.{find_each, find_filter, find_never}
 use Rattle.rc_bgp.specs.Updating.{before, behind, updated}
-use Rattle.rc_bgp.proofs.ListLaws.{first_left}
 use Rattle.rc_bgp.proofs.PrefixLaws.{below, map_itself, none_later, same_is}
 
 turned : (p q : Cidr) (o : Ordering) → prefix_cmp p q ≡ o → prefix_cmp q p ≡ ordering_reverse o
@@ -149,9 +148,6 @@ module _ {A : Type 0} (prefix_of : A → Cidr) where
   up_append [] ys up up' all = up'
   up_append (x ∷ xs) ys up up' all = (all_behind (λ q. prefix_cmp (prefix_of x) q ≡ Less) xs ys up.0 all.0, up_append xs ys up.1 up' all.1)
 
-  pub behind_in_order : (p : Cidr) (xs ys : List A) → IsUp xs → ys ≡ behind prefix_of p xs → IsUp ys
-  behind_in_order p xs ys up is = subst IsUp (sym is) (up_filter (λ x. is_lt (prefix_cmp p (prefix_of x))) xs up)
-
   -- ---- what a function says at prefixes
   module _ (f : Cidr → Option A) (keeps : (p : Cidr) (x : A) → f p ≡ Some x → prefix_of x ≡ p) where
     below_made : (q : Cidr) (ps : List Cidr) → AllByRecursion (λ p. prefix_cmp q p ≡ Less) ps → Below q (filter_map f ps)
@@ -252,12 +248,3 @@ module _ {A : Type 0} (prefix_of : A → Cidr) where
       where
         later : Below p (updated prefix_of f (behind prefix_of p xs) ps)
         later = below_updated p ps (behind prefix_of p xs) up.0 (all_passed (λ q. prefix_cmp p q ≡ Less) (λ q. is_lt (prefix_cmp p q)) (λ q e. lt_less (prefix_cmp p q) e) xs)
-
-  -- one prefix more of a loop that updates
-  pub one_updated : (f : Cidr → Option A) (ps : List Cidr) (i : ℕ) (p : Cidr) (made copied more done left next : List A) (o : Option A) → i < length ps → p ≡ get_or ps i p
-      → copied ≡ made ++ before prefix_of p left → next ≡ behind prefix_of p left → o ≡ f p → more ≡ copied ++ option_to_list o
-      → made ++ updated prefix_of f left (drop i ps) ≡ done → more ++ updated prefix_of f next (drop (i + 1) ps) ≡ done
-  one_updated f ps i p made copied more done left next o less is copy stays best pushed kept =
-      let rest = updated prefix_of f next (drop (i + 1) ps) in
-      ap (λ t. t ++ rest) pushed ∙ append_assoc copied (option_to_list o) rest ∙ (λ k. copy k ++ (option_to_list (best k) ++ updated prefix_of f (stays k) (drop (i + 1) ps)))
-      ∙ append_assoc made (before prefix_of p left) (option_to_list (f p) ++ updated prefix_of f (behind prefix_of p left) (drop (i + 1) ps)) ∙ ap (λ t. made ++ updated prefix_of f left t) (sym (first_left ps i p less is)) ∙ kept

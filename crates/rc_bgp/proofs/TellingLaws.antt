@@ -1,7 +1,7 @@
 -- What is listed of the senders inside tells all that they tell.
 use Rattle.std.proofs.Common.{refl, ◌≡◌, ap, sym, ◌∙◌, subst, ℕ, zero, suc, ◌+◌, Bool, true, false, not, cond, ◌&&◌, ◌||◌, List, [], ◌∷◌, length, Option, Some, None, IfSome, arith, unwrap_or}
 use Rattle.std.specs.List.{cons_option, filter_map, range_with_len, slice_get}
-use Rattle.std.specs.Option.{option_map, option_map_or}
+use Rattle.std.specs.Option.{option_map}
 use Rattle.std.proofs.lemmas.Option.{slice_get-map}
 use Rattle.rc_bgp_decide.specs.Decision.{is_internal}
 use Rattle.rc_base.specs.Prefix.{Cidr, is_default}
@@ -60,12 +60,12 @@ module _ (net : Network) (table : List Route) (s : Session) where
       one inside (Some xs) is = ap (filter_map (told_of net table s)) is ∙ told_listed inside (paths_of old s.sender)
 
       at : s.is_external ≡ false → (o : Option (Option (List Best))) → IfSome o (λ l. IfSome l (λ xs. xs ≡ may_tell (paths_of old s.sender)))
-          → filter_map (told_of net table s) (option_map_or (λ l. unwrap_or l (paths_of old s.sender)) o (paths_of old s.sender)) ≡ filter_map (told_of net table s) (paths_of old s.sender)
+          → filter_map (told_of net table s) (unwrap_or (unwrap_or o None) (paths_of old s.sender)) ≡ filter_map (told_of net table s) (paths_of old s.sender)
       at inside None is = refl
       at inside (Some l) is = one inside l is
 
       by : (c : Bool) → s.is_external ≡ c
-          → filter_map (told_of net table s) (cond c (paths_of old s.sender) (option_map_or (λ l. unwrap_or l (paths_of old s.sender)) (slice_get all s.sender) (paths_of old s.sender))) ≡ filter_map (told_of net table s) (paths_of old s.sender)
+          → filter_map (told_of net table s) (unwrap_or (cond c None (unwrap_or (slice_get all s.sender) None)) (paths_of old s.sender)) ≡ filter_map (told_of net table s) (paths_of old s.sender)
       by true is = refl
       by false is = at is (slice_get all s.sender) (listed.each s.sender)
 

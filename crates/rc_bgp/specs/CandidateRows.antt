@@ -1,5 +1,5 @@
 -- Worked cases of origination, candidates and best paths, each by computation.
-use Rattle.std.specs.Prelude.{◌≡◌, List, [], ◌∷◌, map, Some, None, refl}
+use Rattle.std.specs.Prelude.{◌≡◌, List, [], ◌∷◌, map, Option, Some, None, refl}
 use Rattle.rc_base.specs.Prefix.{prefix_at}
 use Rattle.rc_config.specs.Bgp.{with_own}
 use Rattle.rc_config.specs.IfType.{type_of}
@@ -9,6 +9,7 @@ use Rattle.rc_config.specs.declared.network.Network.{Network}
 use Rattle.rc_config.specs.declared.router_text.RouterText.{RouterText}
 use Rattle.rc_fib.specs.Forwarding.{hops_within}
 use Rattle.rc_route.specs.Best.{alone}
+use Rattle.rc_route.specs.declared.best.Best.{Best}
 use Rattle.rc_route.specs.declared.path.BgpPath.{BgpPath}
 use Rattle.rc_route.specs.declared.path.PathSource.TheVariants.{Network as ByNetwork, External, Internal}
 use Rattle.rc_route.specs.declared.route.Hop.TheVariants.{Null, Via}
@@ -23,7 +24,7 @@ use Rattle.rc_bgp_session.specs.Nets.{ip, subnet, gigabit, gigabit_1, on, peer, 
 use Rattle.rc_bgp.specs.Originating.{by_networks}
 use Rattle.rc_bgp.specs.Sessions.{configured_sessions, sessions}
 use Rattle.rc_bgp.specs.Speakers.{speakers}
-use Rattle.rc_bgp.specs.Telling.{offered, told_inside}
+use Rattle.rc_bgp.specs.Telling.{listed_for, offered, told_inside}
 use Rattle.rc_bgp_session.specs.declared.session.Session.{Session}
 
 -- ---- `network 10.0.9.0 mask 255.255.255.0`
@@ -153,6 +154,28 @@ none_told_inside = refl
 
 pub all_offered_outside : offered (None ∷ None ∷ []) (state []) (external 0 (ip 12 1) 1 (ip 12 2)) ≡ map alone (ninth 0 ByNetwork ∷ [])
 all_offered_outside = refl
+
+-- what is listed of a router is gone through for internal sessions alone, and in place of all its paths
+abbrev one_listed : List (Option (List Best))
+one_listed = Some (alone (ninth 2 ByNetwork) ∷ []) ∷ None ∷ []
+
+pub listed_over_an_internal_session : listed_for one_listed (internal 0 (ip 12 1) 1 (ip 12 2)) ≡ Some (alone (ninth 2 ByNetwork) ∷ [])
+listed_over_an_internal_session = refl
+
+pub not_over_an_external_one : listed_for one_listed (external 0 (ip 12 1) 1 (ip 12 2)) ≡ None
+not_over_an_external_one = refl
+
+pub not_of_a_router_without_a_list : listed_for one_listed (internal 1 (ip 12 2) 0 (ip 12 1)) ≡ None
+not_of_a_router_without_a_list = refl
+
+pub not_past_the_end : listed_for one_listed (internal 2 (ip 23 3) 1 (ip 23 2)) ≡ None
+not_past_the_end = refl
+
+pub listed_are_offered : offered one_listed (state []) (internal 0 (ip 12 1) 1 (ip 12 2)) ≡ alone (ninth 2 ByNetwork) ∷ []
+listed_are_offered = refl
+
+pub all_offered_without_a_list : offered (None ∷ []) (state []) (internal 0 (ip 12 1) 1 (ip 12 2)) ≡ map alone (ninth 0 ByNetwork ∷ [])
+all_offered_without_a_list = refl
 
 -- ---- candidates stand by prefix: what the router originates first, then by sender
 

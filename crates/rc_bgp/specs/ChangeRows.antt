@@ -13,29 +13,76 @@ use Rattle.rc_route.specs.declared.state.RouterState.{RouterState}
 use Rattle.rc_bgp_decide.specs.Multipath.{multi_places}
 use Rattle.rc_bgp.specs.Candidates.{best_paths}
 use Rattle.rc_bgp.specs.Changes.{changed_inside, changes_of, updated_paths, changed_at_senders}
-use Rattle.rc_bgp_session.specs.Nets.{ip, subnet, gigabit, gigabit_1, on, peer, process, router, two, external, internal, connected, knows, ninth}
+use Rattle.rc_bgp_session.specs.Nets.{ip, subnet, gigabit, gigabit_1, on, peer, process, router, two, three, external, internal, connected, knows, ninth}
 use Rattle.rc_bgp.specs.Sessions.{is_up}
 use Rattle.rc_bgp_session.specs.declared.session.Session.{Session}
+
+-- a path for 10.0.n.0/24
+abbrev from_source : PathSource → ℕ → BgpPath
+from_source source n = record (ninth 0 source) { prefix = subnet n }
 
 pub changes_past_the_end : changes_of ((subnet 9 ∷ []) ∷ []) 1 ≡ []
 changes_past_the_end = refl
 
+-- ---- what senders may tell anew: R1 of AS 65001 hears R2 of AS 65002 and R3 of AS 65003, or of its own AS
+
+abbrev three_ases : Network
+three_ases = three (router [] (process 65001 [])) (router [] (process 65002 [])) (router [] (process 65003 []))
+
+-- R2 and R3 know paths of these prefixes, which they originate
+abbrev known : List ℕ → List ℕ → List RouterState
+known second third = knows [] [] ∷ knows [] (map (from_source ByNetwork) second) ∷ knows [] (map (from_source ByNetwork) third) ∷ []
+
+abbrev from_r2 : Session
+from_r2 = external 1 (ip 12 2) 0 (ip 12 1)
+
+abbrev from_r3 : Session
+from_r3 = external 2 (ip 13 3) 0 (ip 13 1)
+
 -- what two senders tell counts once, in order; a router without a session to this one is none of them
-pub changed_at_two : changed_at_senders ((subnet 9 ∷ subnet 8 ∷ []) ∷ (subnet 7 ∷ []) ∷ (subnet 9 ∷ []) ∷ []) [] (external 0 (ip 12 1) 1 (ip 12 2) ∷ external 2 (ip 23 3) 1 (ip 23 2) ∷ []) ≡ subnet 8 ∷ subnet 9 ∷ []
+pub changed_at_two : changed_at_senders three_ases (known [] []) (known (8 ∷ 9 ∷ []) (9 ∷ [])) ((subnet 7 ∷ []) ∷ (subnet 9 ∷ subnet 8 ∷ []) ∷ (subnet 9 ∷ []) ∷ []) [] (from_r2 ∷ from_r3 ∷ []) ≡ subnet 8 ∷ subnet 9 ∷ []
 changed_at_two = refl
 
 -- over an internal session counts what changed in what internal peers may be told, and over an external one all that changed
-pub changed_inside_at_one : changed_at_senders ((subnet 9 ∷ subnet 8 ∷ []) ∷ (subnet 7 ∷ []) ∷ (subnet 6 ∷ []) ∷ []) ((subnet 9 ∷ []) ∷ [] ∷ [] ∷ []) (internal 0 (ip 12 1) 1 (ip 12 2) ∷ external 2 (ip 23 3) 1 (ip 23 2) ∷ [])
+pub changed_inside_at_one : changed_at_senders three_ases (known [] []) (known (8 ∷ 9 ∷ []) (6 ∷ [])) ((subnet 7 ∷ []) ∷ (subnet 9 ∷ subnet 8 ∷ []) ∷ (subnet 6 ∷ []) ∷ []) ([] ∷ (subnet 9 ∷ []) ∷ [] ∷ []) (record from_r2 { is_external = false } ∷ from_r3 ∷ [])
     ≡ subnet 6 ∷ subnet 9 ∷ []
 changed_inside_at_one = refl
+
+-- R2 had this best path for 10.0.9.0/24, if any, and has that one
+abbrev told_over : List BgpPath → List BgpPath → List Cidr
+told_over before now = changed_at_senders three_ases (knows [] [] ∷ knows [] before ∷ []) (knows [] [] ∷ knows [] now ∷ []) ([] ∷ (subnet 9 ∷ []) ∷ []) [] (from_r2 ∷ [])
+
+-- what R2 heard over these ASes
+abbrev over : List ℕ → BgpPath
+over numbers = record (from_source External 9) { as_path = numbers }
+
+-- what R1 told R2, R2 tells back: R1's AS is on it
+pub told_back : told_over [] (over (65001 ∷ []) ∷ []) ≡ []
+told_back = refl
+
+pub told_back_from_afar : told_over [] (over (65004 ∷ 65001 ∷ 65005 ∷ []) ∷ []) ≡ []
+told_back_from_afar = refl
+
+pub told_back_before : told_over (over (65001 ∷ []) ∷ []) [] ≡ []
+told_back_before = refl
+
+pub told_back_otherwise : told_over (over (65001 ∷ []) ∷ []) (over (65004 ∷ 65001 ∷ []) ∷ []) ≡ []
+told_back_otherwise = refl
+
+-- R2 told R1 of another way before, which is no longer there
+pub told_back_in_place_of_another : told_over (over (65004 ∷ []) ∷ []) (over (65001 ∷ []) ∷ []) ≡ subnet 9 ∷ []
+told_back_in_place_of_another = refl
+
+pub withdrawn : told_over (over (65004 ∷ []) ∷ []) [] ≡ subnet 9 ∷ []
+withdrawn = refl
+
+pub told_anew_in_place_of_a_loop : told_over (over (65001 ∷ []) ∷ []) (over (65004 ∷ []) ∷ []) ≡ subnet 9 ∷ []
+told_anew_in_place_of_a_loop = refl
 
 -- ---- what internal peers may be told: of a router with such a peer what it originates or heard outside, before or now
 
 abbrev has_peer : List (List Session)
 has_peer = (internal 1 (ip 12 2) 0 (ip 12 1) ∷ []) ∷ []
-
-abbrev from_source : PathSource → ℕ → BgpPath
-from_source source n = record (ninth 0 source) { prefix = subnet n }
 
 abbrev first_knows : List BgpPath → List RouterState
 first_knows paths = knows [] paths ∷ []
@@ -80,32 +127,32 @@ sent p = record (ninth 0 ByNetwork) { prefix = p }
 abbrev heard : Cidr → BgpPath
 heard p = record (ninth 0 External) { prefix = p; next_hop = ip 12 1; weight = 0; as_path = 65001 ∷ []; sender_id = ip 12 1; neighbor = ip 12 1 }
 
--- what R2 makes of its known paths, where R1 tells of these prefixes
-abbrev made : List Cidr → List BgpPath → List BgpPath → List Best
-made changed first second = updated_paths net all (changed ∷ [] ∷ []) [] (state first second) 1
+-- what R2 makes of its known paths, where R1 tells of these prefixes, had the first of these best paths and has the second
+abbrev made : List Cidr → List BgpPath → List BgpPath → List BgpPath → List Best
+made changed before first second = updated_paths net all (state first second) 1 (changed_at_senders net (state before []) (state first second) (changed ∷ [] ∷ []) [] (to_r2 ∷ []))
 
-pub gains : made (subnet 9 ∷ []) (sent (subnet 9) ∷ []) [] ≡ map alone (heard (subnet 9) ∷ [])
+pub gains : made (subnet 9 ∷ []) [] (sent (subnet 9) ∷ []) [] ≡ map alone (heard (subnet 9) ∷ [])
 unfolding hops_within multi_places
 gains = refl
 
-pub gains_between : made (subnet 9 ∷ []) (sent (subnet 8) ∷ sent (subnet 9) ∷ sent (subnet 10) ∷ []) (heard (subnet 8) ∷ heard (subnet 10) ∷ []) ≡ map alone (heard (subnet 8) ∷ heard (subnet 9) ∷ heard (subnet 10) ∷ [])
+pub gains_between : made (subnet 9 ∷ []) (sent (subnet 8) ∷ sent (subnet 10) ∷ []) (sent (subnet 8) ∷ sent (subnet 9) ∷ sent (subnet 10) ∷ []) (heard (subnet 8) ∷ heard (subnet 10) ∷ []) ≡ map alone (heard (subnet 8) ∷ heard (subnet 9) ∷ heard (subnet 10) ∷ [])
 unfolding hops_within multi_places
 gains_between = refl
 
-pub loses : made (subnet 9 ∷ []) [] (heard (subnet 9) ∷ []) ≡ []
+pub loses : made (subnet 9 ∷ []) (sent (subnet 9) ∷ []) [] (heard (subnet 9) ∷ []) ≡ []
 unfolding hops_within multi_places
 loses = refl
 
-pub stays : made (subnet 9 ∷ []) (sent (subnet 9) ∷ []) (heard (subnet 9) ∷ []) ≡ map alone (heard (subnet 9) ∷ [])
+pub stays : made (subnet 9 ∷ []) [] (sent (subnet 9) ∷ []) (heard (subnet 9) ∷ []) ≡ map alone (heard (subnet 9) ∷ [])
 unfolding hops_within multi_places
 stays = refl
 
-pub changes_its_med : made (subnet 9 ∷ []) (record (sent (subnet 9)) { med = 7 } ∷ []) (heard (subnet 9) ∷ []) ≡ map alone (record (heard (subnet 9)) { med = 7 } ∷ [])
+pub changes_its_med : made (subnet 9 ∷ []) (sent (subnet 9) ∷ []) (record (sent (subnet 9)) { med = 7 } ∷ []) (heard (subnet 9) ∷ []) ≡ map alone (record (heard (subnet 9)) { med = 7 } ∷ [])
 unfolding hops_within multi_places
 changes_its_med = refl
 
 -- nothing is decided at a prefix of which nobody tells
-pub untold : made (subnet 9 ∷ []) (sent (subnet 9) ∷ []) (heard (subnet 8) ∷ []) ≡ map alone (heard (subnet 8) ∷ heard (subnet 9) ∷ [])
+pub untold : made (subnet 9 ∷ []) [] (sent (subnet 9) ∷ []) (heard (subnet 8) ∷ []) ≡ map alone (heard (subnet 8) ∷ heard (subnet 9) ∷ [])
 unfolding hops_within multi_places
 untold = refl
 

@@ -1,11 +1,14 @@
 -- What changes in best paths from one state to the next.
-use Rattle.std.specs.Prelude.{◌≡◌, ℕ, Bool, true, false, not, ◌||◌, if◌then◌else◌, List, [], map, Option, Some, None, filter, length, option_and_then, slice_get, unwrap_or}
+use Rattle.std.specs.Prelude.{◌≡◌, ℕ, ◌==◌, Bool, true, false, not, ◌||◌, if◌then◌else◌, List, [], map, Option, Some, None, filter, length, option_and_then, slice_get, unwrap_or}
 use Rattle.std.specs.List.{AllByRecursion, flat_map, list_any, range_with_len}
-use Rattle.std.specs.Option.{option_map_or}
+use Rattle.std.specs.Option.{option_map, option_map_or}
 use Rattle.rc_base.specs.Lists.{in_order}
 use Rattle.rc_base.specs.Prefix.{Cidr, prefix_cmp, same_prefix}
 use Rattle.rc_bgp_decide.specs.Decision.{is_internal, is_originated}
+use Rattle.rc_config.specs.Members.{router_at}
+use Rattle.rc_config.specs.declared.bgp.BgpProcess.{BgpProcess}
 use Rattle.rc_config.specs.declared.network.Network.{Network}
+use Rattle.rc_config.specs.declared.router_text.RouterText.{RouterText}
 use Rattle.rc_route.specs.Tables.{best_for}
 use Rattle.rc_route.specs.declared.best.Best.{Best}
 use Rattle.rc_route.specs.declared.route.Route.{Route}
@@ -15,7 +18,7 @@ use Rattle.rc_bgp.specs.RouterStates.{paths_of, table_of}
 use Rattle.rc_bgp.specs.Updating.{updated}
 use Rattle.rc_bgp.specs.AllOriginated.{own_paths}
 use Rattle.rc_bgp.specs.Reaching.{metric_to}
-use Rattle.rc_bgp.specs.Sessions.{is_up, sessions_of, up_sessions}
+use Rattle.rc_bgp.specs.Sessions.{is_up, sessions_of}
 use Rattle.rc_bgp.specs.Telling.{has_internal, may_tell}
 use Rattle.rc_bgp_session.specs.declared.session.Session.{Session}
 
@@ -52,7 +55,7 @@ is_told_by_either old new p = is_told old p || is_told new p
 pub record CoversInside (changed : List Cidr) (old new : List Best) : Type 0 where
   pub elsewhere : (p : Cidr) → list_any (same_prefix p) changed ≡ false → told_of (best_for old p) ≡ told_of (best_for new p)
 
--- so it is with each router
+-- of each router all that changes in what internal peers may be told is told
 pub record AreChangesInside (inside : List (List Cidr)) (old new : List RouterState) : Type 0 where
   pub each : (r : ℕ) → CoversInside (changes_of inside r) (paths_of old r) (paths_of new r)
 
@@ -86,20 +89,41 @@ pub record ReadsAlike (net : Network) (sessions : List (List Session)) (old now 
 abbrev pub changes_over : List (List Cidr) → List (List Cidr) → Session → List Cidr
 changes_over changes inside s = if s.is_external then changes_of changes s.sender else changes_of inside s.sender
 
--- those of some sessions, in order
-abbrev pub changed_at_senders : List (List Cidr) → List (List Cidr) → List Session → List Cidr
-changed_at_senders changes inside ss = in_order prefix_cmp (flat_map (changes_over changes inside) ss)
+-- the AS of a router, if it has a process
+abbrev pub asn_of : Network → ℕ → Option ℕ
+asn_of net r = option_and_then (λ (file : RouterText). option_map (λ (process : BgpProcess). process.asn) file.bgp) (router_at net r)
+
+-- an AS path doesn't hold this AS; a router refuses one that holds its own as a loop (RFC 4271 s.9.1.2)
+abbrev pub is_no_loop : Option ℕ → List ℕ → Bool
+is_no_loop own numbers = not (option_map_or (λ asn. list_any (λ a. a == asn) numbers) own false)
+
+-- a router of this AS may take one of the best paths of a sender for a prefix: there is one, and it is no loop
+abbrev pub may_hear : Option ℕ → List Best → Cidr → Bool
+may_hear own paths p = option_map_or (λ (b : Best). is_no_loop own b.path.as_path) (best_for paths p) false
+
+-- it may take one now, or may have taken one before
+abbrev pub may_hear_either : Option ℕ → List Best → List Best → Cidr → Bool
+may_hear_either own old new p = may_hear own new p || may_hear own old p
+
+module _ (net : Network) (old now : List RouterState) (changes inside : List (List Cidr)) where
+  -- of what changed at the sender of a session that of which the receiver may take something, before or now: most of the rest is what a neighbour
+  -- tells back to the one of which it heard it
+  abbrev pub news_over : Session → List Cidr
+  news_over s = filter (may_hear_either (asn_of net s.receiver) (paths_of old s.sender) (paths_of now s.sender)) (changes_over changes inside s)
+
+  -- that of some sessions, in order
+  abbrev pub changed_at_senders : List Session → List Cidr
+  changed_at_senders ss = in_order prefix_cmp (flat_map news_over ss)
 
 -- nothing changed in what may go over some sessions
 abbrev pub NothingChanged : List (List Cidr) → List (List Cidr) → List Session → Type 0
 NothingChanged changes inside ss = AllByRecursion (λ (s : Session). changes_over changes inside s ≡ []) ss
 
--- the known paths of a router, with what is best now at the prefixes that changed at the senders of its sessions
-abbrev pub updated_paths : Network → List (List Session) → List (List Cidr) → List (List Cidr) → List RouterState → ℕ → List Best
-updated_paths net sessions changes inside now r =
-    updated (λ (b : Best). b.path.prefix) (best_at net sessions now r) (paths_of now r) (changed_at_senders changes inside (up_sessions sessions now r))
+-- the known paths of a router, with what is best now at these prefixes
+abbrev pub updated_paths : Network → List (List Session) → List RouterState → ℕ → List Cidr → List Best
+updated_paths net sessions now r prefixes = updated (λ (b : Best). b.path.prefix) (best_at net sessions now r) (paths_of now r) prefixes
 
 -- these are those paths, and of those prefixes all are told at which they say other than what is known
-pub record AreUpdated (net : Network) (sessions : List (List Session)) (changes inside : List (List Cidr)) (now : List RouterState) (r : ℕ) (paths : List Best) (changed : List Cidr) : Type 0 where
-  pub value : paths ≡ updated_paths net sessions changes inside now r
-  pub told : AreToldAmong (changed_at_senders changes inside (up_sessions sessions now r)) changed (paths_of now r) paths
+pub record AreUpdated (net : Network) (sessions : List (List Session)) (now : List RouterState) (r : ℕ) (prefixes : List Cidr) (paths : List Best) (changed : List Cidr) : Type 0 where
+  pub value : paths ≡ updated_paths net sessions now r prefixes
+  pub told : AreToldAmong prefixes changed (paths_of now r) paths

@@ -1,6 +1,7 @@
 -- The paths that a router originates (RFC 4271 s.9.4), from its previous table.
 use Rattle.std.specs.Prelude.{ℕ, Bool, true, false, if◌then◌else◌, List, [], Option, Some, None, option_and_then}
 use Rattle.std.specs.List.{filter_map}
+use Rattle.std.specs.Option.{option_map}
 use Rattle.rc_base.specs.Lists.{in_order}
 use Rattle.rc_base.specs.Prefix.{Cidr, prefix_cmp}
 use Rattle.rc_base.specs.declared.origin.Origin.{Origin}
@@ -36,12 +37,16 @@ is_bgp Ebgp = true
 is_bgp Ibgp = true
 is_bgp _ = false
 
-abbrev pub from_route : ℕ → Cidr → Route → Option BgpPath
-from_route r p x = if is_bgp x.source then None else Some (originated r ByNetwork Igp x.metric p)
+abbrev pub metric_unless_bgp : Route → Option ℕ
+metric_unless_bgp x = if is_bgp x.source then None else Some x.metric
+
+-- the metric of the table's route of just this prefix, where it isn't from BGP
+abbrev pub metric_for : List Route → Cidr → Option ℕ
+metric_for table p = option_and_then metric_unless_bgp (route_at table p)
 
 -- a line `network` originates its prefix where the table has just that prefix, and not from BGP; the MED is the route's metric
 abbrev pub by_network : ℕ → List Route → Cidr → Option BgpPath
-by_network r table p = option_and_then (from_route r p) (route_at table p)
+by_network r table p = option_map (λ metric. originated r ByNetwork Igp metric p) (metric_for table p)
 
 abbrev pub paths_for : ℕ → List Route → List Cidr → List BgpPath
 paths_for r table prefixes = filter_map (by_network r table) prefixes

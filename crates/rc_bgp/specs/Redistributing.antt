@@ -1,5 +1,5 @@
 -- Routes that are redistributed into BGP.
-use Rattle.std.specs.Prelude.{ℕ, ◌==◌, Bool, true, false, not, ◌&&◌, if◌then◌else◌, List, [], Option, None, map, option_and_then, unwrap_or}
+use Rattle.std.specs.Prelude.{◌≡◌, ℕ, ◌==◌, Bool, true, false, not, ◌&&◌, if◌then◌else◌, List, [], Option, None, map, option_and_then, unwrap_or}
 use Rattle.std.specs.List.{filter_map, flat_map, list_any}
 use Rattle.std.specs.Option.{option_map_or}
 use Rattle.rc_base.specs.Prefix.{Cidr, same_prefix, default_prefix}
@@ -96,3 +96,9 @@ ospf_prefixes net r = prefixes_among net r (ospf_interfaces net)
 -- the paths of the routes of OSPF
 abbrev pub of_ospf : Network → ℕ → RouterText → List Route → Option OspfRedistribution → List BgpPath
 of_ospf net r file table line = option_map_or (λ (o : OspfRedistribution). redistributed_paths r file path.Ospf o.kinds (ospf_prefixes net r) table o.redistribution) line []
+
+-- a process has no line that redistributes routes of the router
+pub record RedistributesNothing (file : RouterText) (process : BgpProcess) : Type 0 where
+  pub connected : process.redistributions.connected ≡ None
+  pub static_routes : process.redistributions.static_routes ≡ None
+  pub ospf : own_ospf_line file process ≡ None

@@ -1,8 +1,7 @@
 -- What a router knows in a state, found by prefix.
-use Rattle.std.specs.Prelude.{ℕ, Bool, List, [], Option, slice_get}
+use Rattle.std.specs.Prelude.{ℕ, List, [], Option, slice_get}
 use Rattle.std.specs.Option.{option_map_or}
-use Rattle.std.specs.Ordering.{is_lt}
-use Rattle.rc_base.specs.Prefix.{Cidr, prefix_cmp}
+use Rattle.rc_base.specs.Prefix.{Cidr}
 use Rattle.rc_route.specs.Tables.{listed_at}
 use Rattle.rc_route.specs.declared.best.Best.{Best}
 use Rattle.rc_route.specs.declared.path.BgpPath.{BgpPath}
@@ -24,7 +23,3 @@ route_at table p = listed_at (λ (x : Route). x.prefix) table p
 -- the path of just this prefix
 abbrev pub path_at : List BgpPath → Cidr → Option BgpPath
 path_at paths p = listed_at (λ (x : BgpPath). x.prefix) paths p
-
--- it stands before a prefix
-abbrev pub is_before : {A : Type 0} → (A → Cidr) → Cidr → A → Bool
-is_before prefix_of p x = is_lt (prefix_cmp (prefix_of x) p)

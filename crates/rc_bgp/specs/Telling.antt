@@ -1,7 +1,6 @@
 -- What routers tell their internal peers, listed once for all who hear it.
 use Rattle.std.specs.Prelude.{◌≡◌, ℕ, Bool, not, if◌then◌else◌, List, length, map, Option, Some, None, IfSome, slice_get, unwrap_or}
 use Rattle.std.specs.List.{filter, list_any, range_with_len}
-use Rattle.std.specs.Option.{option_map_or}
 use Rattle.rc_bgp_decide.specs.Decision.{is_internal}
 use Rattle.rc_route.specs.declared.best.Best.{Best}
 use Rattle.rc_route.specs.declared.state.RouterState.{RouterState}
@@ -29,11 +28,13 @@ listed_of sessions old r = if has_internal sessions r then Some (may_tell (paths
 abbrev pub told_inside : List (List Session) → List RouterState → List (Option (List Best))
 told_inside sessions old = map (listed_of sessions old) (range_with_len 0 (length sessions))
 
--- the best paths of its sender that are gone through for a session: what is listed, if it is internal and something is
+-- what is listed of the sender of a session, if it is internal and something is
+abbrev pub listed_for : List (Option (List Best)) → Session → Option (List Best)
+listed_for all s = if s.is_external then None else unwrap_or (slice_get all s.sender) None
+
+-- the best paths of its sender that are gone through for a session: what is listed, where that is, and else all
 abbrev pub offered : List (Option (List Best)) → List RouterState → Session → List Best
-offered all old s =
-    if s.is_external then paths_of old s.sender
-    else option_map_or (λ listed. unwrap_or listed (paths_of old s.sender)) (slice_get all s.sender) (paths_of old s.sender)
+offered all old s = unwrap_or (listed_for all s) (paths_of old s.sender)
 
 -- where something is listed of a router, it is what that may tell
 pub record AreListed (all : List (Option (List Best))) (old : List RouterState) : Type 0 where

@@ -7,18 +7,19 @@ use crate::originating::by_networks;
 use crate::redistributing::{of_ospf, of_source};
 use rc_base::{Items, RouterId};
 use rc_config::{BgpProcess, Network, RouterText};
+use rc_pieces::Listed;
 use rc_route::{BgpPath, PathSource, Route};
 use std::alloc::{AllocError, Global};
 
 /// The paths that a process originates: by lines `network`, then redistributed connected, static and OSPF routes.
 #[tactic(auto, using(crate::proofs::BestLaws::four_in_order))]
-fn paths_of_process(
+pub(crate) fn paths_of_process(
     alloc: Global,
     net: &Network,
     router: RouterId,
     file: &RouterText,
     process: &BgpProcess,
-    table: &[Route],
+    table: &Listed<'_, Route>,
 ) -> Result<Items<Items<BgpPath>>, AllocError>
     requires { IsTable table.now }
     ensures value { IfOk result (λ own. own ≡ spec.paths_of_process net.now router file.now table.now process.now) }
@@ -56,7 +57,7 @@ fn paths_of_process(
 pub(crate) fn own_paths(
     alloc: Global,
     net: &Network,
-    table: &[Route],
+    table: &Listed<'_, Route>,
     router: RouterId,
 ) -> Result<Items<Items<BgpPath>>, AllocError>
     requires { IsTable table.now }

@@ -23,7 +23,8 @@ use rc_as_path::AsPath;
 use rc_base::{Items, Prefix, RouterId};
 use rc_bgp_decide::best;
 use rc_config::{MaximumPaths, Network};
-use rc_route::{Best, BgpPath, State};
+use rc_pieces::{Knowledge, Listed};
+use rc_route::{Best, BgpPath};
 use std::alloc::{AllocError, Global};
 use std::collections::{BTreeMap, BTreeSet};
 
@@ -70,7 +71,7 @@ fn best_with_further(
 pub(crate) fn best_among(
     alloc: Global,
     net: &Network,
-    state: &State,
+    state: &Knowledge,
     most: MaximumPaths,
     resolver: &mut Resolver<'_>,
     own: &[Items<BgpPath>],
@@ -96,15 +97,25 @@ fn add_prefixes(set: &mut BTreeSet<Prefix>, paths: &[BgpPath]) -> Result<(), All
     Ok(())
 }
 
-/// Puts the prefixes of best paths into a set.
-pub(crate) fn add_best_prefixes(
-    set: &mut BTreeSet<Prefix>,
-    paths: &[Best],
-) -> Result<(), AllocError>
+/// Puts the prefixes of some best paths into a set.
+fn add_prefixes_of_best(set: &mut BTreeSet<Prefix>, paths: &[Best]) -> Result<(), AllocError>
     ensures { OnOk result (keys set.new ≡ fold (insert_key prefix_cmp) (keys set.old) (spec.best_prefixes paths.now)) }
 {
     for best in paths {
         insert(set, best.path.prefix)?;
+    }
+    Ok(())
+}
+
+/// Puts the prefixes of best paths into a set.
+pub(crate) fn add_best_prefixes(
+    set: &mut BTreeSet<Prefix>,
+    paths: &Listed<'_, Best>,
+) -> Result<(), AllocError>
+    ensures { OnOk result (keys set.new ≡ fold (insert_key prefix_cmp) (keys set.old) (spec.best_prefixes paths.now)) }
+{
+    for piece in paths.pieces() {
+        add_prefixes_of_best(set, piece.as_slice())?;
     }
     Ok(())
 }
@@ -122,14 +133,14 @@ fn add_own(set: &mut BTreeSet<Prefix>, own: &[Items<BgpPath>]) -> Result<(), All
 /// Puts the prefixes of the senders' best paths into a set.
 fn add_senders(
     set: &mut BTreeSet<Prefix>,
-    state: &State,
+    state: &Knowledge,
     sessions: &[Session],
 ) -> Result<(), AllocError>
     requires { All IsRouterState state.now }
     ensures { OnOk result (keys set.new ≡ fold (insert_key prefix_cmp) (keys set.old) (flat_map (spec.sender_prefixes state.now) sessions.now)) }
 {
     for session in sessions {
-        add_best_prefixes(set, paths_of(state, session.sender))?;
+        add_best_prefixes(set, &paths_of(state, session.sender))?;
     }
     Ok(())
 }
@@ -138,7 +149,7 @@ fn add_senders(
 #[tactic(auto, using(crate::proofs::BestLaws::seen_in_parts))]
 fn prefixes_seen(
     alloc: Global,
-    state: &State,
+    state: &Knowledge,
     own: &[Items<BgpPath>],
     sessions: &[Session],
 ) -> Result<Items<Prefix>, AllocError>
@@ -161,7 +172,7 @@ fn is_same_way(path: &AsPath, other: &AsPath) -> bool
 }
 
 /// A best path, which shares the AS path of another one where both are the same.
-fn sharing(other: &BgpPath, best: Best) -> Result<Best, AllocError>
+pub(crate) fn sharing(other: &BgpPath, best: Best) -> Result<Best, AllocError>
     ensures { IfOk result (λ made. made ≡ best) }
 {
     if !is_same_way(&other.as_path, &best.path.as_path) {
@@ -184,7 +195,7 @@ fn sharing_last(paths: &[Best], best: Best) -> Result<Best, AllocError>
 }
 
 /// One best path more, if there is one.
-pub(crate) fn push_some(paths: &mut Items<Best>, best: Option<Best>) -> Result<(), AllocError>
+fn push_some(paths: &mut Items<Best>, best: Option<Best>) -> Result<(), AllocError>
     ensures { OnOk result (paths.new ≡ paths.old ++ option_to_list best) }
 {
     match best {
@@ -217,7 +228,7 @@ fn best_of_each(
 fn all_best(
     alloc: Global,
     net: &Network,
-    state: &State,
+    state: &Knowledge,
     inside: &Inside,
     most: MaximumPaths,
     resolver: &mut Resolver<'_>,
@@ -240,7 +251,7 @@ pub(crate) fn best_paths(
     alloc: Global,
     net: &Network,
     sessions: &ConfiguredSessions,
-    previous: &State,
+    previous: &Knowledge,
     inside: &Inside,
     router: RouterId,
 ) -> Result<Items<Best>, AllocError>
@@ -250,7 +261,7 @@ pub(crate) fn best_paths(
     ensures in_order { IfOk result IsBestList }
 {
     let table = table_of(previous, router);
-    let own = own_paths(alloc, net, table, router)?;
+    let own = own_paths(alloc, net, &table, router)?;
     let up = up_sessions(alloc, sessions, previous, router)?;
     let mut resolver = Resolver::new(alloc, table);
     all_best(
@@ -279,7 +290,7 @@ fn append(all: &mut Items<BgpPath>, paths: Vec<BgpPath>) -> Result<(), AllocErro
 fn candidates_for(
     alloc: Global,
     net: &Network,
-    state: &State,
+    state: &Knowledge,
     resolver: &mut Resolver<'_>,
     own: &[Items<BgpPath>],
     sessions: &[Session],
@@ -305,13 +316,13 @@ pub fn candidates(
     net: &Network,
     sessions: &Sessions,
     router: RouterId,
-    previous: &State,
+    previous: &Knowledge,
 ) -> Result<Items<BgpPath>, AllocError>
     requires { All IsRouterState previous.now }
     ensures { IfOk result (λ all. all ≡ spec.candidates net.now sessions.now router previous.now) }
 {
     let table = table_of(previous, router);
-    let own = own_paths(alloc, net, table, router)?;
+    let own = own_paths(alloc, net, &table, router)?;
     let here = received(alloc, sessions, router)?;
     let prefixes = prefixes_seen(alloc, previous, own.as_slice(), here.as_slice())?;
     let mut resolver = Resolver::new(alloc, table);

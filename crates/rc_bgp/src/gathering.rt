@@ -11,12 +11,14 @@ ghost use Rattle.rc_bgp.specs.Telling.{AreListed};
 
 use crate::hearing::{heard_path, path_heard};
 use crate::resolver::Resolver;
-use crate::telling::offered;
+use crate::router_state::paths_of;
+use crate::telling::listed_for;
 use crate::{Inside, Session, export};
 use rc_base::{Items, Prefix, PrefixMap};
 use rc_bgp_session::is_internal;
 use rc_config::Network;
-use rc_route::{Best, BgpPath, State};
+use rc_pieces::{Knowledge, Listed};
+use rc_route::{Best, BgpPath};
 use std::alloc::{AllocError, Global};
 
 /// Paths under their prefixes, those of one in the order in which they came.
@@ -170,12 +172,31 @@ fn add_all_told(
     Ok(())
 }
 
-/// Puts what a router hears over a session of all best paths of the sender, apart from 0.0.0.0/0, under their prefixes.
+/// Puts what a router hears over a session of a list of best paths of the sender under their prefixes.
+fn add_all_listed(
+    alloc: Global,
+    net: &Network,
+    resolver: &mut Resolver<'_>,
+    session: &Session,
+    paths: &Listed<'_, Best>,
+    rows: &mut PathsByPrefix,
+) -> Result<(), AllocError>
+    ensures value { OnOk result (rows.new ≡ spec.with_paths rows.old (filter_map (spec.told_of net.now resolver.old session.now) paths.now)) }
+    ensures same { OnOk result (resolver.new ≡ resolver.old) }
+{
+    for piece in paths.pieces() {
+        add_all_told(alloc, net, resolver, session, piece.as_slice(), rows)?;
+    }
+    Ok(())
+}
+
+/// Puts what a router hears over a session of all best paths of the sender, apart from 0.0.0.0/0, under their prefixes. Where they are
+/// listed that the sender may tell it, these alone are gone through.
 #[tactic(auto, using(crate::proofs::TellingLaws::told_all))]
 fn add_offered(
     alloc: Global,
     net: &Network,
-    state: &State,
+    state: &Knowledge,
     inside: &Inside,
     resolver: &mut Resolver<'_>,
     session: &Session,
@@ -186,8 +207,14 @@ fn add_offered(
     ensures value { OnOk result (rows.new ≡ spec.with_paths rows.old (filter_map (spec.told_of net.now resolver.old session.now) (paths_of state.now session.now.sender))) }
     ensures same { OnOk result (resolver.new ≡ resolver.old) }
 {
-    let paths = offered(inside, state, session);
-    add_all_told(alloc, net, resolver, session, paths, rows)
+    let listed = listed_for(inside, session);
+    match listed {
+        Some(listed) => add_all_told(alloc, net, resolver, session, listed, rows),
+        None => {
+            let paths = paths_of(state, session.sender);
+            add_all_listed(alloc, net, resolver, session, &paths, rows)
+        }
+    }
 }
 
 /// Puts all that a router hears over a session under its prefixes.
@@ -195,7 +222,7 @@ fn add_offered(
 fn add_over(
     alloc: Global,
     net: &Network,
-    state: &State,
+    state: &Knowledge,
     inside: &Inside,
     resolver: &mut Resolver<'_>,
     session: &Session,
@@ -216,7 +243,7 @@ fn add_over(
 fn add_over_all(
     alloc: Global,
     net: &Network,
-    state: &State,
+    state: &Knowledge,
     inside: &Inside,
     resolver: &mut Resolver<'_>,
     sessions: &[Session],
@@ -237,7 +264,7 @@ fn add_over_all(
 pub(crate) fn candidates_by_prefix(
     alloc: Global,
     net: &Network,
-    state: &State,
+    state: &Knowledge,
     inside: &Inside,
     resolver: &mut Resolver<'_>,
     own: &[Items<BgpPath>],

@@ -1,7 +1,7 @@
 //! What a router hears for a prefix.
 ghost use Rattle.std.specs.Prelude.{◌≡◌, ◌++◌, All, IfOk, OnOk, option_and_then};
-ghost use Rattle.std.specs.Option.{option_to_list};
-ghost use Rattle.rc_route.specs.Tables.{IsPathList, IsRouterState};
+ghost use Rattle.std.specs.Option.{option_copied, option_to_list};
+ghost use Rattle.rc_route.specs.Tables.{IsBestList, IsPathList, IsRouterState, best_path_for};
 ghost use Rattle.rc_bgp.specs.Candidates as spec;
 ghost use Rattle.rc_bgp.specs.RouterStates.{path_at};
 ghost use Rattle.rc_bgp_session.specs.Passing as pass;
@@ -12,21 +12,35 @@ use crate::{Session, export};
 use rc_base::{Items, Prefix};
 use rc_bgp_session::{originated_default, taken};
 use rc_config::Network;
-use rc_route::{BgpPath, State, best_path_for, listed_at};
+use rc_pieces::{Knowledge, Listed};
+use rc_route::{Best, BgpPath, listed_at};
 use std::alloc::{AllocError, Global};
+
+/// The best path for a prefix.
+fn best_path_for<'a>(paths: &Listed<'a, Best>, prefix: &Prefix) -> Option<&'a BgpPath>
+    requires { IsBestList paths.now }
+    ensures { option_copied result ≡ best_path_for paths.now prefix.now }
+{
+    let found = paths.at(prefix);
+    match found {
+        Some(best) => Some(&best.path),
+        None => None,
+    }
+}
 
 /// What the sender's best path of a prefix becomes on a session.
 fn advertised_best(
     alloc: Global,
     net: &Network,
-    state: &State,
+    state: &Knowledge,
     session: &Session,
     prefix: &Prefix,
 ) -> Result<Option<BgpPath>, AllocError>
     requires { All IsRouterState state.now }
     ensures { IfOk result (λ made. made ≡ spec.advertised_best net.now state.now session.now prefix.now) }
 {
-    let found = best_path_for(paths_of(state, session.sender), prefix);
+    let paths = paths_of(state, session.sender);
+    let found = best_path_for(&paths, prefix);
     match found {
         Some(path) => export(alloc, net, session, path),
         None => Ok(None),
@@ -37,7 +51,7 @@ fn advertised_best(
 fn advertised_default(
     alloc: Global,
     net: &Network,
-    state: &State,
+    state: &Knowledge,
     session: &Session,
     prefix: &Prefix,
 ) -> Result<Option<BgpPath>, AllocError>
@@ -55,7 +69,7 @@ fn advertised_default(
 fn advertised(
     alloc: Global,
     net: &Network,
-    state: &State,
+    state: &Knowledge,
     session: &Session,
     prefix: &Prefix,
 ) -> Result<Option<BgpPath>, AllocError>
@@ -111,7 +125,7 @@ pub(crate) fn heard_path(
 pub(crate) fn path_heard(
     alloc: Global,
     net: &Network,
-    state: &State,
+    state: &Knowledge,
     resolver: &mut Resolver<'_>,
     session: &Session,
     prefix: &Prefix,
@@ -171,7 +185,7 @@ fn own_at(
 pub(crate) fn candidates_at(
     alloc: Global,
     net: &Network,
-    state: &State,
+    state: &Knowledge,
     resolver: &mut Resolver<'_>,
     own: &[Items<BgpPath>],
     sessions: &[Session],

@@ -10,15 +10,16 @@ use crate::telling::has_internal;
 use crate::{Changes, ConfiguredSessions};
 use rc_base::{Items, Prefix, RouterId};
 use rc_bgp_session::is_internal;
-use rc_route::{Best, State, listed_at};
+use rc_pieces::{Knowledge, Listed};
+use rc_route::Best;
 use std::alloc::{AllocError, Global};
 
 /// Whether internal peers may be told something for a prefix.
-fn is_told(paths: &[Best], prefix: &Prefix) -> bool
+fn is_told(paths: &Listed<'_, Best>, prefix: &Prefix) -> bool
     requires { IsBestList paths.now }
     ensures { result ≡ spec.is_told paths.now prefix.now }
 {
-    let found = listed_at(paths, prefix);
+    let found = paths.at(prefix);
     match found {
         Some(best) => !is_internal(best.path.source),
         None => false,
@@ -28,8 +29,8 @@ fn is_told(paths: &[Best], prefix: &Prefix) -> bool
 /// Those of some prefixes for which internal peers may be told something of one of two lists of paths.
 fn told_by_either(
     alloc: Global,
-    old: &[Best],
-    new: &[Best],
+    old: &Listed<'_, Best>,
+    new: &Listed<'_, Best>,
     prefixes: &[Prefix],
 ) -> Result<Items<Prefix>, AllocError>
     requires old { IsBestList old.now }
@@ -58,8 +59,8 @@ fn changed_inside_at(
     alloc: Global,
     sessions: &ConfiguredSessions,
     changes: &Changes,
-    earlier: &State,
-    previous: &State,
+    earlier: &Knowledge,
+    previous: &Knowledge,
     router: RouterId,
 ) -> Result<Items<Prefix>, AllocError>
     requires earlier { All IsRouterState earlier.now }
@@ -72,8 +73,8 @@ fn changed_inside_at(
     }
     told_by_either(
         alloc,
-        paths_of(earlier, router),
-        paths_of(previous, router),
+        &paths_of(earlier, router),
+        &paths_of(previous, router),
         changed,
     )
 }
@@ -83,8 +84,8 @@ fn all_changed_inside(
     alloc: Global,
     sessions: &ConfiguredSessions,
     changes: &Changes,
-    earlier: &State,
-    previous: &State,
+    earlier: &Knowledge,
+    previous: &Knowledge,
 ) -> Result<Changes, AllocError>
     requires earlier { All IsRouterState earlier.now }
     requires previous { All IsRouterState previous.now }
@@ -104,8 +105,8 @@ pub fn changed_inside(
     alloc: Global,
     sessions: &ConfiguredSessions,
     changes: &Changes,
-    earlier: &State,
-    previous: &State,
+    earlier: &Knowledge,
+    previous: &Knowledge,
 ) -> Result<Changes, AllocError>
     requires earlier { All IsRouterState earlier.now }
     requires previous { All IsRouterState previous.now }

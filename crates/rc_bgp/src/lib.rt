@@ -1,7 +1,7 @@
 //! BGP: which sessions there are and which are up, and each router's best paths by what goes over them (RFC 4271, RFC 1997).
 //!
-//! It stands on the model of rc_config, the links of rc_topology, the interfaces of rc_ospf, the hops of rc_fib, the decision of
-//! rc_bgp_decide, and on rc_bgp_session for what goes over one session, whose types and calls it hands on. The layer above knows
+//! It stands on the model of rc_config, the links of rc_topology, the interfaces of rc_ospf, the hops of rc_fib, what routers know in
+//! the pieces of rc_pieces, the decision of rc_bgp_decide, and on rc_bgp_session for what goes over one session, whose types and calls it hands on. The layer above knows
 //! the sessions of a network that are up in a state as a list, and a router's candidates and best paths as functions of the
 //! network, the sessions and what all routers knew before, in their order. Rounds keep the sessions that are configured, which no state
 //! changes, and see in each state which are up.
@@ -12,8 +12,8 @@
 //! (`hearing`), for one prefix or, path by path as its senders tell them, for all (`gathering`), its candidates and the best of them
 //! (`deciding`) with as many further next hops as it may use (`maximum`, `further`), and the routes that these give (`learning`).
 //! `round_paths` gives a router's best paths from one round to the next and what changed in them (`changes`), and in what internal peers may be
-//! told of them (`inside`): where a router reads what it read before (`same_inputs`), only the prefixes that its senders told anew are decided
-//! again (`updating`), and where they told none its best paths stay.
+//! told of them (`inside`): where a router reads what it read before (`same_inputs`), only the prefixes that its senders may tell it anew
+//! (`news`) are decided again (`redeciding`), as edits of the paths that it knew, and where nothing changed at them its best paths stay.
 #![tactic(auto)]
 
 mod all_originated;
@@ -25,10 +25,12 @@ mod hearing;
 mod inside;
 mod learning;
 mod maximum;
+mod news;
 mod originating;
 mod own_addresses;
 mod pairing;
 mod reaching;
+mod redeciding;
 mod redistributing;
 mod resolver;
 mod round_paths;
@@ -38,7 +40,6 @@ mod speaker;
 mod statement;
 mod telling;
 mod up;
-mod updating;
 
 pub use changes::{Changes, Renewed};
 pub use deciding::candidates;

@@ -9,7 +9,8 @@ ghost use Rattle.rc_bgp.specs.Originating as spec;
 
 use rc_as_path::AsPath;
 use rc_base::{Addr, Communities, Items, Origin, Prefix, RouterId};
-use rc_route::{BgpPath, PathSource, Route, Source, listed_at};
+use rc_pieces::Listed;
+use rc_route::{BgpPath, PathSource, Route, Source};
 use std::alloc::{AllocError, Global};
 use std::collections::BTreeSet;
 
@@ -50,30 +51,36 @@ pub(crate) fn originated(
     }
 }
 
-/// The path that a line `network` originates from a route.
-fn from_route(router: RouterId, route: &Route, prefix: &Prefix) -> Option<BgpPath>
-    ensures { result ≡ spec.from_route router prefix.now route.now }
+/// The metric of a route that isn't from BGP.
+fn metric_unless_bgp(route: &Route) -> Option<u32>
+    ensures { result ≡ spec.metric_unless_bgp route.now }
 {
     if is_bgp(route.source) {
         return None;
     }
-    Some(originated(
-        router,
-        PathSource::Network,
-        Origin::Igp,
-        route.metric,
-        *prefix,
-    ))
+    Some(route.metric)
+}
+
+/// The metric of a table's route of just this prefix, where it isn't from BGP.
+pub(crate) fn metric_for(table: &Listed<'_, Route>, prefix: &Prefix) -> Option<u32>
+    requires { IsTable table.now }
+    ensures { result ≡ spec.metric_for table.now prefix.now }
+{
+    let found = table.at(prefix);
+    match found {
+        Some(route) => metric_unless_bgp(route),
+        None => None,
+    }
 }
 
 /// The path that a line `network` originates, if any.
-fn by_network(router: RouterId, table: &[Route], prefix: &Prefix) -> Option<BgpPath>
+fn by_network(router: RouterId, table: &Listed<'_, Route>, prefix: &Prefix) -> Option<BgpPath>
     requires { IsTable table.now }
     ensures { result ≡ spec.by_network router table.now prefix.now }
 {
-    let found = listed_at(table, prefix);
-    match found {
-        Some(route) => from_route(router, route, prefix),
+    let metric = metric_for(table, prefix);
+    match metric {
+        Some(metric) => Some(originated(router, PathSource::Network, Origin::Igp, metric, *prefix)),
         None => None,
     }
 }
@@ -111,7 +118,7 @@ pub(crate) fn listed(alloc: Global, set: BTreeSet<Prefix>) -> Result<Items<Prefi
 fn paths_for(
     alloc: Global,
     router: RouterId,
-    table: &[Route],
+    table: &Listed<'_, Route>,
     prefixes: &[Prefix],
 ) -> Result<Items<BgpPath>, AllocError>
     requires { IsTable table.now }
@@ -133,7 +140,7 @@ fn paths_for(
 pub(crate) fn by_networks(
     alloc: Global,
     router: RouterId,
-    table: &[Route],
+    table: &Listed<'_, Route>,
     networks: &[Prefix],
 ) -> Result<Items<BgpPath>, AllocError>
     requires { IsTable table.now }

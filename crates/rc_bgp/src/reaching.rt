@@ -11,8 +11,8 @@ ghost use Rattle.rc_bgp.specs.Reaching as spec;
 ghost use Rattle.rc_bgp.specs.Levels as level;
 
 use rc_base::{Addr, Items};
+use rc_pieces::Listed;
 use rc_route::{Hop, Route};
-use rc_trie::{longest_in, read_prefixes};
 use std::alloc::{AllocError, Global};
 use std::collections::BTreeSet;
 
@@ -20,12 +20,12 @@ use std::collections::BTreeSet;
 const DEPTH: usize = 16;
 
 /// The route of the longest prefix that holds an address (RFC 1812 s.5.2.4.3), by bisection.
-fn longest_route(table: &[Route], addr: Addr) -> Option<&Route>
+fn longest_route<'a>(table: &Listed<'a, Route>, addr: Addr) -> Option<&'a Route>
     requires { IsTable table.now }
     ensures { option_copied result ≡ longest table.now addr }
 {
-    read_prefixes(table);
-    longest_in(table, addr)
+    table.read_prefixes();
+    table.longest(addr)
 }
 
 /// Whether a hop names an interface.
@@ -40,7 +40,7 @@ fn has_interface(hop: &Hop) -> bool
 }
 
 /// The hops of the route of an address.
-fn first_hops(table: &[Route], addr: Addr) -> &[Hop]
+fn first_hops<'a>(table: &Listed<'a, Route>, addr: Addr) -> &'a [Hop]
     requires { IsTable table.now }
     ensures { result.now ≡ level.first_hops table.now addr }
 {
@@ -59,7 +59,7 @@ fn some_interface(hops: &[Hop]) -> bool
 }
 
 /// Whether a hop of the route of an address names an interface.
-fn is_direct(table: &[Route], addr: Addr) -> bool
+fn is_direct(table: &Listed<'_, Route>, addr: Addr) -> bool
     requires { IsTable table.now }
     ensures { result ≡ level.is_direct table.now addr }
 {
@@ -90,7 +90,7 @@ fn add_gateways(set: &mut BTreeSet<Addr>, hops: &[Hop]) -> Result<(), AllocError
 /// The gateways of the routes of some addresses, as a set.
 fn gateway_set(
     alloc: Global,
-    table: &[Route],
+    table: &Listed<'_, Route>,
     addresses: &[Addr],
 ) -> Result<BTreeSet<Addr>, AllocError>
     requires { IsTable table.now }
@@ -115,7 +115,7 @@ fn listed(alloc: Global, set: BTreeSet<Addr>) -> Result<Vec<Addr>, AllocError>
 }
 
 /// Whether one of some addresses is direct.
-fn some_direct(table: &[Route], addresses: &[Addr]) -> bool
+fn some_direct(table: &Listed<'_, Route>, addresses: &[Addr]) -> bool
     requires { IsTable table.now }
     ensures { result ≡ list_any (level.is_direct table.now) addresses.now }
 {
@@ -128,7 +128,7 @@ fn some_direct(table: &[Route], addresses: &[Addr]) -> bool
 }
 
 /// Whether an address resolves by its gateways: level by level, so that each address is looked up once a level.
-fn reaches_on(alloc: Global, table: &[Route], addr: Addr) -> Result<bool, AllocError>
+fn reaches_on(alloc: Global, table: &Listed<'_, Route>, addr: Addr) -> Result<bool, AllocError>
     requires { IsTable table.now }
     ensures { IfOk result (λ is. is ≡ spec.reaches table.now addr) }
 {
@@ -145,7 +145,11 @@ fn reaches_on(alloc: Global, table: &[Route], addr: Addr) -> Result<bool, AllocE
 }
 
 /// Whether an address resolves in a table. Most do at once, which takes no memory.
-pub(crate) fn reaches(alloc: Global, table: &[Route], addr: Addr) -> Result<bool, AllocError>
+pub(crate) fn reaches(
+    alloc: Global,
+    table: &Listed<'_, Route>,
+    addr: Addr,
+) -> Result<bool, AllocError>
     requires { IsTable table.now }
     ensures { IfOk result (λ is. is ≡ spec.reaches table.now addr) }
 {
@@ -159,7 +163,7 @@ pub(crate) fn reaches(alloc: Global, table: &[Route], addr: Addr) -> Result<bool
 #[tactic(auto, using(crate::proofs::ReachLaws::direct_metric, crate::proofs::ReachLaws::reached_metric, crate::proofs::ReachLaws::unreached_metric))]
 fn metric_over(
     alloc: Global,
-    table: &[Route],
+    table: &Listed<'_, Route>,
     addr: Addr,
     route: &Route,
 ) -> Result<Option<u32>, AllocError>
@@ -180,7 +184,7 @@ fn metric_over(
 #[tactic(auto, using(crate::proofs::ReachLaws::no_metric))]
 pub(crate) fn metric_to(
     alloc: Global,
-    table: &[Route],
+    table: &Listed<'_, Route>,
     addr: Addr,
 ) -> Result<Option<u32>, AllocError>
     requires { IsTable table.now }

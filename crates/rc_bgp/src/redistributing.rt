@@ -1,5 +1,5 @@
 //! Routes that are redistributed into BGP.
-ghost use Rattle.std.specs.Prelude.{◌≡◌, [], ◌++◌, IfOk, OnOk, map};
+ghost use Rattle.std.specs.Prelude.{◌≡◌, [], ◌++◌, IfOk, IsTrue, OnOk, map};
 ghost use Rattle.std.specs.List.{list_any};
 ghost use Rattle.std.specs.Option.{option_copied, option_to_list};
 ghost use Rattle.rc_base.specs.Prefix.{same_prefix};
@@ -7,6 +7,7 @@ ghost use Rattle.rc_config.specs.Down.{prefix_of};
 ghost use Rattle.rc_config.specs.Interface.{declared_addresses};
 ghost use Rattle.rc_route.specs.Tables.{IsPathList, IsTable};
 ghost use Rattle.rc_bgp.specs.Redistributing as spec;
+ghost use Rattle.rc_bgp.specs.Redistributing.{RedistributesNothing};
 
 use crate::originating::originated;
 use rc_base::{Items, Origin, Prefix, RouterId};
@@ -16,6 +17,7 @@ use rc_config::{
     RouterText,
 };
 use rc_ospf_interfaces::{OspfInterface, add_router};
+use rc_pieces::Listed;
 use rc_route::{BgpPath, PathSource, Route, Source};
 use std::alloc::{AllocError, Global};
 
@@ -115,6 +117,27 @@ fn push_some(paths: &mut Items<BgpPath>, path: Option<BgpPath>) -> Result<(), Al
     Ok(())
 }
 
+/// Puts the paths of those of some routes that a line takes at the end.
+fn add_passed(
+    alloc: Global,
+    router: RouterId,
+    file: &RouterText,
+    source: PathSource,
+    kinds: &OspfKinds,
+    prefixes: &[Prefix],
+    routes: &[Route],
+    line: &BgpRedistribution,
+    paths: &mut Items<BgpPath>,
+) -> Result<(), AllocError>
+    ensures { OnOk result (paths.new ≡ paths.old ++ spec.redistributed_paths router file.now source kinds.now prefixes.now routes.now line.now) }
+{
+    for route in routes {
+        let path = redistributed(alloc, router, file, source, kinds, prefixes, line, route)?;
+        push_some(paths, path)?;
+    }
+    Ok(())
+}
+
 /// The paths of the routes that a line takes.
 fn passed_paths(
     alloc: Global,
@@ -123,15 +146,17 @@ fn passed_paths(
     source: PathSource,
     kinds: &OspfKinds,
     prefixes: &[Prefix],
-    table: &[Route],
+    table: &Listed<'_, Route>,
     line: &BgpRedistribution,
 ) -> Result<Items<BgpPath>, AllocError>
     ensures { IfOk result (λ paths. paths ≡ spec.redistributed_paths router file.now source kinds.now prefixes.now table.now line.now) }
 {
     let mut paths = Items::new(alloc);
-    for route in table {
-        let path = redistributed(alloc, router, file, source, kinds, prefixes, line, route)?;
-        push_some(&mut paths, path)?;
+    for piece in table.pieces() {
+        let routes = piece.as_slice();
+        add_passed(
+            alloc, router, file, source, kinds, prefixes, routes, line, &mut paths,
+        )?;
     }
     Ok(paths)
 }
@@ -145,7 +170,7 @@ fn redistributed_paths(
     source: PathSource,
     kinds: &OspfKinds,
     prefixes: &[Prefix],
-    table: &[Route],
+    table: &Listed<'_, Route>,
     line: &BgpRedistribution,
 ) -> Result<Items<BgpPath>, AllocError>
     requires { IsTable table.now }
@@ -162,7 +187,7 @@ pub(crate) fn of_source(
     router: RouterId,
     file: &RouterText,
     source: PathSource,
-    table: &[Route],
+    table: &Listed<'_, Route>,
     line: &Option<BgpRedistribution>,
 ) -> Result<Items<BgpPath>, AllocError>
     requires { IsTable table.now }
@@ -261,6 +286,15 @@ fn own_ospf_line<'a>(file: &RouterText, process: &'a BgpProcess) -> Option<&'a O
     }
 }
 
+/// Whether a process redistributes nothing.
+pub(crate) fn redistributes_nothing(file: &RouterText, process: &BgpProcess) -> bool
+    ensures { IsTrue result → RedistributesNothing file.now process.now }
+{
+    process.redistributions.connected.is_none()
+        && process.redistributions.static_routes.is_none()
+        && own_ospf_line(file, process).is_none()
+}
+
 /// The paths of the routes of OSPF, where a line for the router's own process redistributes them.
 #[tactic(auto, using(crate::proofs::KnownLaws::none_listed))]
 pub(crate) fn of_ospf(
@@ -269,7 +303,7 @@ pub(crate) fn of_ospf(
     router: RouterId,
     file: &RouterText,
     process: &BgpProcess,
-    table: &[Route],
+    table: &Listed<'_, Route>,
 ) -> Result<Items<BgpPath>, AllocError>
     requires { IsTable table.now }
     ensures value { IfOk result (λ paths. paths ≡ spec.of_ospf net.now router file.now table.now (spec.own_ospf_line file.now process.now)) }

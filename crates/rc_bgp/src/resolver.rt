@@ -9,6 +9,7 @@ ghost use Rattle.rc_bgp.specs.Ways.{way_addr};
 use crate::reaching::metric_to;
 use rc_base::Addr;
 use rc_config::{ByNumber, Numbered};
+use rc_pieces::Listed;
 use rc_route::Route;
 use std::alloc::{AllocError, Global};
 use std::marker::Model;
@@ -32,7 +33,7 @@ impl Numbered for Way {
 ///
 /// The paths of a round have few different next hops, and a table may have very many routes.
 pub struct Resolver<'a> {
-    table: &'a [Route],
+    table: Listed<'a, Route>,
     known: ByNumber<Way>,
 }
 
@@ -50,9 +51,9 @@ impl<'a> Model for Resolver<'a> {
 
     ghost Value = { List Route };
 
-    ghost view = { λ r. r.table.now };
+    ghost view = { λ r. r.table };
 
-    ghost invariant = { λ r. IsAsked r.table.now r.known };
+    ghost invariant = { λ r. IsAsked r.table r.known };
 }
 
 /// The metric that is known of an address.
@@ -77,9 +78,9 @@ fn note(ways: &mut ByNumber<Way>, addr: Addr, metric: Option<u32>) -> Result<(),
 
 impl<'a> Resolver<'a> {
     /// A table of which nothing was asked. It takes no memory.
-    pub(crate) fn new(alloc: Global, table: &'a [Route]) -> Resolver<'a>
-        requires { IsTable table.now }
-        ensures { result ≡ table.now }
+    pub(crate) fn new(alloc: Global, table: Listed<'a, Route>) -> Resolver<'a>
+        requires { IsTable table }
+        ensures { result ≡ table.entry }
     {
         Resolver {
             table,
@@ -96,7 +97,7 @@ impl<'a> Resolver<'a> {
         match known {
             Some(metric) => Ok(metric),
             None => {
-                let metric = metric_to(alloc, self.table, addr)?;
+                let metric = metric_to(alloc, &self.table, addr)?;
                 note(&mut self.known, addr, metric)?;
                 Ok(metric)
             }

@@ -1,32 +1,34 @@
 //! A router's best paths after a round, beside those of the round before.
-ghost use Rattle.std.specs.BTreeSet.{insert_key, keys};
-ghost use Rattle.std.specs.List.{flat_map, fold};
-ghost use Rattle.std.specs.Prelude.{◌≡◌, ◌↔◌, ◌++◌, All, IfOk, IsTrue, OnOk, false, true};
+ghost use Rattle.std.specs.List.Sorted.{IsStrictlySortedBy};
+ghost use Rattle.std.specs.Prelude.{◌≡◌, ◌++◌, All, IfOk, IsTrue, false, true};
 ghost use Rattle.rc_base.specs.Lists.{in_order};
 ghost use Rattle.rc_base.specs.Prefix.{prefix_cmp};
 ghost use Rattle.rc_route.specs.Tables.{IsBestList, IsRouterState, best_for};
+ghost use Rattle.rc_route.specs.declared.best.Best.{Best as BestModel};
 ghost use Rattle.rc_bgp.specs.Candidates as spec;
-ghost use Rattle.rc_bgp.specs.Changes.{AreChanges, AreChangesInside, AreUpdated, AreToldAmong, CoversChange, NothingChanged, ReadsAlike};
-ghost use Rattle.rc_bgp.specs.Changes as change_spec;
+ghost use Rattle.rc_bgp.specs.Changes.{AreChanges, AreChangesInside, AreUpdated, CoversChange, NothingChanged, ReadsAlike};
 ghost use Rattle.rc_bgp.specs.RouterStates as known_spec;
 ghost use Rattle.rc_bgp.specs.Sessions as session_spec;
 ghost use Rattle.rc_bgp.specs.Telling.{told_inside};
+ghost use Rattle.rc_bgp.specs.Updating.{AreTaken};
 
 use crate::all_originated::own_paths;
-use crate::changes::changes_of;
+use crate::changes::changes_over;
 use crate::deciding::{add_best_prefixes, best_paths};
 use crate::maximum::maximum_of;
-use crate::originating::{insert_all, listed};
+use crate::news::changed_at_senders;
+use crate::originating::listed;
+use crate::redeciding::{decided, is_same};
 use crate::resolver::Resolver;
 use crate::router_state::{paths_of, table_of};
 use crate::same_inputs::reads_alike;
-use crate::telling::offered;
+use crate::telling::listed_for;
 use crate::up::{sessions_of, up_sessions};
-use crate::updating::updated;
 use crate::{Changes, ConfiguredSessions, Inside, Renewed, Session};
 use rc_base::{Items, Prefix, RouterId};
 use rc_config::Network;
-use rc_route::{Best, State, listed_at};
+use rc_pieces::{Knowledge, Listed, Pieces, edited};
+use rc_route::Best;
 use std::alloc::{AllocError, Global};
 use std::collections::BTreeSet;
 
@@ -34,22 +36,14 @@ use std::collections::BTreeSet;
 /// paths are gone through in their place.
 const MANY: usize = 8;
 
-/// Whether two best paths are the same, with what goes with them.
-#[tactic(auto, using(rc_route::proofs::EqualLaws::best_decides))]
-fn is_same(best: &Best, other: &Best) -> bool
-    ensures { IsTrue result ↔ (best.now ≡ other.now) }
-{
-    *best == *other
-}
-
 /// Whether two lists of paths say otherwise at a prefix.
-fn differ_at(old: &[Best], new: &[Best], prefix: &Prefix) -> bool
+fn differ_at(old: &Listed<'_, Best>, new: &Listed<'_, Best>, prefix: &Prefix) -> bool
     requires old { IsBestList old.now }
     requires new { IsBestList new.now }
     ensures { result ≡ false → best_for old.now prefix.now ≡ best_for new.now prefix.now }
 {
-    let before = listed_at(old, prefix);
-    let after = listed_at(new, prefix);
+    let before = old.at(prefix);
+    let after = new.at(prefix);
     match before {
         None => after.is_some(),
         Some(before) => match after {
@@ -59,29 +53,35 @@ fn differ_at(old: &[Best], new: &[Best], prefix: &Prefix) -> bool
     }
 }
 
-/// Those of some prefixes at which two lists of paths say otherwise.
+/// Those of some prefixes, which stand in order, at which two lists of paths say otherwise.
 fn differing(
     alloc: Global,
-    old: &[Best],
-    new: &[Best],
+    old: &Listed<'_, Best>,
+    new: &Listed<'_, Best>,
     prefixes: &[Prefix],
 ) -> Result<Items<Prefix>, AllocError>
     requires old { IsBestList old.now }
     requires new { IsBestList new.now }
-    ensures { IfOk result (λ changed. AreToldAmong prefixes.now changed old.now new.now) }
+    requires prefixes { IsStrictlySortedBy prefix_cmp prefixes.now }
+    ensures { IfOk result (λ changed. AreTaken (λ (b : BestModel). b.path.prefix) (best_for new.now) old.now prefixes.now changed) }
 {
     let mut changed = Items::new(alloc);
     for prefix in prefixes {
-        if differ_at(old, new, prefix) {
-            changed.push(*prefix)?;
+        if !differ_at(old, new, prefix) {
+            continue;
         }
+        changed.push(*prefix)?;
     }
     Ok(changed)
 }
 
 /// The prefixes of two lists of paths, in order, each once.
 #[tactic(auto, using(crate::proofs::ChangeLaws::both_listed))]
-fn prefixes_of_both(alloc: Global, old: &[Best], new: &[Best]) -> Result<Items<Prefix>, AllocError>
+fn prefixes_of_both(
+    alloc: Global,
+    old: &Listed<'_, Best>,
+    new: &Listed<'_, Best>,
+) -> Result<Items<Prefix>, AllocError>
     ensures { IfOk result (λ prefixes. prefixes ≡ in_order prefix_cmp (spec.best_prefixes old.now ++ spec.best_prefixes new.now)) }
 {
     let mut set = BTreeSet::new(alloc);
@@ -90,16 +90,33 @@ fn prefixes_of_both(alloc: Global, old: &[Best], new: &[Best]) -> Result<Items<P
     listed(alloc, set)
 }
 
-/// Paths, with the prefixes at which they say other than those before.
-#[tactic(auto, using(crate::proofs::ChangeLaws::both_covered))]
-fn beside(alloc: Global, old: &[Best], paths: Items<Best>) -> Result<Renewed, AllocError>
+/// The prefixes at which a list of paths says other than another one.
+#[tactic(auto, using(crate::proofs::ChangeLaws::both_covered, crate::proofs::ChangeLaws::both_in_order))]
+fn changed_between(
+    alloc: Global,
+    old: &Listed<'_, Best>,
+    new: &Listed<'_, Best>,
+) -> Result<Items<Prefix>, AllocError>
+    requires old { IsBestList old.now }
+    requires new { IsBestList new.now }
+    ensures covers { IfOk result (λ changed. CoversChange changed old.now new.now) }
+    ensures in_order { IfOk result (IsStrictlySortedBy prefix_cmp) }
+{
+    let prefixes = prefixes_of_both(alloc, old, new)?;
+    let changed = differing(alloc, old, new, prefixes.as_slice())?;
+    Ok(changed)
+}
+
+/// Paths in pieces, with the prefixes at which they say other than those before.
+fn beside(alloc: Global, old: &Listed<'_, Best>, paths: Items<Best>) -> Result<Renewed, AllocError>
     requires old { IsBestList old.now }
     requires paths { IsBestList paths }
     ensures paths { IfOk result (λ r. r.paths ≡ paths) }
     ensures changed { IfOk result (λ r. CoversChange r.changed old.now r.paths) }
+    ensures changed_in_order { IfOk result (λ r. IsStrictlySortedBy prefix_cmp r.changed) }
 {
-    let prefixes = prefixes_of_both(alloc, old, paths.as_slice())?;
-    let changed = differing(alloc, old, paths.as_slice(), prefixes.as_slice())?;
+    let paths = Pieces::of(alloc, paths)?;
+    let changed = changed_between(alloc, old, &paths.listed())?;
     Ok(Renewed { paths, changed })
 }
 
@@ -109,7 +126,7 @@ pub fn first_paths(
     alloc: Global,
     net: &Network,
     sessions: &ConfiguredSessions,
-    previous: &State,
+    previous: &Knowledge,
     inside: &Inside,
     router: RouterId,
 ) -> Result<Renewed, AllocError>
@@ -118,49 +135,10 @@ pub fn first_paths(
     ensures paths { IfOk result (λ r. r.paths ≡ spec.best_paths net.now sessions.now previous.now router) }
     ensures in_order { IfOk result (λ r. IsBestList r.paths) }
     ensures changed { IfOk result (λ r. CoversChange r.changed (known_spec.paths_of previous.now router) r.paths) }
+    ensures changed_in_order { IfOk result (λ r. IsStrictlySortedBy prefix_cmp r.changed) }
 {
     let paths = best_paths(alloc, net, sessions, previous, inside, router)?;
-    beside(alloc, paths_of(previous, router), paths)
-}
-
-/// The prefixes that changed at the sender of a session, in what may go over it.
-fn changes_over<'a>(changes: &'a Changes, inside: &'a Changes, session: &Session) -> &'a [Prefix]
-    ensures { result.now ≡ change_spec.changes_over changes.now inside.now session.now }
-{
-    if session.is_external {
-        changes_of(changes, session.sender)
-    } else {
-        changes_of(inside, session.sender)
-    }
-}
-
-/// Puts the prefixes that changed over sessions into a set.
-fn add_changes(
-    set: &mut BTreeSet<Prefix>,
-    changes: &Changes,
-    inside: &Changes,
-    sessions: &[Session],
-) -> Result<(), AllocError>
-    ensures { OnOk result (keys set.new ≡ fold (insert_key prefix_cmp) (keys set.old) (flat_map (change_spec.changes_over changes.now inside.now) sessions.now)) }
-{
-    for session in sessions {
-        insert_all(set, changes_over(changes, inside, session))?;
-    }
-    Ok(())
-}
-
-/// The prefixes that changed over sessions, in order, each once.
-fn changed_at_senders(
-    alloc: Global,
-    changes: &Changes,
-    inside: &Changes,
-    sessions: &[Session],
-) -> Result<Items<Prefix>, AllocError>
-    ensures { IfOk result (λ prefixes. prefixes ≡ change_spec.changed_at_senders changes.now inside.now sessions.now) }
-{
-    let mut set = BTreeSet::new(alloc);
-    add_changes(&mut set, changes, inside, sessions)?;
-    listed(alloc, set)
+    beside(alloc, &paths_of(previous, router), paths)
 }
 
 /// Whether nothing changed over sessions.
@@ -181,10 +159,10 @@ pub fn stay_best(
     alloc: Global,
     net: &Network,
     sessions: &ConfiguredSessions,
-    earlier: &State,
+    earlier: &Knowledge,
     changes: &Changes,
     changes_inside: &Changes,
-    previous: &State,
+    previous: &Knowledge,
     inside: &Inside,
     router: RouterId,
 ) -> Result<bool, AllocError>
@@ -201,39 +179,49 @@ pub fn stay_best(
     reads_alike(alloc, net, sessions, earlier, previous, inside, router)
 }
 
+/// How many best paths are gone through for a session.
+fn offered_over(inside: &Inside, state: &Knowledge, session: &Session) -> usize
+    requires { All IsRouterState state.now }
+{
+    let listed = listed_for(inside, session);
+    match listed {
+        Some(listed) => listed.len(),
+        None => paths_of(state, session.sender).len(),
+    }
+}
+
 /// How many best paths are gone through for some sessions.
-fn all_offered(inside: &Inside, state: &State, sessions: &[Session]) -> usize
+fn all_offered(inside: &Inside, state: &Knowledge, sessions: &[Session]) -> usize
     requires { All IsRouterState state.now }
 {
     let mut count: usize = 0;
     for session in sessions {
-        count = count.saturating_add(offered(inside, state, session).len());
+        count = count.saturating_add(offered_over(inside, state, session));
     }
     count
 }
 
-/// The best paths of a router after a state, where they are those known but for the prefixes that changed over its sessions.
+/// The best paths of a router after a state, where they are those known but for some prefixes, which stand in order.
 fn updated_paths(
     alloc: Global,
     net: &Network,
     sessions: &ConfiguredSessions,
-    changes: &Changes,
-    changes_inside: &Changes,
-    previous: &State,
+    previous: &Knowledge,
     router: RouterId,
     up: &[Session],
     prefixes: &[Prefix],
 ) -> Result<Renewed, AllocError>
     requires previous { All IsRouterState previous.now }
     requires up { up.now ≡ session_spec.up_sessions sessions.now previous.now router }
-    requires prefixes { prefixes.now ≡ change_spec.changed_at_senders changes.now changes_inside.now up.now }
-    ensures { IfOk result (λ r. AreUpdated net.now sessions.now changes.now changes_inside.now previous.now router r.paths r.changed) }
+    requires prefixes { IsStrictlySortedBy prefix_cmp prefixes.now }
+    ensures updated { IfOk result (λ r. AreUpdated net.now sessions.now previous.now router prefixes.now r.paths r.changed) }
+    ensures in_order { IfOk result (λ r. IsStrictlySortedBy prefix_cmp r.changed) }
 {
     let known = paths_of(previous, router);
     let table = table_of(previous, router);
-    let own = own_paths(alloc, net, table, router)?;
+    let own = own_paths(alloc, net, &table, router)?;
     let mut resolver = Resolver::new(alloc, table);
-    let paths = updated(
+    let (changed, edits) = decided(
         alloc,
         net,
         previous,
@@ -241,26 +229,28 @@ fn updated_paths(
         &mut resolver,
         own.as_slice(),
         up,
-        known,
+        &known,
         prefixes,
     )?;
-    let changed = differing(alloc, known, paths.as_slice(), prefixes)?;
+    let paths = edited(alloc, &known, edits)?;
     Ok(Renewed { paths, changed })
 }
 
-/// The best paths of a router that reads what it read before, and the prefixes whose path may be another. Where many prefixes changed and
-/// many senders would be asked for each, all that they tell is gone through once in place of that.
+/// The best paths of a router that reads what it read before, and the prefixes whose path may be another: only those that its senders may
+/// tell it anew are decided. Where these are many and many senders would be asked for each, all that they tell is gone through once in
+/// place of that.
 fn paths_again(
     alloc: Global,
     net: &Network,
     sessions: &ConfiguredSessions,
-    earlier: &State,
+    earlier: &Knowledge,
     changes: &Changes,
     changes_inside: &Changes,
-    previous: &State,
+    previous: &Knowledge,
     inside: &Inside,
     router: RouterId,
 ) -> Result<Renewed, AllocError>
+    requires earlier { All IsRouterState earlier.now }
     requires previous { All IsRouterState previous.now }
     requires alike { ReadsAlike net.now sessions.now earlier.now previous.now router }
     requires known { known_spec.paths_of previous.now router ≡ spec.best_paths net.now sessions.now earlier.now router }
@@ -270,9 +260,18 @@ fn paths_again(
     ensures paths { IfOk result (λ r. r.paths ≡ spec.best_paths net.now sessions.now previous.now router) }
     ensures in_order { IfOk result (λ r. IsBestList r.paths) }
     ensures changed { IfOk result (λ r. CoversChange r.changed (known_spec.paths_of previous.now router) r.paths) }
+    ensures changed_in_order { IfOk result (λ r. IsStrictlySortedBy prefix_cmp r.changed) }
 {
     let up = up_sessions(alloc, sessions, previous, router)?;
-    let prefixes = changed_at_senders(alloc, changes, changes_inside, up.as_slice())?;
+    let prefixes = changed_at_senders(
+        alloc,
+        net,
+        earlier,
+        previous,
+        changes,
+        changes_inside,
+        up.as_slice(),
+    )?;
     let offered = all_offered(inside, previous, up.as_slice());
     if prefixes.len().saturating_mul(up.len()) > offered.saturating_mul(MANY) {
         return first_paths(alloc, net, sessions, previous, inside, router);
@@ -281,8 +280,6 @@ fn paths_again(
         alloc,
         net,
         sessions,
-        changes,
-        changes_inside,
         previous,
         router,
         up.as_slice(),
@@ -297,10 +294,10 @@ pub fn renewed_paths(
     alloc: Global,
     net: &Network,
     sessions: &ConfiguredSessions,
-    earlier: &State,
+    earlier: &Knowledge,
     changes: &Changes,
     changes_inside: &Changes,
-    previous: &State,
+    previous: &Knowledge,
     inside: &Inside,
     router: RouterId,
 ) -> Result<Renewed, AllocError>
@@ -313,6 +310,7 @@ pub fn renewed_paths(
     ensures paths { IfOk result (λ r. r.paths ≡ spec.best_paths net.now sessions.now previous.now router) }
     ensures in_order { IfOk result (λ r. IsBestList r.paths) }
     ensures changed { IfOk result (λ r. CoversChange r.changed (known_spec.paths_of previous.now router) r.paths) }
+    ensures changed_in_order { IfOk result (λ r. IsStrictlySortedBy prefix_cmp r.changed) }
 {
     if !reads_alike(alloc, net, sessions, earlier, previous, inside, router)? {
         return first_paths(alloc, net, sessions, previous, inside, router);

@@ -5,20 +5,24 @@ ghost use Rattle.rc_route.specs.Tables.{IsRouterState, IsTable};
 ghost use Rattle.rc_bgp.specs.Changes.{IsHeardAlike, IsToldAlike, ReadsAlike};
 ghost use Rattle.rc_bgp.specs.RouterStates as known_spec;
 ghost use Rattle.rc_bgp.specs.AllOriginated as own_spec;
+ghost use Rattle.rc_bgp.specs.AllOriginated.{SayAlike};
 ghost use Rattle.rc_bgp.specs.Reaching as reach_spec;
 ghost use Rattle.rc_bgp.specs.Sessions as session_spec;
-ghost use Rattle.rc_bgp.specs.Telling.{AreListed, may_tell, told_inside};
+ghost use Rattle.rc_bgp.specs.Telling.{AreListed, may_tell, offered, told_inside};
 
-use crate::all_originated::own_paths;
+use crate::all_originated::paths_of_process;
+use crate::originating::metric_for;
 use crate::reaching::metric_to;
-use crate::router_state::table_of;
-use crate::telling::offered;
+use crate::redistributing::redistributes_nothing;
+use crate::router_state::{paths_of, table_of};
+use crate::telling::listed_for;
 use crate::up::{is_up, sessions_of};
 use crate::{ConfiguredSessions, Inside, Session};
-use rc_base::{Addr, Items, RouterId};
+use rc_base::{Addr, Items, Prefix, RouterId};
 use rc_bgp_session::is_originated;
-use rc_config::Network;
-use rc_route::{Best, BgpPath, Route, State};
+use rc_config::{BgpProcess, Network, RouterText};
+use rc_pieces::{Knowledge, Listed};
+use rc_route::{Best, BgpPath, Route};
 use std::alloc::{AllocError, Global};
 
 /// Whether two lists of lists of paths are the same.
@@ -28,28 +32,80 @@ fn are_same(lists: &Items<Items<BgpPath>>, others: &Items<Items<BgpPath>>) -> bo
     *lists == *others
 }
 
-/// Whether a router originates the same in two states.
+/// Whether two metrics are the same.
+fn is_same_metric(metric: Option<u32>, other: Option<u32>) -> bool
+    ensures { IsTrue result → metric ≡ other }
+{
+    metric == other
+}
+
+/// Whether two tables say the same for the prefixes of lines `network`.
+fn say_alike(before: &Listed<'_, Route>, now: &Listed<'_, Route>, networks: &[Prefix]) -> bool
+    requires before { IsTable before.now }
+    requires now { IsTable now.now }
+    ensures { IsTrue result → SayAlike before.now now.now networks.now }
+{
+    for prefix in networks {
+        if !is_same_metric(metric_for(before, prefix), metric_for(now, prefix)) {
+            return false;
+        }
+    }
+    true
+}
+
+/// Whether a process originates the same with two tables: where it redistributes nothing, that is told by the prefixes of its lines `network`,
+/// and no path is made.
+#[tactic(auto, using(crate::proofs::OwnLaws::alike_by_networks))]
+fn process_originates_alike(
+    alloc: Global,
+    net: &Network,
+    router: RouterId,
+    file: &RouterText,
+    process: &BgpProcess,
+    before: &Listed<'_, Route>,
+    now: &Listed<'_, Route>,
+) -> Result<bool, AllocError>
+    requires before { IsTable before.now }
+    requires now { IsTable now.now }
+    ensures { IfOk result (λ is. is ≡ true → own_spec.paths_of_process net.now router file.now before.now process.now ≡ own_spec.paths_of_process net.now router file.now now.now process.now) }
+{
+    if redistributes_nothing(file, process) {
+        return Ok(say_alike(before, now, process.networks.as_slice()));
+    }
+    let paths = paths_of_process(alloc, net, router, file, process, before)?;
+    let others = paths_of_process(alloc, net, router, file, process, now)?;
+    Ok(are_same(&paths, &others))
+}
+
+/// Whether a router originates the same with two tables.
 fn originates_alike(
     alloc: Global,
     net: &Network,
-    earlier: &State,
-    previous: &State,
+    before: &Listed<'_, Route>,
+    now: &Listed<'_, Route>,
     router: RouterId,
 ) -> Result<bool, AllocError>
-    requires earlier { All IsRouterState earlier.now }
-    requires previous { All IsRouterState previous.now }
-    ensures { IfOk result (λ is. is ≡ true → own_spec.own_paths net.now (known_spec.table_of earlier.now router) router ≡ own_spec.own_paths net.now (known_spec.table_of previous.now router) router) }
+    requires before { IsTable before.now }
+    requires now { IsTable now.now }
+    ensures { IfOk result (λ is. is ≡ true → own_spec.own_paths net.now before.now router ≡ own_spec.own_paths net.now now.now router) }
 {
-    let before = own_paths(alloc, net, table_of(earlier, router), router)?;
-    let now = own_paths(alloc, net, table_of(previous, router), router)?;
-    Ok(are_same(&before, &now))
+    let found = net.router_at(router);
+    match found {
+        None => Ok(true),
+        Some(file) => match &file.bgp {
+            None => Ok(true),
+            Some(process) => {
+                process_originates_alike(alloc, net, router, file, process, before, now)
+            }
+        },
+    }
 }
 
 /// Whether a session is up in both of two states or in neither.
 fn is_up_alike(
     alloc: Global,
-    earlier: &State,
-    previous: &State,
+    earlier: &Knowledge,
+    previous: &Knowledge,
     session: &Session,
 ) -> Result<bool, AllocError>
     requires earlier { All IsRouterState earlier.now }
@@ -61,18 +117,11 @@ fn is_up_alike(
     Ok(before == now)
 }
 
-/// Whether two metrics are the same.
-fn is_same_metric(metric: Option<u32>, other: Option<u32>) -> bool
-    ensures { IsTrue result → metric ≡ other }
-{
-    metric == other
-}
-
 /// Whether a router reaches an address alike in two states.
 fn is_reached_alike(
     alloc: Global,
-    earlier: &State,
-    previous: &State,
+    earlier: &Knowledge,
+    previous: &Knowledge,
     router: RouterId,
     addr: Addr,
 ) -> Result<bool, AllocError>
@@ -80,16 +129,16 @@ fn is_reached_alike(
     requires previous { All IsRouterState previous.now }
     ensures { IfOk result (λ is. is ≡ true → reach_spec.metric_to (known_spec.table_of earlier.now router) addr ≡ reach_spec.metric_to (known_spec.table_of previous.now router) addr) }
 {
-    let before = metric_to(alloc, table_of(earlier, router), addr)?;
-    let now = metric_to(alloc, table_of(previous, router), addr)?;
+    let before = metric_to(alloc, &table_of(earlier, router), addr)?;
+    let now = metric_to(alloc, &table_of(previous, router), addr)?;
     Ok(is_same_metric(before, now))
 }
 
 /// Whether a path that its sender doesn't originate has a next hop that two tables know alike.
 fn is_told_alike(
     alloc: Global,
-    before: &[Route],
-    now: &[Route],
+    before: &Listed<'_, Route>,
+    now: &Listed<'_, Route>,
     best: &Best,
 ) -> Result<bool, AllocError>
     requires before { IsTable before.now }
@@ -107,8 +156,8 @@ fn is_told_alike(
 /// Whether so it is with each of some paths.
 fn are_told_alike(
     alloc: Global,
-    before: &[Route],
-    now: &[Route],
+    before: &Listed<'_, Route>,
+    now: &Listed<'_, Route>,
     paths: &[Best],
 ) -> Result<bool, AllocError>
     requires before { IsTable before.now }
@@ -123,12 +172,55 @@ fn are_told_alike(
     Ok(true)
 }
 
+/// Whether so it is with each path of a list.
+fn are_all_told_alike(
+    alloc: Global,
+    before: &Listed<'_, Route>,
+    now: &Listed<'_, Route>,
+    paths: &Listed<'_, Best>,
+) -> Result<bool, AllocError>
+    requires before { IsTable before.now }
+    requires now { IsTable now.now }
+    ensures { IfOk result (λ are. are ≡ true → AllByRecursion (IsToldAlike before.now now.now) paths.now) }
+{
+    for piece in paths.pieces() {
+        if !are_told_alike(alloc, before, now, piece.as_slice())? {
+            return Ok(false);
+        }
+    }
+    Ok(true)
+}
+
+/// Whether so it is with all that a session's sender may tell over it: with what is listed, if it is, else with all its paths.
+fn are_offered_alike(
+    alloc: Global,
+    before: &Listed<'_, Route>,
+    now: &Listed<'_, Route>,
+    previous: &Knowledge,
+    inside: &Inside,
+    session: &Session,
+) -> Result<bool, AllocError>
+    requires before { IsTable before.now }
+    requires now { IsTable now.now }
+    requires previous { All IsRouterState previous.now }
+    ensures { IfOk result (λ are. are ≡ true → AllByRecursion (IsToldAlike before.now now.now) (offered inside.now previous.now session.now)) }
+{
+    let listed = listed_for(inside, session);
+    match listed {
+        Some(listed) => are_told_alike(alloc, before, now, listed),
+        None => {
+            let paths = paths_of(previous, session.sender);
+            are_all_told_alike(alloc, before, now, &paths)
+        }
+    }
+}
+
 /// Whether the next hops of all that may be told over a session are known alike in two states, where it is internal: over an external
 /// one the next hop is the sender's address.
 fn next_hops_are_alike(
     alloc: Global,
-    earlier: &State,
-    previous: &State,
+    earlier: &Knowledge,
+    previous: &Knowledge,
     inside: &Inside,
     router: RouterId,
     session: &Session,
@@ -141,19 +233,21 @@ fn next_hops_are_alike(
     if session.is_external {
         return Ok(true);
     }
-    are_told_alike(
+    are_offered_alike(
         alloc,
-        table_of(earlier, router),
-        table_of(previous, router),
-        offered(inside, previous, session),
+        &table_of(earlier, router),
+        &table_of(previous, router),
+        previous,
+        inside,
+        session,
     )
 }
 
 /// Whether a router hears the same over a session in two states, where the sender says the same.
 fn is_heard_alike(
     alloc: Global,
-    earlier: &State,
-    previous: &State,
+    earlier: &Knowledge,
+    previous: &Knowledge,
     inside: &Inside,
     router: RouterId,
     session: &Session,
@@ -175,8 +269,8 @@ fn is_heard_alike(
 /// Whether a router hears the same over each of some sessions in two states, where the senders say the same.
 fn are_heard_alike(
     alloc: Global,
-    earlier: &State,
-    previous: &State,
+    earlier: &Knowledge,
+    previous: &Knowledge,
     inside: &Inside,
     router: RouterId,
     sessions: &[Session],
@@ -200,8 +294,8 @@ pub(crate) fn reads_alike(
     alloc: Global,
     net: &Network,
     sessions: &ConfiguredSessions,
-    earlier: &State,
-    previous: &State,
+    earlier: &Knowledge,
+    previous: &Knowledge,
     inside: &Inside,
     router: RouterId,
 ) -> Result<bool, AllocError>
@@ -214,5 +308,11 @@ pub(crate) fn reads_alike(
     if !are_heard_alike(alloc, earlier, previous, inside, router, here)? {
         return Ok(false);
     }
-    originates_alike(alloc, net, earlier, previous, router)
+    originates_alike(
+        alloc,
+        net,
+        &table_of(earlier, router),
+        &table_of(previous, router),
+        router,
+    )
 }

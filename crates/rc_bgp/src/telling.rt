@@ -1,6 +1,7 @@
 //! What routers may tell inside of their ASes, listed once for all who hear it.
 ghost use Rattle.std.specs.List.{list_any};
-ghost use Rattle.std.specs.Prelude.{◌≡◌, All, IfOk, unwrap_or};
+ghost use Rattle.std.specs.Option.{option_copied};
+ghost use Rattle.std.specs.Prelude.{◌≡◌, ◌++◌, All, IfOk, OnOk};
 ghost use Rattle.rc_bgp.specs.Telling as spec;
 ghost use Rattle.rc_route.specs.Tables.{IsRouterState};
 
@@ -9,21 +10,32 @@ use crate::up::sessions_of;
 use crate::{ConfiguredSessions, Session};
 use rc_base::{Items, RouterId};
 use rc_bgp_session::is_internal;
-use rc_route::{Best, State};
+use rc_pieces::{Knowledge, Listed};
+use rc_route::Best;
 use std::alloc::{AllocError, Global};
 
 /// For each router, in order, what it may tell its internal peers, where it has such peers.
 pub type Inside = Items<Option<Items<Best>>>;
 
-/// Those of some best paths that may be told to an internal peer.
-fn not_heard_inside(alloc: Global, paths: &[Best]) -> Result<Items<Best>, AllocError>
-    ensures { IfOk result (λ told. told ≡ spec.may_tell paths.now) }
+/// Puts those of some best paths that may be told to an internal peer at the end.
+fn add_not_heard_inside(told: &mut Items<Best>, paths: &[Best]) -> Result<(), AllocError>
+    ensures { OnOk result (told.new ≡ told.old ++ spec.may_tell paths.now) }
 {
-    let mut told = Items::new(alloc);
     for best in paths {
         if !is_internal(best.path.source) {
             told.push(best.copy()?)?;
         }
+    }
+    Ok(())
+}
+
+/// Those of best paths that may be told to an internal peer.
+fn not_heard_inside(alloc: Global, paths: &Listed<'_, Best>) -> Result<Items<Best>, AllocError>
+    ensures { IfOk result (λ told. told ≡ spec.may_tell paths.now) }
+{
+    let mut told = Items::new(alloc);
+    for piece in paths.pieces() {
+        add_not_heard_inside(&mut told, piece.as_slice())?;
     }
     Ok(told)
 }
@@ -51,7 +63,7 @@ pub(crate) fn has_internal(sessions: &ConfiguredSessions, router: RouterId) -> b
 fn listed_of(
     alloc: Global,
     sessions: &ConfiguredSessions,
-    state: &State,
+    state: &Knowledge,
     router: RouterId,
 ) -> Result<Option<Items<Best>>, AllocError>
     requires { All IsRouterState state.now }
@@ -60,7 +72,7 @@ fn listed_of(
     if !has_internal(sessions, router) {
         return Ok(None);
     }
-    let told = not_heard_inside(alloc, paths_of(state, router))?;
+    let told = not_heard_inside(alloc, &paths_of(state, router))?;
     Ok(Some(told))
 }
 
@@ -69,7 +81,7 @@ fn listed_of(
 pub fn told_inside(
     alloc: Global,
     sessions: &ConfiguredSessions,
-    state: &State,
+    state: &Knowledge,
 ) -> Result<Inside, AllocError>
     requires { All IsRouterState state.now }
     ensures { IfOk result (λ all. all ≡ spec.told_inside sessions.now state.now) }
@@ -81,28 +93,26 @@ pub fn told_inside(
     Ok(all)
 }
 
-/// What is listed of a router, or all its paths where nothing is.
-fn listed_or<'a>(listed: &'a Option<Items<Best>>, paths: &'a [Best]) -> &'a [Best]
-    ensures { result.now ≡ unwrap_or listed.now paths.now }
+/// What is listed of a router, if it is.
+fn listed_in(listed: &Option<Items<Best>>) -> Option<&[Best]>
+    ensures { option_copied result ≡ listed.now }
 {
     match listed {
-        Some(listed) => listed.as_slice(),
-        None => paths,
+        Some(listed) => Some(listed.as_slice()),
+        None => None,
     }
 }
 
-/// Best paths of a session's sender, among which are all that it may tell over the session.
-pub(crate) fn offered<'a>(all: &'a Inside, state: &'a State, session: &Session) -> &'a [Best]
-    requires { All IsRouterState state.now }
-    ensures { result.now ≡ spec.offered all.now state.now session.now }
+/// What is listed of the sender of an internal session, if it is: among it is all that it may tell over the session.
+pub(crate) fn listed_for<'a>(all: &'a Inside, session: &Session) -> Option<&'a [Best]>
+    ensures { option_copied result ≡ spec.listed_for all.now session.now }
 {
-    let paths = paths_of(state, session.sender);
     if session.is_external {
-        return paths;
+        return None;
     }
     let found = all.as_slice().get(session.sender.index());
     match found {
-        Some(listed) => listed_or(listed, paths),
-        None => paths,
+        Some(listed) => listed_in(listed),
+        None => None,
     }
 }

@@ -10,7 +10,7 @@ use crate::router_state::table_of;
 use crate::{ConfiguredSessions, Session};
 use rc_base::{Items, RouterId};
 use rc_config::Network;
-use rc_route::State;
+use rc_pieces::Knowledge;
 use rc_topology::Links;
 use std::alloc::{AllocError, Global};
 
@@ -18,13 +18,13 @@ use std::alloc::{AllocError, Global};
 pub type Sessions = Items<Session>;
 
 /// Whether a session off a shared subnet is up: each address resolves in the other router's table.
-fn is_far_up(alloc: Global, state: &State, session: &Session) -> Result<bool, AllocError>
+fn is_far_up(alloc: Global, state: &Knowledge, session: &Session) -> Result<bool, AllocError>
     requires { All IsRouterState state.now }
     ensures { IfOk result (λ is. is ≡ spec.is_far_up state.now session.now) }
 {
     let there = reaches(
         alloc,
-        table_of(state, session.receiver),
+        &table_of(state, session.receiver),
         session.sender_address,
     )?;
     if !there {
@@ -32,13 +32,13 @@ fn is_far_up(alloc: Global, state: &State, session: &Session) -> Result<bool, Al
     }
     reaches(
         alloc,
-        table_of(state, session.sender),
+        &table_of(state, session.sender),
         session.receiver_address,
     )
 }
 
 /// Whether a session is up in a state.
-pub(crate) fn is_up(alloc: Global, state: &State, session: &Session) -> Result<bool, AllocError>
+pub(crate) fn is_up(alloc: Global, state: &Knowledge, session: &Session) -> Result<bool, AllocError>
     requires { All IsRouterState state.now }
     ensures { IfOk result (λ is. is ≡ spec.is_up state.now session.now) }
 {
@@ -62,7 +62,7 @@ pub(crate) fn sessions_of(sessions: &ConfiguredSessions, router: RouterId) -> &[
 /// Puts those of some sessions that are up in a state at the end.
 fn add_up(
     alloc: Global,
-    state: &State,
+    state: &Knowledge,
     sessions: &[Session],
     up: &mut Items<Session>,
 ) -> Result<(), AllocError>
@@ -81,7 +81,7 @@ fn add_up(
 pub(crate) fn up_sessions(
     alloc: Global,
     sessions: &ConfiguredSessions,
-    state: &State,
+    state: &Knowledge,
     router: RouterId,
 ) -> Result<Items<Session>, AllocError>
     requires { All IsRouterState state.now }
@@ -96,7 +96,7 @@ pub(crate) fn up_sessions(
 fn all_up(
     alloc: Global,
     configured: &ConfiguredSessions,
-    state: &State,
+    state: &Knowledge,
 ) -> Result<Sessions, AllocError>
     requires { All IsRouterState state.now }
     ensures { IfOk result (λ up. up ≡ flat_map (filter (spec.is_up state.now)) configured.now) }
@@ -117,7 +117,7 @@ pub fn sessions(
     alloc: Global,
     net: &Network,
     links: &Links,
-    state: &State,
+    state: &Knowledge,
 ) -> Result<Sessions, AllocError>
     requires { All IsRouterState state.now }
     ensures value { IfOk result (λ up. up ≡ spec.sessions net.now links.now state.now) }

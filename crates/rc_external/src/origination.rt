@@ -4,7 +4,7 @@ ghost use Rattle.std.specs.List.{find};
 ghost use Rattle.std.specs.Option.{option_copied};
 ghost use Rattle.rc_base.specs.Prefix.{is_default};
 ghost use Rattle.rc_policy.specs.Policy.{mapped};
-ghost use Rattle.rc_route.specs.Tables.{IsBestList};
+ghost use Rattle.rc_route.specs.Tables.{IsBestList, IsTable, best_path_for};
 ghost use Rattle.rc_external.specs.AsExternal.{sent_metric};
 ghost use Rattle.rc_external.specs.Origination as spec;
 
@@ -15,8 +15,9 @@ use rc_config::{
     DefaultInformation, Mention, MetricType, OspfProcess, RedistributedSource, Redistribution,
     RouterText, natural_len,
 };
+use rc_pieces::Listed;
 use rc_policy::{Attrs, apply};
-use rc_route::{Best, BgpPath, Route, Source, Table, best_path_for};
+use rc_route::{Best, BgpPath, Route, Source};
 use std::alloc::{AllocError, Global};
 
 /// The greatest metric that is sent: LSInfinity (RFC 2328 appendix B) less one.
@@ -103,8 +104,24 @@ fn type_of(line: &Redistribution) -> MetricType
     line.metric_type.unwrap_or(MetricType::Type2)
 }
 
+/// The best path to a prefix.
+fn best_path_for<'a>(paths: &Listed<'a, Best>, prefix: &Prefix) -> Option<&'a BgpPath>
+    requires { IsBestList paths.now }
+    ensures { option_copied result ≡ best_path_for paths.now prefix.now }
+{
+    let found = paths.at(prefix);
+    match found {
+        Some(best) => Some(&best.path),
+        None => None,
+    }
+}
+
 /// The best path that a route of this source came from, where another AS sent it.
-fn ebgp_path_of<'a>(source: Source, prefix: &Prefix, paths: &'a [Best]) -> Option<&'a BgpPath>
+fn ebgp_path_of<'a>(
+    source: Source,
+    prefix: &Prefix,
+    paths: &Listed<'a, Best>,
+) -> Option<&'a BgpPath>
     requires { IsBestList paths.now }
     ensures { option_copied result ≡ spec.ebgp_path_of source prefix.now paths.now }
 {
@@ -151,7 +168,11 @@ fn attrs_with(
 }
 
 /// What the route map of a line sees of a route.
-fn attrs_of_route(paths: &[Best], line: &Redistribution, route: &Route) -> Result<Attrs, AllocError>
+fn attrs_of_route(
+    paths: &Listed<'_, Best>,
+    line: &Redistribution,
+    route: &Route,
+) -> Result<Attrs, AllocError>
     requires { IsBestList paths.now }
     ensures { IfOk result (λ attrs. attrs ≡ spec.attrs_of_route paths.now line.now route.now) }
 {
@@ -204,7 +225,7 @@ fn redistributed_by(
     alloc: Global,
     router: RouterId,
     file: &RouterText,
-    paths: &[Best],
+    paths: &Listed<'_, Best>,
     route: &Route,
     line: &Redistribution,
 ) -> Result<Option<External>, AllocError>
@@ -234,7 +255,7 @@ pub(crate) fn redistributed(
     router: RouterId,
     file: &RouterText,
     process: &OspfProcess,
-    paths: &[Best],
+    paths: &Listed<'_, Best>,
     route: &Route,
 ) -> Result<Option<External>, AllocError>
     requires { IsBestList paths.now }
@@ -257,17 +278,17 @@ fn is_ospf(source: Source) -> bool
 }
 
 /// The default route of a table.
-fn default_in(table: &Table) -> Option<&Route>
+#[tactic(auto, using(crate::proofs::DefaultLaws::default_is))]
+fn default_in<'a>(table: &Listed<'a, Route>) -> Option<&'a Route>
+    requires { IsTable table.now }
     ensures { option_copied result ≡ find (λ x. is_default x.prefix) table.now }
 {
-    table
-        .as_slice()
-        .iter()
-        .find(|route| route.prefix.is_default())
+    table.at(&Prefix::default_route())
 }
 
 /// Whether a table has the default route from another source than OSPF.
-fn has_default(table: &Table) -> bool
+fn has_default(table: &Listed<'_, Route>) -> bool
+    requires { IsTable table.now }
     ensures { result ≡ spec.has_default table.now }
 {
     let found = default_in(table);
@@ -280,9 +301,10 @@ fn has_default(table: &Table) -> bool
 /// The default route that a router sends: where its table has one, and with `always` in any case.
 pub(crate) fn default_sent(
     router: RouterId,
-    table: &Table,
+    table: &Listed<'_, Route>,
     line: &DefaultInformation,
 ) -> Option<External>
+    requires { IsTable table.now }
     ensures { result ≡ spec.default_sent router table.now line.now }
 {
     if !line.always && !has_default(table) {

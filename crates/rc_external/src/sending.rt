@@ -2,7 +2,7 @@
 ghost use Rattle.std.specs.Prelude.{◌≡◌, ◌++◌, [], All, IfOk, OnOk, slice_get};
 ghost use Rattle.std.specs.List.{filter_map, flat_map};
 ghost use Rattle.std.specs.Option.{option_and_then, option_copied, option_map_or, option_to_list};
-ghost use Rattle.rc_route.specs.Tables.{IsBestList, IsRouterState};
+ghost use Rattle.rc_route.specs.Tables.{IsBestList, IsRouterState, IsTable};
 ghost use Rattle.rc_external.specs.Externals.{externals as externals_of, IsByPrefix};
 ghost use Rattle.rc_external.specs.Origination as spec;
 
@@ -11,16 +11,18 @@ use crate::origination::{default_sent, redistributed};
 use crate::{External, Externals};
 use rc_base::{Items, RouterId};
 use rc_config::{DefaultInformation, MetricType, Network, OspfProcess, RouterText};
-use rc_route::{RouterState, State, Table, known_at};
+use rc_pieces::{Knowledge, Known, Listed, known_at};
+use rc_route::{Best, Route};
 use std::alloc::{AllocError, Global};
 
 /// Puts the default route that a router sends at the end.
 fn add_default(
     all: &mut Items<External>,
     router: RouterId,
-    table: &Table,
+    table: &Listed<'_, Route>,
     line: Option<&DefaultInformation>,
 ) -> Result<(), AllocError>
+    requires { IsTable table.now }
     ensures { OnOk result (all.new ≡ all.old ++ option_to_list (option_and_then (spec.default_sent router table.now) (option_copied line.entry))) }
 {
     // For the proof: that of a push wants each enum within the element named in the function.
@@ -34,25 +36,45 @@ fn add_default(
     }
 }
 
-/// Puts what a router sends of the routes of its table at the end.
+/// Puts what a router sends of some routes of its table at the end.
+fn add_of_routes(
+    alloc: Global,
+    all: &mut Items<External>,
+    router: RouterId,
+    file: &RouterText,
+    process: &OspfProcess,
+    paths: &Listed<'_, Best>,
+    routes: &[Route],
+) -> Result<(), AllocError>
+    requires { IsBestList paths.now }
+    ensures { OnOk result (all.new ≡ all.old ++ filter_map (spec.redistributed router file.now process.now paths.now) routes.now) }
+{
+    // For the proof: that of a push wants each enum within the element named in the function.
+    let _type: Option<MetricType> = None;
+    for route in routes {
+        if let Some(external) = redistributed(alloc, router, file, process, paths, route)? {
+            all.push(external)?;
+        }
+    }
+    Ok(())
+}
+
+/// Puts what a router sends of the routes of its table at the end, a piece of it after another.
 fn add_redistributed(
     alloc: Global,
     all: &mut Items<External>,
     router: RouterId,
     file: &RouterText,
     process: &OspfProcess,
-    known: &RouterState,
+    paths: &Listed<'_, Best>,
+    table: &Listed<'_, Route>,
 ) -> Result<(), AllocError>
-    requires { IsBestList known.now.paths }
-    ensures { OnOk result (all.new ≡ all.old ++ filter_map (spec.redistributed router file.now process.now known.now.paths) known.now.table) }
+    requires { IsBestList paths.now }
+    ensures { OnOk result (all.new ≡ all.old ++ filter_map (spec.redistributed router file.now process.now paths.now) table.now) }
 {
-    // For the proof: that of a push wants each enum within the element named in the function.
-    let _type: Option<MetricType> = None;
-    let paths = known.paths.as_slice();
-    for route in known.table.as_slice() {
-        if let Some(external) = redistributed(alloc, router, file, process, paths, route)? {
-            all.push(external)?;
-        }
+    let pieces = table.pieces();
+    for piece in pieces {
+        add_of_routes(alloc, all, router, file, process, paths, piece.as_slice())?;
     }
     Ok(())
 }
@@ -64,18 +86,15 @@ fn add_sent(
     router: RouterId,
     file: &RouterText,
     process: &OspfProcess,
-    known: &RouterState,
+    known: &Known,
 ) -> Result<(), AllocError>
-    requires { IsBestList known.now.paths }
+    requires { IsRouterState known.now }
     ensures { OnOk result (all.new ≡ all.old ++ spec.sent_by router file.now known.now process.now) }
 {
-    add_default(
-        all,
-        router,
-        &known.table,
-        process.default_information.as_ref(),
-    )?;
-    add_redistributed(alloc, all, router, file, process, known)
+    let table = known.table();
+    let paths = known.paths();
+    add_default(all, router, &table, process.default_information.as_ref())?;
+    add_redistributed(alloc, all, router, file, process, &paths, &table)
 }
 
 /// Puts all that a router sends of what it knows at the end, where it has a process.
@@ -84,9 +103,9 @@ fn add_of_file(
     all: &mut Items<External>,
     router: RouterId,
     file: &RouterText,
-    known: &RouterState,
+    known: &Known,
 ) -> Result<(), AllocError>
-    requires { IsBestList known.now.paths }
+    requires { IsRouterState known.now }
     ensures { OnOk result (all.new ≡ all.old ++ spec.sent_by_file router file.now known.now) }
 {
     match &file.ospf {
@@ -101,7 +120,7 @@ fn add_from_state(
     all: &mut Items<External>,
     router: RouterId,
     file: &RouterText,
-    state: &State,
+    state: &Knowledge,
 ) -> Result<(), AllocError>
     requires { All IsRouterState state.now }
     ensures { OnOk result (all.new ≡ all.old ++ option_map_or (spec.sent_by_file router file.now) (slice_get state.now router) []) }
@@ -118,7 +137,7 @@ fn add_router(
     alloc: Global,
     all: &mut Items<External>,
     net: &Network,
-    state: &State,
+    state: &Knowledge,
     router: RouterId,
 ) -> Result<(), AllocError>
     requires { All IsRouterState state.now }
@@ -132,7 +151,7 @@ fn add_router(
 }
 
 /// All that the routers of a network send from a state.
-fn all_sent(alloc: Global, net: &Network, state: &State) -> Result<Items<External>, AllocError>
+fn all_sent(alloc: Global, net: &Network, state: &Knowledge) -> Result<Items<External>, AllocError>
     requires { All IsRouterState state.now }
     ensures { IfOk result (λ all. all ≡ spec.all_sent net.now state.now) }
 {
@@ -146,7 +165,11 @@ fn all_sent(alloc: Global, net: &Network, state: &State) -> Result<Items<Externa
 /// What all AS boundary routers of a network send from a state, by prefix: the routes that they redistribute, and the default route.
 /// Each table and each list of best paths of the state is in order. It is computed once a round, for all readers. It errs only where
 /// memory runs out.
-pub fn externals(alloc: Global, net: &Network, previous: &State) -> Result<Externals, AllocError>
+pub fn externals(
+    alloc: Global,
+    net: &Network,
+    previous: &Knowledge,
+) -> Result<Externals, AllocError>
     requires { All IsRouterState previous.now }
     ensures value { IfOk result (λ rows. rows ≡ externals_of net.now previous.now) }
     ensures in_order { IfOk result IsByPrefix }

@@ -6,5 +6,4 @@ mod OutsideLaws
 mod ReadLaws
 mod NameLaws
 pub mod OwnLaws
-mod SameLaws
 pub mod StayedLaws

@@ -1,5 +1,5 @@
 -- Members of lists, and what an option gives.
-use Rattle.std.proofs.Common.{refl, ◌≡◌, ◌⊎◌, inl, inr, ap, sym, ◌∙◌, subst, ℕ, zero, suc, ◌+◌, ◌<◌, ◌≤◌, Bool, true, false, cond, ◌||◌, List, [], ◌∷◌, ◌++◌, map, Option, Some, None, IfSome, arith}
+use Rattle.std.proofs.Common.{refl, ◌≡◌, ◌⊎◌, inl, inr, ap, sym, ◌∙◌, subst, ℕ, zero, suc, ◌+◌, ◌<◌, ◌≤◌, Bool, true, false, cond, ◌||◌, List, [], ◌∷◌, ◌++◌, length, map, Option, Some, None, IfSome, arith}
 use Rattle.std.specs.Prelude.{slice_get, option_and_then}
 use Rattle.std.specs.List.{AllByRecursion, cons_option, filter, filter_map, find, flat_map, list_any, range_with_len}
 use Rattle.std.specs.Map.{lookup}
@@ -142,3 +142,15 @@ lookup_some {K} {V} P test (e ∷ es) all = by (test e.0) (lookup_some P test es
     by : (b : Bool) → IfSome (lookup test es) P → IfSome (cond b (Some e.1) (lookup test es)) P
     by true rest = all.0
     by false rest = rest
+
+-- ---- element by element
+
+-- lists as long that say the same at each index are one
+pub same_elements : {X : Type 0} (xs ys : List X) → length xs ≡ length ys → ((k : ℕ) → k < length xs → slice_get xs k ≡ slice_get ys k) → xs ≡ ys
+same_elements [] [] long same = refl
+same_elements [] (y ∷ ys) long same = absurd (omega (arith, long))
+same_elements (x ∷ xs) [] long same = absurd (omega (arith, long))
+same_elements (x ∷ xs) (y ∷ ys) long same =
+    let first : x ≡ y = same_Some x y (same 0 (omega arith)) in
+    let rest : xs ≡ ys = same_elements xs ys (omega (arith, long)) (λ k less. same (suc k) (omega arith)) in
+    λ i. first i ∷ rest i

@@ -1,6 +1,6 @@
 -- A router in whose best paths nothing changed, and whose table is the same, knows the same.
 use Rattle.std.proofs.Common.{refl, ◌≡◌, ap, sym, ◌∙◌, subst, ℕ, zero, suc, ◌+◌, ◌<◌, Bool, true, false, cond, ◌||◌, List, [], ◌∷◌, ◌++◌, All, map, Option, Some, None, IfSome, length, arith}
-use Rattle.std.specs.Prelude.{slice_get, unwrap_or}
+use Rattle.std.specs.Prelude.{slice_get}
 use Rattle.std.specs.List.{AllByRecursion, find, list_any, range_with_len}
 use Rattle.std.specs.List.Sorted.{IsStrictlySortedBy}
 use Rattle.std.specs.Option.{option_map, option_map_or}
@@ -12,8 +12,8 @@ use Rattle.std.proofs.lemmas.List.FromFn.{length-range_with_len, get_or-range_wi
 use Rattle.rc_base.specs.Prefix.{Cidr, prefix_cmp, same_prefix}
 use Rattle.rc_base.proofs.GroupLaws.{same_itself}
 use Rattle.rc_base.proofs.OrderedLaws.{all-weaker, prefix_cmp_total, same_by_prefix_cmp}
-use Rattle.rc_bgp.specs.Changes.{AreChanges, CoversChange}
-use Rattle.rc_bgp.specs.RouterStates.{paths_of}
+use Rattle.rc_bgp.specs.Changes.{CoversChange}
+use Rattle.rc_bgp.specs.RouterStates.{paths_of, table_of}
 use Rattle.rc_bgp.specs.Sessions.{configured_sessions}
 use Rattle.rc_bgp_session.specs.declared.session.Session.{Session}
 use Rattle.rc_bgp.proofs.PrefixLaws.{none_later}
@@ -24,7 +24,7 @@ use Rattle.rc_rib.specs.Next.{next_router, next_state}
 use Rattle.rc_route.specs.Tables.{IsRouterState, best_for}
 use Rattle.rc_route.specs.declared.best.Best.{Best}
 use Rattle.rc_route.specs.declared.state.RouterState.{RouterState}
-use Rattle.rc_reads.specs.Stayed.{AreFlagged, HasSameTable, HaveStayed, ReadsTheSame}
+use Rattle.rc_reads.specs.Stayed.{HaveStayed, ReadsTheSame}
 use Rattle.rc_reads.specs.declared.stayed.Stayed.{Stayed}
 use Rattle.rc_reads.proofs.ReadLaws.{reads_same}
 
@@ -84,17 +84,16 @@ module _ {A : Type 0} (prefix_of : A → Cidr) where
 pub in_state : (state : List RouterState) (r : ℕ) (s : RouterState) → All IsRouterState state → slice_get state r ≡ Some s → IsRouterState s
 in_state state r s all is = subst IsRouterState (get_or_from_slice_get state r s s is) (all r s (slice_get_within state r s is))
 
-pub stays : (changes : List (List Cidr)) (old now : List RouterState) (r : ℕ) → AreChanges changes old now → All IsRouterState old → All IsRouterState now → slice_get changes r ≡ Some [] → HasSameTable old now r → slice_get old r ≡ slice_get now r
-stays changes old now r are ordered ordered' none same =
-    let best : Option RouterState → Cidr → Option Best = λ o p. best_for (option_map_or (λ (s : RouterState). s.paths) o []) p in
-    let covered = are.each r in
-    let paths : same.before.paths ≡ same.after.paths =
-    one_list (λ (b : Best). b.path.prefix) same.before.paths same.after.paths (in_state old r same.before ordered same.known_before).paths (in_state now r same.after ordered' same.known_after).paths
-    (λ p. sym (ap (λ o. best o p) same.known_before) ∙ covered.elsewhere p (ap (λ o. list_any (same_prefix p) (unwrap_or o [])) none) ∙ ap (λ o. best o p) same.known_after)
+-- a router that is made, with the same table, and in whose best paths nothing changed, knows what it knew
+pub stays : (state : List RouterState) (r : ℕ) (s known : RouterState) (changed : List Cidr) → All IsRouterState state → slice_get state r ≡ Some known → IsRouterState s → s.table ≡ table_of state r → CoversChange changed (paths_of state r) s.paths → changed ≡ [] → known ≡ s
+stays state r s known changed ordered is own same covers none =
+    let paths_of_it : Option RouterState → List Best = λ o. option_map_or (λ (t : RouterState). t.paths) o [] in
+    let tables : known.table ≡ s.table = sym (ap (λ o. option_map_or (λ (t : RouterState). t.table) o []) is) ∙ sym same in
+    let paths : known.paths ≡ s.paths =
+    one_list (λ (b : Best). b.path.prefix) known.paths s.paths (in_state state r known ordered is).paths own.paths
+    (λ p. ap (λ o. best_for (paths_of_it o) p) (sym is) ∙ covers.elsewhere p (ap (list_any (same_prefix p)) none))
     in
-    let tables = same.table in
-    let one : same.before ≡ same.after = λ i. record { table = tables i; paths = paths i } in
-    same.known_before ∙ ap Some one ∙ sym same.known_after
+    λ i. record { table = tables i; paths = paths i }
 
 -- the same paths say the same
 pub nothing_moved : (state : List RouterState) (r : ℕ) (s : RouterState) (paths : List Best) (changed : List Cidr) → slice_get state r ≡ Some s → paths ≡ s.paths → CoversChange changed (paths_of state r) paths
@@ -103,18 +102,6 @@ nothing_moved state r s paths changed known same = record { elsewhere = λ p non
 pub some_weaker : {X : Type 0} (P Q : X → Type 0) (o : Option X) → ((x : X) → P x → Q x) → IfSome o P → IfSome o Q
 some_weaker P Q None f h = tt
 some_weaker P Q (Some x) f h = f x h
-
--- ---- flags so far
-
-pub one_flag : (flags more : List Bool) (n : ℕ) (b : Bool) (old now : List RouterState) → length flags ≡ n → more ≡ flags ++ b ∷ [] → AreFlagged flags old now → (b ≡ true → slice_get old n ≡ slice_get now n) → AreFlagged more old now
-one_flag flags more n b old now long made are last s set = go flags n (λ k. slice_get old k ≡ slice_get now k) long are last s (ap (λ fs. slice_get fs s) (sym made) ∙ set)
-  where
-    go : (fs : List Bool) (n : ℕ) (P : ℕ → Type 0) → length fs ≡ n → ((s : ℕ) → slice_get fs s ≡ Some true → P s) → (b ≡ true → P n) → (s : ℕ) → slice_get (fs ++ b ∷ []) s ≡ Some true → P s
-    go [] n P long each last zero is = subst P (sym long) (last (same_Some b true is))
-    go [] n P long each last (suc s) is = absurd (cc)
-    go (f ∷ fs) zero P long each last s is = absurd (omega (arith, long))
-    go (f ∷ fs) (suc n) P long each last zero is = each zero is
-    go (f ∷ fs) (suc n) P long each last (suc s) is = go fs n (λ k. P (suc k)) (omega (arith, long)) (λ k set. each (suc k) set) last s is
 
 -- ---- once more
 

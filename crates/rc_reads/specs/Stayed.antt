@@ -2,7 +2,7 @@
 use Rattle.std.specs.Prelude.{◌≡◌, ◌⊎◌, ℕ, ◌<◌, Bool, true, List, [], Option, Some, MatchOption, length, slice_get}
 use Rattle.std.specs.List.{AllByRecursion}
 use Rattle.rc_bgp.specs.Changes.{CoversChange}
-use Rattle.rc_bgp.specs.RouterStates.{paths_of}
+use Rattle.rc_bgp.specs.RouterStates.{paths_of, table_of}
 use Rattle.rc_bgp.specs.Sessions.{sessions_of}
 use Rattle.rc_bgp_session.specs.declared.session.Session.{Session}
 use Rattle.rc_config.specs.declared.network.Network.{Network}
@@ -14,14 +14,6 @@ use Rattle.rc_rib.specs.Next.{next_router}
 use Rattle.rc_rib.specs.declared.made.Made.{Made}
 use Rattle.rc_route.specs.Tables.{IsRouterState}
 use Rattle.rc_route.specs.declared.state.RouterState.{RouterState}
-
--- both states know something of the router, and the same table
-pub record HasSameTable (old now : List RouterState) (r : ℕ) : Type 0 where
-  pub before : RouterState
-  pub after : RouterState
-  pub known_before : slice_get old r ≡ Some before
-  pub known_after : slice_get now r ≡ Some after
-  pub table : before.table ≡ after.table
 
 -- the flag of a router is set only where both states tell the same of it
 abbrev pub AreFlagged : List Bool → List RouterState → List RouterState → Type 0
@@ -50,10 +42,12 @@ pub record KnowsAgain (net : Network) (internal : Internal) (flags : List Bool) 
   pub flag : slice_get flags r ≡ Some true
   pub same : slice_get now r ≡ Some (next_router net internal now r)
 
--- this is what the router knows after a round from the state, in order, and all is told that changed in its best paths
+-- this is what the router knows after a round from the state, in order, the flag is set only where its table is the same, and all is told that
+-- changed in its best paths
 pub record IsMade (net : Network) (internal : Internal) (now : List RouterState) (r : ℕ) (m : Made) : Type 0 where
   pub state : m.state ≡ next_router net internal now r
   pub in_order : IsRouterState m.state
+  pub same_table : m.has_same_table ≡ true → m.state.table ≡ table_of now r
   pub changed : CoversChange m.changed (paths_of now r) m.state.paths
 
 -- what is made anew of the router is that, and where nothing is, it knows the same again

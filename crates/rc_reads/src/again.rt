@@ -14,8 +14,8 @@ use crate::stayed::{Stayed, is_flagged};
 use rc_base::RouterId;
 use rc_bgp::{ConfiguredSessions, Session};
 use rc_ospf::Internal;
+use rc_pieces::{Known, known_at};
 use rc_rib::{Inputs, Made, table};
-use rc_route::{RouterState, known_at};
 use std::alloc::{AllocError, Global};
 
 /// Whether the flags of the senders of some sessions are set.
@@ -59,7 +59,7 @@ fn reads_the_same(inputs: &Inputs<'_>, stayed: &Stayed, router: RouterId) -> boo
 }
 
 /// What a router knows in the state before, where by these flags nothing changed that it reads.
-fn unmoved<'a>(inputs: &Inputs<'a>, stayed: &Stayed, router: RouterId) -> Option<&'a RouterState>
+fn unmoved<'a>(inputs: &Inputs<'a>, stayed: &Stayed, router: RouterId) -> Option<&'a Known>
     ensures { IfSome result (λ s. ReadsTheSame inputs.now.internal.now inputs.now.sessions.now stayed.now router × (slice_get inputs.now.previous.now router ≡ Some s.now)) }
 {
     if reads_the_same(inputs, stayed, router) {
@@ -70,7 +70,7 @@ fn unmoved<'a>(inputs: &Inputs<'a>, stayed: &Stayed, router: RouterId) -> Option
 }
 
 /// The same, where that state came from an earlier one: so the router knows it after the next round too.
-fn kept<'a>(inputs: &Inputs<'a>, stayed: &Stayed, router: RouterId) -> Option<&'a RouterState>
+fn kept<'a>(inputs: &Inputs<'a>, stayed: &Stayed, router: RouterId) -> Option<&'a Known>
     requires inputs { AreInputs inputs.now }
     requires router { IsRouter inputs.now.network.now router }
     requires stayed { IfSome inputs.now.earlier (λ (e : Earlier). HaveStayed inputs.now.network.now stayed.now e.state.now inputs.now.previous.now) }

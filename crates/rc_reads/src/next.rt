@@ -19,8 +19,8 @@ use rc_bgp::{ConfiguredSessions, Inside, configured_sessions, told_inside};
 use rc_config::Network;
 use rc_external::{Externals, externals};
 use rc_ospf::Internal;
+use rc_pieces::{Knowledge, Known};
 use rc_rib::{Inputs, Made, table};
-use rc_route::{RouterState, State};
 use std::alloc::{AllocError, Global};
 
 /// What a router knows next.
@@ -28,7 +28,7 @@ pub enum Next {
     /// What it knows: nothing that it reads changed.
     Kept,
     /// This, made anew.
-    Made(RouterState),
+    Made(Known),
 }
 
 /// By a function of its own, so that what holds one drops it by one call.
@@ -49,9 +49,9 @@ fn made_from<'a>(
     sessions: &'a ConfiguredSessions,
     externals: &'a Externals,
     inside: &'a Inside,
-    now: &'a State,
+    now: &'a Knowledge,
     router: RouterId,
-) -> Result<RouterState, AllocError>
+) -> Result<Known, AllocError>
     requires lawful { IsLawful net.now }
     requires router { IsRouter net.now router }
     requires routes { All IsTable internal.now.routes }
@@ -73,7 +73,11 @@ fn made_from<'a>(
         earlier: None,
     };
     let made = table(alloc, &inputs, router)?;
-    let Made { state, changed: _ } = made;
+    let Made {
+        state,
+        has_same_table: _,
+        changed: _,
+    } = made;
     Ok(state)
 }
 
@@ -82,9 +86,9 @@ fn made_of(
     alloc: Global,
     net: &Network,
     internal: &Internal,
-    now: &State,
+    now: &Knowledge,
     router: RouterId,
-) -> Result<RouterState, AllocError>
+) -> Result<Known, AllocError>
     requires lawful { IsLawful net.now }
     requires router { IsRouter net.now router }
     requires routes { All IsTable internal.now.routes }
@@ -107,8 +111,8 @@ pub fn next_of(
     net: &Network,
     internal: &Internal,
     reads: &Reads,
-    before: &State,
-    now: &State,
+    before: &Knowledge,
+    now: &Knowledge,
     router: RouterId,
 ) -> Result<Next, AllocError>
     requires lawful { IsLawful net.now }

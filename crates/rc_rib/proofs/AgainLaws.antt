@@ -34,7 +34,7 @@ use Rattle.rc_route.specs.declared.state.RouterState.{RouterState}
 use Rattle.rc_rib.specs.Again.{AreUnchanged, IsUnchanged, ReadsNoOthers}
 use Rattle.rc_rib.specs.Best.{best_routes}
 use Rattle.rc_rib.specs.Connected.{connected}
-use Rattle.rc_rib.specs.Next.{learned_routes, next_router, next_state, router_after, to_others}
+use Rattle.rc_rib.specs.Next.{learned_routes, next_router, next_state, ospf_routes, router_after, table_after, to_others}
 use Rattle.rc_rib.specs.Static.{active_lines, asks_table, static_routes}
 use Rattle.rc_rib.proofs.StaticLaws.{none_asks}
 
@@ -51,7 +51,7 @@ no_ways (e ∷ es) = no_ways es
 no_route : (row : ExternalRow) → external_route_to [] row ≡ None
 no_route row = ap (λ ways. option_map (external_route_over row.prefix) (best_of cost_cmp ways)) (no_ways row.externals)
 
-nothing_outside : (rows : List ExternalRow) → routes_over [] rows ≡ []
+pub nothing_outside : (rows : List ExternalRow) → routes_over [] rows ≡ []
 nothing_outside [] = refl
 nothing_outside (row ∷ rows) = ap (λ o. cons_option o (routes_over [] rows)) (no_route row) ∙ nothing_outside rows
 
@@ -96,6 +96,13 @@ module _ (net : Network) (internal : Internal) (all : List (List Session)) (r : 
       by : (o : Option RouterText) → router_at net r ≡ o → (option_map_or (router_after net internal before r) o (record { table = []; paths = [] })).paths ≡ best_paths net all before r
       by None e = absurd (has_file e)
       by (Some file) e = ap (λ ss. best_paths net ss before r) (sym these)
+
+  -- and its table there
+  pub known_table : (state before : List RouterState) → state ≡ next_state net internal before → (file : RouterText) → router_at net r ≡ Some file
+      → table_of state r ≡ table_after r file (learned_routes (best_paths net (configured_sessions net internal.links) before r)) (ospf_routes internal (externals net before) r) (table_of before r)
+  known_table state before is file found =
+      ap (λ all. table_of all r) is ∙ ap (λ o. option_map_or (λ (s : RouterState). s.table) o []) (row before)
+      ∙ ap (λ o. (option_map_or (router_after net internal before r) o (record { table = []; paths = [] })).table) found
 
   -- with this file, from its previous table, its best paths and what comes from outside of the AS
   pub after : RouterText → List Route → List Best → List Route → RouterState

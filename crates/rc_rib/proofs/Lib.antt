@@ -7,5 +7,7 @@ mod OrderLaws
 mod TableLaws
 mod StaticLaws
 mod LearnedLaws
+mod PreferenceLaws
+mod MendingLaws
 mod HeldLaws
 pub mod AtAddressLaws

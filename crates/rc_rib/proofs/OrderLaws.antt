@@ -53,7 +53,7 @@ static_is_table lines =
 -- ---- what keeps prefixes, or leaves some out, keeps the order
 
 module _ {A B : Type 0} (prefix_a : A → Cidr) (prefix_b : B → Cidr) (f : A → Option B) (keeps : (x : A) (y : B) → f x ≡ Some y → prefix_b y ≡ prefix_a x) where
-  all_kept : (P : Cidr → Type 0) (xs : List A) → AllByRecursion P (map prefix_a xs) → AllByRecursion P (map prefix_b (filter_map f xs))
+  pub all_kept : (P : Cidr → Type 0) (xs : List A) → AllByRecursion P (map prefix_a xs) → AllByRecursion P (map prefix_b (filter_map f xs))
   all_kept P [] all = tt
   all_kept P (x ∷ xs) all = by (f x) refl (all_kept P xs all.1)
     where
@@ -89,7 +89,7 @@ left_in_order p (x ∷ xs) up = by (p x) (left_in_order p xs up.1)
 
 -- ---- learned routes
 
-learned_prefix : (b : Best) (y : Route) → learned_route b ≡ Some y → y.prefix ≡ b.path.prefix
+pub learned_prefix : (b : Best) (y : Route) → learned_route b ≡ Some y → y.prefix ≡ b.path.prefix
 learned_prefix b y e = by b.path.source e
   where
     prefix_in : Option Route → Cidr

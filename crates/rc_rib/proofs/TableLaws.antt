@@ -55,7 +55,7 @@ less_differs p q less = ap is_eq less
 more_differs : (p q : Cidr) → prefix_cmp p q ≡ Less → same_prefix q p ≡ false
 more_differs p q less = ap is_eq (prefix_cmp_total.antisymm q p ∙ ap ordering_reverse less)
 
-none_at : (p : Cidr) (ts : List Route) → Below p (map prefix_of ts) → routes_at p ts ≡ []
+pub none_at : (p : Cidr) (ts : List Route) → Below p (map prefix_of ts) → routes_at p ts ≡ []
 none_at p [] below = refl
 none_at p (t ∷ ts) below = ap (λ b. cond b (t ∷ routes_at p ts) (routes_at p ts)) (less_differs p t.prefix below.0) ∙ none_at p ts below.1
 

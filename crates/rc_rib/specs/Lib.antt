@@ -8,4 +8,6 @@ pub mod StaticRows
 pub mod OspfRows
 pub mod Again
 pub mod Merging
+pub mod Mending
+pub mod MendingRows
 pub mod Inputs

@@ -3,12 +3,12 @@ use rc_bgp::{Changes, ConfiguredSessions, Inside};
 use rc_config::Network;
 use rc_external::Externals;
 use rc_ospf::Internal;
-use rc_route::State;
+use rc_pieces::Knowledge;
 
 /// What each router knew a round earlier yet, and what changed from there to the round before.
 #[derive(Drop)]
 pub struct Earlier<'a> {
-    pub state: &'a State,
+    pub state: &'a Knowledge,
     /// The prefixes whose best path may be another since.
     pub changes: &'a Changes,
     /// Those of them for which internal BGP peers may be told other than then.
@@ -28,7 +28,7 @@ pub struct Inputs<'a> {
     /// What each router may tell its internal BGP peers of what it knows after the round before.
     pub inside: &'a Inside,
     /// What each router knows after the round before.
-    pub previous: &'a State,
+    pub previous: &'a Knowledge,
     /// What there was a round earlier yet, where there was such a round. Who read the same then knows the same again.
     pub earlier: Option<Earlier<'a>>,
 }

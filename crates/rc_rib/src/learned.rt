@@ -7,6 +7,7 @@ ghost use Rattle.rc_rib.specs.Next as spec;
 use crate::merging::{better, front_prefix, take_front, which};
 use rc_base::Items;
 use rc_bgp::learned_route;
+use rc_pieces::Listed;
 use rc_route::{Best, Route, Table};
 use std::alloc::{AllocError, Global};
 use std::cmp::Ordering;
@@ -83,8 +84,27 @@ fn append(made: &mut Table, mut left: VecDeque<Route>) -> Result<(), AllocError>
     Ok(())
 }
 
+/// Puts the routes that some best paths give, in order, in their places.
+fn place_all(
+    alloc: Global,
+    left: &mut VecDeque<Route>,
+    made: &mut Table,
+    paths: &[Best],
+) -> Result<(), AllocError>
+    ensures { OnOk result (KeepsWhole left.old.items made.old (spec.learned_routes paths.now) left.new.items made.new []) }
+{
+    for best in paths {
+        place_learned(alloc, left, made, best)?;
+    }
+    Ok(())
+}
+
 /// The best routes of a table and of what best paths give, by address, then length.
-pub(crate) fn with_learned(alloc: Global, table: Table, paths: &[Best]) -> Result<Table, AllocError>
+pub(crate) fn with_learned(
+    alloc: Global,
+    table: Table,
+    paths: &Listed<'_, Best>,
+) -> Result<Table, AllocError>
     ensures { IfOk result (λ made. made ≡ merged table (spec.learned_routes paths.now)) }
 {
     if paths.is_empty() {
@@ -93,8 +113,8 @@ pub(crate) fn with_learned(alloc: Global, table: Table, paths: &[Best]) -> Resul
     let room = table.len().saturating_add(paths.len());
     let mut made = Items::with_room(alloc, room)?;
     let mut left = VecDeque::from(table.into_vec());
-    for best in paths {
-        place_learned(alloc, &mut left, &mut made, best)?;
+    for piece in paths.pieces() {
+        place_all(alloc, &mut left, &mut made, piece.as_slice())?;
     }
     append(&mut made, left)?;
     Ok(made)

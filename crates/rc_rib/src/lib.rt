@@ -1,8 +1,8 @@
 //! The next table and best paths of one router.
 //!
-//! It stands on the model of rc_config, on the routes of rc_route, on the hops of addresses of rc_fib, on the routes of rc_ospf and
-//! rc_external, and on the best paths of rc_bgp. The layer above knows what a router knows after a round as a function of the
-//! network, of what OSPF gives without any table, and of what all routers knew before it, in its order.
+//! It stands on the model of rc_config, on the routes of rc_route, in pieces (rc_pieces), on the hops of addresses of rc_fib, on the routes
+//! of rc_ospf and rc_external, and on the best paths of rc_bgp. The layer above knows what a router knows after a round as a function of
+//! the network, of what OSPF gives without any table, and of what all routers knew before it, in its order.
 #![tactic(auto)]
 
 mod active;
@@ -12,6 +12,7 @@ mod grouping;
 mod inputs;
 mod learned;
 mod made;
+mod mending;
 mod merging;
 mod next;
 mod outside;

@@ -31,7 +31,7 @@ pub(crate) fn better(first: Route, second: Route) -> Route
 }
 
 /// The preferred of one route and another, where they are there.
-fn of_both(first: Option<Route>, second: Option<Route>) -> Option<Route>
+pub(crate) fn of_both(first: Option<Route>, second: Option<Route>) -> Option<Route>
     ensures { result ≡ of_both first second }
 {
     match first {

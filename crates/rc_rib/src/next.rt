@@ -1,7 +1,9 @@
 //! One router's next table and best paths.
 ghost use Rattle.std.specs.Prelude.{◌≡◌, ◌⊎◌, [], All, IfOk, IfSome, IsTrue, None, Some, false, slice_get, true};
 ghost use Rattle.std.specs.List.{list_any};
+ghost use Rattle.std.specs.List.Sorted.{IsStrictlySortedBy};
 ghost use Rattle.std.specs.Option.{option_map_or};
+ghost use Rattle.rc_base.specs.Prefix.{prefix_cmp};
 ghost use Rattle.rc_bgp.specs.Candidates as bgp_spec;
 ghost use Rattle.rc_bgp.specs.Changes.{CoversChange};
 ghost use Rattle.rc_bgp.specs.RouterStates.{paths_of, table_of};
@@ -24,6 +26,7 @@ use crate::active::{active_lines, some_ask_table};
 use crate::connected_routes::connected;
 use crate::grouping::static_routes;
 use crate::learned::with_learned;
+use crate::mending::next_table;
 use crate::merging::merged;
 use crate::outside::outside_routes;
 use crate::{Earlier, Inputs, Made};
@@ -32,7 +35,8 @@ use rc_bgp::{ConfiguredSessions, Renewed, first_paths, renewed_paths, stay_best}
 use rc_config::{Network, RouterText};
 use rc_fib::Fib;
 use rc_ospf::Internal;
-use rc_route::{Best, Route, RouterState, State, Table, copy, known_at, same_table};
+use rc_pieces::{Knowledge, Known, Listed, known_at, same};
+use rc_route::{Best, Route, Table};
 use std::alloc::{AllocError, Global};
 
 /// The static routes of a file that its router's previous table makes active, from that table prepared for look-ups.
@@ -40,12 +44,13 @@ fn routes_from(
     alloc: Global,
     router: RouterId,
     file: &RouterText,
-    old: &Table,
+    old: &Listed<'_, Route>,
 ) -> Result<Table, AllocError>
     requires { IsTable old.now }
     ensures { IfOk result (λ routes. routes ≡ static_routes (active_lines router file.now.interfaces (resolved old.now) file.now.static_routes)) }
 {
-    let fib = Fib::of(alloc, old)?;
+    let table = old.copied(alloc)?;
+    let fib = Fib::of(alloc, &table)?;
     let lines = active_lines(alloc, router, file, &fib)?;
     static_routes(alloc, lines.as_slice())
 }
@@ -55,13 +60,12 @@ fn routes_of_lines(
     alloc: Global,
     router: RouterId,
     file: &RouterText,
-    old: &Table,
+    old: &Listed<'_, Route>,
 ) -> Result<Table, AllocError>
     requires { list_any (λ (s : Line). asks_table s.target) file.now.static_routes ≡ false }
     ensures { IfOk result (λ routes. routes ≡ static_routes (active_lines router file.now.interfaces (resolved old.now) file.now.static_routes)) }
 {
-    let none = Items::new(alloc);
-    let routes = routes_from(alloc, router, file, &none)?;
+    let routes = routes_from(alloc, router, file, &Listed::none())?;
     Ok(routes)
 }
 
@@ -72,7 +76,7 @@ fn active_routes(
     alloc: Global,
     router: RouterId,
     file: &RouterText,
-    old: &Table,
+    old: &Listed<'_, Route>,
 ) -> Result<Table, AllocError>
     requires { IsTable old.now }
     ensures { IfOk result (λ routes. routes ≡ static_routes (active_lines router file.now.interfaces (resolved old.now) file.now.static_routes)) }
@@ -92,7 +96,7 @@ fn own_routes(
     alloc: Global,
     router: RouterId,
     file: &RouterText,
-    old: &Table,
+    old: &Listed<'_, Route>,
 ) -> Result<Table, AllocError>
     requires { IsTable old.now }
     ensures { IfOk result (λ table. table ≡ merging_spec.merged (connected_spec.connected router file.now.interfaces) (static_routes (active_lines router file.now.interfaces (resolved old.now) file.now.static_routes))) }
@@ -103,19 +107,19 @@ fn own_routes(
 }
 
 /// The same, from the state before.
-fn own_from(
+pub(crate) fn own_from(
     alloc: Global,
     router: RouterId,
     file: &RouterText,
-    state: &State,
+    state: &Knowledge,
 ) -> Result<Table, AllocError>
     requires { All IsRouterState state.now }
     ensures { IfOk result (λ table. table ≡ merging_spec.merged (connected_spec.connected router file.now.interfaces) (static_routes (active_lines router file.now.interfaces (resolved (table_of state.now router)) file.now.static_routes))) }
 {
     let known = known_at(state, router);
     match known {
-        Some(known) => own_routes(alloc, router, file, &known.table),
-        None => own_routes(alloc, router, file, &Items::new(alloc)),
+        Some(known) => own_routes(alloc, router, file, &known.table()),
+        None => own_routes(alloc, router, file, &Listed::none()),
     }
 }
 
@@ -158,12 +162,12 @@ fn with_outside(
 }
 
 /// The next table of a router of this file that has these best paths.
-fn table_beside(
+pub(crate) fn table_beside(
     alloc: Global,
     inputs: &Inputs<'_>,
     router: RouterId,
     file: &RouterText,
-    paths: &[Best],
+    paths: &Listed<'_, Best>,
 ) -> Result<Table, AllocError>
     requires inputs { AreInputs inputs.now }
     requires paths { IsBestList paths.now }
@@ -183,6 +187,7 @@ fn paths_after(alloc: Global, inputs: &Inputs<'_>, router: RouterId) -> Result<R
     ensures paths { IfOk result (λ r. r.paths ≡ bgp_spec.best_paths inputs.now.network.now inputs.now.sessions.now inputs.now.previous.now router) }
     ensures in_order { IfOk result (λ r. IsBestList r.paths) }
     ensures changed { IfOk result (λ r. CoversChange r.changed (paths_of inputs.now.previous.now router) r.paths) }
+    ensures changed_in_order { IfOk result (λ r. IsStrictlySortedBy prefix_cmp r.changed) }
 {
     match &inputs.earlier {
         None => first_paths(
@@ -216,15 +221,25 @@ fn made_of(
 ) -> Result<Made, AllocError>
     requires inputs { AreInputs inputs.now }
     requires router { IsRouter inputs.now.network.now router }
+    requires file { router_at inputs.now.network.now router ≡ Some file.now }
     ensures next { IfOk result (λ m. m.state ≡ spec.router_after inputs.now.network.now inputs.now.internal.now inputs.now.previous.now router file.now) }
     ensures in_order { IfOk result (λ m. IsRouterState m.state) }
+    ensures same_table { IfOk result (λ m. m.has_same_table ≡ true → m.state.table ≡ table_of inputs.now.previous.now router) }
     ensures changed { IfOk result (λ m. CoversChange m.changed (paths_of inputs.now.previous.now router) m.state.paths) }
 {
     let renewed = paths_after(alloc, inputs, router)?;
     let Renewed { paths, changed } = renewed;
-    let table = table_beside(alloc, inputs, router, file, paths.as_slice())?;
+    let (table, has_same_table) = next_table(
+        alloc,
+        inputs,
+        router,
+        file,
+        &paths.listed(),
+        changed.as_slice(),
+    )?;
     Ok(Made {
-        state: RouterState { table, paths },
+        state: Known::of(table, paths),
+        has_same_table,
         changed,
     })
 }
@@ -235,29 +250,29 @@ fn anew(alloc: Global, inputs: &Inputs<'_>, router: RouterId) -> Result<Made, Al
     requires router { IsRouter inputs.now.network.now router }
     ensures next { IfOk result (λ m. m.state ≡ spec.next_router inputs.now.network.now inputs.now.internal.now inputs.now.previous.now router) }
     ensures in_order { IfOk result (λ m. IsRouterState m.state) }
+    ensures same_table { IfOk result (λ m. m.has_same_table ≡ true → m.state.table ≡ table_of inputs.now.previous.now router) }
     ensures changed { IfOk result (λ m. CoversChange m.changed (paths_of inputs.now.previous.now router) m.state.paths) }
 {
     let found = inputs.network.router_at(router);
     match found {
         Some(file) => made_of(alloc, inputs, router, file),
         None => Ok(Made {
-            state: RouterState {
-                table: Items::new(alloc),
-                paths: Items::new(alloc),
-            },
+            state: Known::nothing(alloc),
+            has_same_table: false,
             changed: Items::new(alloc),
         }),
     }
 }
 
 /// What a router knows once more: nothing changed.
-fn again(alloc: Global, known: &RouterState) -> Result<Made, AllocError>
+fn again(alloc: Global, known: &Known) -> Result<Made, AllocError>
     ensures state { IfOk result (λ m. m.state ≡ known.now) }
     ensures changed { IfOk result (λ m. m.changed ≡ []) }
 {
-    let state = copy(alloc, known)?;
+    let state = known.share(alloc)?;
     Ok(Made {
         state,
+        has_same_table: true,
         changed: Items::new(alloc),
     })
 }
@@ -303,7 +318,7 @@ pub(crate) fn has_no_boundaries(internal: &Internal, router: RouterId) -> bool
 }
 
 /// Whether no line `ip route` of a file asks its router's table.
-fn is_free_of_tables(file: &RouterText) -> bool
+pub(crate) fn is_free_of_tables(file: &RouterText) -> bool
     ensures { IsTrue result → list_any (λ (s : Line). asks_table s.target) file.now.static_routes ≡ false }
 {
     if some_ask_table(file.static_routes.as_slice()) {
@@ -325,7 +340,7 @@ fn asks_no_table(net: &Network, router: RouterId) -> bool
 
 /// Whether a router has the same table in two states.
 #[tactic(auto, using(crate::proofs::AgainLaws::tables_of))]
-fn has_same_table(earlier: &State, previous: &State, router: RouterId) -> bool
+fn has_same_table(earlier: &Knowledge, previous: &Knowledge, router: RouterId) -> bool
     ensures { IsTrue result → table_of previous.now router ≡ table_of earlier.now router }
 {
     let known = known_at(previous, router);
@@ -334,13 +349,18 @@ fn has_same_table(earlier: &State, previous: &State, router: RouterId) -> bool
         None => false,
         Some(known) => match old {
             None => false,
-            Some(old) => same_table(&known.table, &old.table),
+            Some(old) => same(&known.table, &old.table),
         },
     }
 }
 
 /// Whether no line of a router asks its table, or the table is the same in two states.
-fn lines_read_alike(net: &Network, earlier: &State, previous: &State, router: RouterId) -> bool
+fn lines_read_alike(
+    net: &Network,
+    earlier: &Knowledge,
+    previous: &Knowledge,
+    router: RouterId,
+) -> bool
     ensures { IsTrue result → AsksNoTable net.now router ⊎ (table_of previous.now router ≡ table_of earlier.now router) }
 {
     if asks_no_table(net, router) {
@@ -396,11 +416,7 @@ pub(crate) fn is_unchanged(
 }
 
 /// What a router knows in the state before, where it is to know the same once more.
-fn known_again<'a>(
-    inputs: &Inputs<'a>,
-    is_unchanged: bool,
-    router: RouterId,
-) -> Option<&'a RouterState>
+fn known_again<'a>(inputs: &Inputs<'a>, is_unchanged: bool, router: RouterId) -> Option<&'a Known>
     ensures { IfSome result (λ s. (is_unchanged ≡ true) × (slice_get inputs.now.previous.now router ≡ Some s.now)) }
 {
     if is_unchanged {
@@ -411,7 +427,7 @@ fn known_again<'a>(
 }
 
 /// What a router knows after a round in which all routers read these inputs: its table, and its best BGP paths; and the prefixes
-/// at which these may be others than before.
+/// at which these may be others than before, and whether its table is told to be the one before.
 ///
 /// Its connected routes, its static routes that its previous table makes active, and its routes by BGP and by OSPF; for each prefix
 /// the least administrative distance wins, and at one distance the source that stands first. A router for which nothing changed that it
@@ -421,6 +437,7 @@ pub fn table(alloc: Global, inputs: &Inputs<'_>, router: RouterId) -> Result<Mad
     requires router { IsRouter inputs.now.network.now router }
     ensures next { IfOk result (λ m. m.state ≡ spec.next_router inputs.now.network.now inputs.now.internal.now inputs.now.previous.now router) }
     ensures in_order { IfOk result (λ m. IsRouterState m.state) }
+    ensures same_table { IfOk result (λ m. m.has_same_table ≡ true → m.state.table ≡ table_of inputs.now.previous.now router) }
     ensures changed { IfOk result (λ m. CoversChange m.changed (paths_of inputs.now.previous.now router) m.state.paths) }
 {
     match &inputs.earlier {

@@ -1,4 +1,5 @@
 mod ShareLaws
+mod SharedLaws
 mod RenewingLaws
 pub mod CheckpointLaws
 mod RoundLaws

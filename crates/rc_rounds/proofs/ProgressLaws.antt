@@ -8,19 +8,20 @@ use Rattle.rc_config.specs.declared.network.Network.{Network}
 use Rattle.rc_ospf.specs.declared.model.Internal.{Internal}
 use Rattle.rc_route.specs.Tables.{IsStateOf}
 use Rattle.rc_route.specs.declared.state.RouterState.{RouterState}
+use Rattle.rc_reads.specs.Stayed.{AreFlagged}
 use Rattle.rc_rib.specs.Inputs.{IsEarlier}
 use Rattle.rc_rib.specs.Next.{next_state}
 use Rattle.rc_rib.specs.declared.made.Made.{Made}
 use Rattle.rc_rounds.specs.declared.round.Round.{Round}
 use Rattle.rc_rounds.specs.declared.progress.Progress.{Progress}
-use Rattle.rc_rounds.specs.Progress.{IsProgress, IsPowerBelow, IsRound, IsUnderWay, checkpoint_state, lends, lent, without_lent}
-use Rattle.rc_rounds.specs.Renewing.{AreMadeAnew, all_renewed}
+use Rattle.rc_rounds.specs.Progress.{IsProgress, IsPowerBelow, IsRound, IsUnderWay, checkpoint_state}
+use Rattle.rc_rounds.specs.Renewing.{AreMadeAnew, all_renewed, has_stayed}
 use Rattle.rc_rounds.specs.Rounds.{state_after, GoesOn, EndsAs}
 use Rattle.rc_route.specs.declared.outcome.Outcome.TheVariants.{Fixed, Repeats}
 use Rattle.rc_rounds.proofs.CheckpointLaws.{power-is}
 use Rattle.rc_rounds.proofs.RenewingLaws.{all_as_made}
 use Rattle.rc_rounds.proofs.RoundLaws.{next_is, further, changed, went_on}
-use Rattle.rc_rounds.proofs.ShareLaws.{all_in_order, all_made, all_told}
+use Rattle.rc_rounds.proofs.ShareLaws.{all_flagged, all_in_order, all_made, all_told}
 
 module _ (net : Network) (internal : Internal) (p : Progress) (at : IsUnderWay net internal p) where
   -- the state that is kept of the checkpoint is its state
@@ -74,7 +75,7 @@ module _ (net : Network) (internal : Internal) (p : Progress) (at : IsUnderWay n
       subst (λ j. EndsAs net internal limit (Fixed j next)) (sym e) (omega arith, omega (arith, e, within), at.earlier, new, sym new ∙ same ∙ at.last ∙ ap (state_after net internal) last)
 
   -- one round further: the last state becomes the one before, and that one is kept where it is the checkpoint's
-  module _ (next : List RouterState) (made : next ≡ next_state net internal p.last) (ordered : IsStateOf (length net.routers) next) (changes : List (List Cidr)) (told : AreChanges changes p.last next) (goes : GoesOn net internal (p.done + 1)) (c : ℕ) (power : IsPowerBelow (p.done + 1 + 1) c) (one_of_both : (c ≡ p.done + 1) ⊎ (c ≡ p.checkpoint)) where
+  module _ (next : List RouterState) (made : next ≡ next_state net internal p.last) (ordered : IsStateOf (length net.routers) next) (changes : List (List Cidr)) (told : AreChanges changes p.last next) (flags : List Bool) (flagged : AreFlagged flags p.last next) (goes : GoesOn net internal (p.done + 1)) (c : ℕ) (power : IsPowerBelow (p.done + 1 + 1) c) (one_of_both : (c ≡ p.done + 1) ⊎ (c ≡ p.checkpoint)) where
     kept : List RouterState
     kept = if p.checkpoint + 1 == p.done then p.before else p.kept
 
@@ -86,7 +87,7 @@ module _ (net : Network) (internal : Internal) (p : Progress) (at : IsUnderWay n
         there true e = let same : p.checkpoint ≡ p.done = (Decides-eqb p.checkpoint p.done).0 e in absurd (let none : ⊥ = omega (arith, less, same) in none)
         there false e = refl
 
-    pub one_further : IsProgress net internal (record { done = p.done + 1; checkpoint = c; last = next; before = p.last; changes = changes; kept = if p.checkpoint + 1 == p.done then p.before else p.kept })
+    pub one_further : IsProgress net internal (record { done = p.done + 1; checkpoint = c; last = next; before = p.last; changes = changes; stayed = flags; kept = if p.checkpoint + 1 == p.done then p.before else p.kept })
     unfolding kept
     one_further = record {
       under_way = record {
@@ -101,6 +102,7 @@ module _ (net : Network) (internal : Internal) (p : Progress) (at : IsUnderWay n
       before = λ some. at.last ∙ ap (state_after net internal) (let e : p.done ≡ p.done + 1 - 1 = omega arith in e);
       before_in_order = at.in_order.each;
       changes = λ some. told;
+      stayed = flagged;
     }
       where
         within : (c ≡ p.done + 1) ⊎ (c ≡ p.checkpoint) → c ≤ p.done + 1
@@ -116,49 +118,13 @@ last_is_next net internal p inside at told_inside some =
 
 -- ---- a round is put together
 
-and_false : (b : Bool) → (b && false) ≡ false
-and_false true = refl
-and_false false = refl
-
--- the state before is no longer there, where the checkpoint doesn't keep it
-still_under_way : (net : Network) (internal : Internal) (p : Progress) → IsUnderWay net internal p → IsUnderWay net internal (without_lent p)
-still_under_way net internal p at = record {
-  last = at.last;
-  in_order = at.in_order;
-  before = λ same. (
-      let told : (p.checkpoint + 1 == p.done) ≡ true = (Decides-eqb (p.checkpoint + 1) p.done).1 same in
-      let none : lends p ≡ false = ap (λ b. not (p.done == 0) && not b) told ∙ and_false (not (p.done == 0)) in
-      ap (λ b. if b then [] else p.before) none ∙ at.before same);
-  checkpoint = at.checkpoint;
-  within = at.within;
-  kept = at.kept;
-  earlier = at.earlier;
-}
-
-pub is_round : (net : Network) (internal : Internal) (p rest : Progress) (round : Round) (fresh : List (Option Made)) → IsProgress net internal p → AreMadeAnew net internal p.last (lent p) fresh → rest ≡ without_lent p
-    → round.state ≡ map (λ (m : Made). m.state) (all_renewed fresh (lent p)) → round.changes ≡ map (λ (m : Made). m.changed) (all_renewed fresh (lent p)) → IsRound net internal p.done rest round
-is_round net internal p rest round fresh at are same state changes =
-    let made = all_as_made net internal p.last (lent p) fresh at.under_way.in_order.each are in
-    let ordered = all_in_order net internal p.last (all_renewed fresh (lent p)) round.state made state in
-    subst (λ (q : Progress). IsRound net internal p.done q round) (sym same) (record {
-      under_way = still_under_way net internal p at.under_way;
-      done = refl;
-      state = all_made net internal p.last (all_renewed fresh (lent p)) round.state made state;
-      in_order = ordered;
-      changes = all_told net internal p.last (all_renewed fresh (lent p)) round.state round.changes made at.under_way.in_order state changes;
-    })
-
--- a round is made where a state is lent
-pub lends_some : (p : Progress) → lends p ≡ true → 1 ≤ p.done
-lends_some p is = by (p.done == 0) refl
-  where
-    by : (b : Bool) → (p.done == 0) ≡ b → 1 ≤ p.done
-    by true e = let none : lends p ≡ false = ap (λ b. not b && not (p.checkpoint + 1 == p.done)) e in absurd (cc (is, none))
-    by false e = pick (dec_lt 0 p.done)
-      where
-        pick : Dec (0 < p.done) → 1 ≤ p.done
-        pick (yes h) = omega (arith, h)
-        pick (no h) =
-            let same : p.done ≡ 0 = omega (arith, h) in
-            let told : (p.done == 0) ≡ true = (Decides-eqb p.done 0).1 same in
-            absurd (cc (e, told))
+pub is_round : (net : Network) (internal : Internal) (p : Progress) (round : Round) (fresh : List (Option Made)) → IsProgress net internal p → AreMadeAnew net internal p.last fresh
+    → round.state ≡ map (λ (m : Made). m.state) (all_renewed fresh p.last) → round.changes ≡ map (λ (m : Made). m.changed) (all_renewed fresh p.last) → round.stayed ≡ map has_stayed (all_renewed fresh p.last) → IsRound net internal p.last round
+is_round net internal p round fresh at are state changes stayed =
+    let made = all_as_made net internal p.last fresh at.under_way.in_order.each are in
+    record {
+      state = all_made net internal p.last (all_renewed fresh p.last) round.state made state;
+      in_order = all_in_order net internal p.last (all_renewed fresh p.last) round.state made state;
+      changes = all_told net internal p.last (all_renewed fresh p.last) round.state round.changes made at.under_way.in_order state changes;
+      stayed = all_flagged net internal p.last (all_renewed fresh p.last) round.state round.stayed made at.under_way.in_order state stayed;
+    }

@@ -1,6 +1,7 @@
 -- Who isn't made anew knows the same again.
-use Rattle.std.proofs.Common.{refl, ◌≡◌, ap, sym, ◌∙◌, subst, ℕ, zero, suc, ◌+◌, Bool, true, List, [], ◌∷◌, ◌++◌, append_assoc, map, All, Option, Some, None, drop, length, arith}
-use Rattle.std.specs.Prelude.{slice_get}
+use Rattle.std.proofs.Common.{refl, ◌≡◌, ap, sym, ◌∙◌, subst, ℕ, zero, suc, ◌+◌, Bool, true, List, [], ◌∷◌, ◌++◌, add-one, append_assoc, length-append, map, All, Option, Some, None, drop, length, arith}
+use Rattle.std.specs.Prelude.{slice_get, unwrap_or}
+use Rattle.std.specs.Option.{option_map_or}
 use Rattle.std.proofs.lemmas.Option.{same_Some}
 use Rattle.rc_config.specs.declared.network.Network.{Network}
 use Rattle.rc_ospf.specs.declared.model.Internal.{Internal}
@@ -10,7 +11,7 @@ use Rattle.rc_rib.specs.Next.{next_router}
 use Rattle.rc_rib.specs.declared.made.Made.{Made}
 use Rattle.rc_route.specs.Tables.{IsRouterState}
 use Rattle.rc_route.specs.declared.state.RouterState.{RouterState}
-use Rattle.rc_rounds.specs.Renewing.{AreMadeAnew, all_renewed, first_known, renewed}
+use Rattle.rc_rounds.specs.Renewing.{AreMadeAnew, all_renewed, first_known, nothing_known, renewed}
 use Rattle.rc_shares.specs.Stretches.{IsStretch}
 
 first_is : (known : List RouterState) (s : RouterState) → slice_get known 0 ≡ Some s → first_known known ≡ s
@@ -21,6 +22,25 @@ later : (known : List RouterState) (k : ℕ) → slice_get (drop 1 known) k ≡ 
 later [] zero = refl
 later [] (suc k) = refl
 later (x ∷ xs) k = refl
+
+-- what the first of those behind a place knows is what the router there knows
+pub first_behind : (known : List RouterState) (i : ℕ) → unwrap_or (slice_get known i) nothing_known ≡ first_known (drop i known)
+first_behind [] zero = refl
+first_behind [] (suc i) = refl
+first_behind (k ∷ ks) zero = refl
+first_behind (k ∷ ks) (suc i) = first_behind ks i
+
+one_less : (known : List RouterState) (i : ℕ) → drop (suc i) known ≡ drop 1 (drop i known)
+one_less [] zero = refl
+one_less [] (suc i) = refl
+one_less (k ∷ ks) zero = refl
+one_less (k ∷ ks) (suc i) = one_less ks i
+
+pub behind_next : (known : List RouterState) (i : ℕ) → drop (i + 1) known ≡ drop 1 (drop i known)
+behind_next known i = ap (λ n. drop n known) (add-one i) ∙ one_less known i
+
+pub one_longer : {X : Type 0} (xs ys : List X) (x : X) → ys ≡ xs ++ x ∷ [] → length ys ≡ length xs + 1
+one_longer xs ys x is = ap length is ∙ length-append xs (x ∷ [])
 
 -- what is put together, and then what is left, is all
 module _ {X : Type 0} (f : Made → X) where
@@ -41,6 +61,7 @@ module _ (net : Network) (internal : Internal) (old : List RouterState) (ordered
       record {
         state = first;
         in_order = subst IsRouterState (sym first) (in_state old r (next_router net internal old r) ordered is.same);
+        same_table = λ set. ap (λ (s : RouterState). s.table) first ∙ sym (ap (λ o. option_map_or (λ (s : RouterState). s.table) o []) is.same);
         changed = nothing_moved old r (next_router net internal old r) (first_known known).paths [] is.same (ap (λ (s : RouterState). s.paths) first);
       }
 
@@ -56,7 +77,6 @@ module _ (net : Network) (internal : Internal) (old : List RouterState) (ordered
       there k = let e : a + suc k ≡ a + 1 + k = omega arith in subst (λ r. slice_get flags r ≡ Some true → slice_get (drop 1 known) k ≡ slice_get old r) e (λ set. later known k ∙ same (suc k) set)
 
 -- all that is put together is made as it has to be
-pub all_as_made : (net : Network) (internal : Internal) (old known : List RouterState) (all : List (Option Made)) → All IsRouterState old → AreMadeAnew net internal old known all → IsStretch (IsMade net internal old) 0 (length net.routers) (all_renewed all known)
-all_as_made net internal old known all ordered are =
-    from_here net internal old ordered are.flags 0 (length net.routers) all known are.made
-    (λ k. (let e : k ≡ 0 + k = omega arith in subst (λ r. slice_get are.flags r ≡ Some true → slice_get known k ≡ slice_get old r) e (are.stayed k)))
+pub all_as_made : (net : Network) (internal : Internal) (old : List RouterState) (all : List (Option Made)) → All IsRouterState old → AreMadeAnew net internal old all → IsStretch (IsMade net internal old) 0 (length net.routers) (all_renewed all old)
+all_as_made net internal old all ordered are =
+    from_here net internal old ordered are.flags 0 (length net.routers) all old are.made (λ k set. (let e : k ≡ 0 + k = omega arith in ap (slice_get old) e))

@@ -14,7 +14,7 @@ use Rattle.rc_ospf.specs.declared.model.Internal.{Internal}
 use Rattle.rc_route.specs.Tables.{IsStateOf, IsTable}
 use Rattle.rc_route.specs.declared.best.Best.{Best}
 use Rattle.rc_route.specs.declared.state.RouterState.{RouterState}
-use Rattle.rc_reads.specs.Stayed.{HaveStayed}
+use Rattle.rc_reads.specs.Stayed.{AreFlagged, HaveStayed}
 use Rattle.rc_reads.specs.declared.stayed.Stayed.{Stayed}
 use Rattle.rc_rib.specs.Inputs.{AreInputs, IsEarlier}
 use Rattle.rc_rib.specs.declared.inputs.Earlier.{Earlier}
@@ -28,9 +28,9 @@ told_earlier net internal state None has old changes inside told is = tt
 told_earlier net internal state (Some e) has old changes inside told is =
     subst (λ s. IsEarlier net internal state s e.changes.now e.inside.now) (sym told.1) (subst (λ c. IsEarlier net internal state old c e.inside.now) (sym told.2) (subst (IsEarlier net internal state old changes) (sym told.3) (is told.0)))
 
--- where no flag is set
-pub nobody_stayed : (net : Network) (old now : List RouterState) → HaveStayed net (record { routers = []; boundaries = false }) old now
-nobody_stayed net old now = record { routers = none; boundaries = λ set. absurd (cc) }
+-- where there is no flag
+pub no_flags : (flags : List Bool) (old now : List RouterState) → flags ≡ [] → AreFlagged flags old now
+no_flags flags old now is = subst (λ fs. AreFlagged fs old now) (sym is) none
   where
     none : (s : ℕ) → slice_get [] s ≡ Some true → slice_get old s ≡ slice_get now s
     none zero set = absurd (cc)

@@ -1,11 +1,15 @@
 -- What the workers of a round make, put together.
-use Rattle.std.proofs.Common.{◌≡◌, ℕ, zero, suc, ◌+◌, ◌-◌, ◌≤◌, List, [], ◌∷◌, ◌++◌, length, map, refl, sym, ap, subst, ◌∙◌, arith, All}
+use Rattle.std.proofs.Common.{◌≡◌, ℕ, zero, suc, ◌+◌, ◌-◌, ◌≤◌, ◌<◌, ◌==◌, Bool, true, Option, Some, None, List, [], ◌∷◌, ◌++◌, length, map, refl, sym, ap, subst, ◌∙◌, arith, All}
 use Rattle.std.specs.List.{AllByRecursion, range_with_len}
 use Rattle.std.specs.Option.{option_map_or}
 use Rattle.std.specs.List.Sorted.{IsStrictlySortedBy}
 use Rattle.std.proofs.lemmas.List.Elements.{All-from_recursion, All-map}
 use Rattle.std.proofs.lemmas.List.FromFn.{map-range_with_len_more, length-map-range_with_len}
-use Rattle.std.proofs.lemmas.Option.{slice_get_past}
+use Rattle.std.specs.Prelude.{slice_get}
+use Rattle.std.proofs.lemmas.Bool.{and_parts}
+use Rattle.std.proofs.lemmas.Bool.Decides.{Decides-eqb}
+use Rattle.std.proofs.lemmas.List.{nil_from_length}
+use Rattle.std.proofs.lemmas.Option.{same_Some, slice_get_past}
 use Rattle.rc_base.specs.Prefix.{Cidr}
 use Rattle.rc_bgp.specs.Changes.{AreChanges, CoversChange, changes_of}
 use Rattle.rc_bgp.specs.RouterStates.{paths_of}
@@ -16,7 +20,9 @@ use Rattle.rc_rib.specs.Next.{next_router, next_state}
 use Rattle.rc_rib.specs.declared.made.Made.{Made}
 use Rattle.rc_route.specs.Tables.{IsRouterState, IsStateOf, best_for}
 use Rattle.rc_rounds.specs.Rounds.{empty_state}
-use Rattle.rc_reads.specs.Stayed.{IsMade}
+use Rattle.rc_reads.proofs.StayedLaws.{stays}
+use Rattle.rc_reads.specs.Stayed.{AreFlagged, IsMade}
+use Rattle.rc_rounds.specs.Renewing.{has_stayed}
 use Rattle.rc_shares.specs.Stretches.{IsStretch}
 use Rattle.rc_shares.proofs.StretchLaws.{stretch_up}
 
@@ -95,6 +101,42 @@ module _ (net : Network) (internal : Internal) (old : List RouterState) where
   told_from a b (m ∷ ms) is as_long (suc k) =
       let e : a + 1 + k ≡ a + suc k = omega arith in
       subst (λ r. CoversChange (changes_of (told ms) k) (paths_of old r) (paths_of (states ms) k)) e (told_from (a + 1) b ms is.1 as_long k)
+
+  within : {X : Type 0} (xs : List X) (k : ℕ) → k < length xs → slice_get xs k ≡ None → ⊥
+  within [] k less none = absurd (omega arith)
+  within (x ∷ xs) zero less none = absurd (cc)
+  within (x ∷ xs) (suc k) less none = within xs k (omega arith) none
+
+  module _ (ordered : All IsRouterState old) where
+    -- flags are set only for who knows the same
+    one_flagged : (r : ℕ) (m : Made) → r < length old → Makes r m → has_stayed m ≡ true → slice_get old r ≡ Some m.state
+    one_flagged r m less is set = by (slice_get old r) refl
+      where
+        parts : (m.has_same_table ≡ true) × ((length m.changed == 0) ≡ true)
+        parts = and_parts m.has_same_table (length m.changed == 0) set
+
+        none : m.changed ≡ []
+        none = (let no_more : length m.changed ≡ 0 = (Decides-eqb (length m.changed) 0).0 parts.1 in nil_from_length m.changed no_more)
+
+        by : (o : Option RouterState) → slice_get old r ≡ o → o ≡ Some m.state
+        by None e = absurd (within old r less e)
+        by (Some known) e = ap Some (stays old r m.state known m.changed ordered e is.in_order (is.same_table parts.0) is.changed none)
+
+    flagged_from : (a b : ℕ) (all : List Made) → IsStretch Makes a b all → length old ≡ b → (k : ℕ) → slice_get (map has_stayed all) k ≡ Some true → slice_get old (a + k) ≡ slice_get (states all) k
+    unfolding IsStretch
+    flagged_from a b [] is as_long k set = absurd (cc)
+    flagged_from a b (m ∷ ms) is as_long zero set =
+        let up = stretch_up Makes (a + 1) b ms is.1 in
+        let e : a + 0 ≡ a = omega arith in
+        subst (λ r. slice_get old r ≡ Some m.state) (sym e) (one_flagged a m (omega (arith, as_long, up)) is.0 (same_Some (has_stayed m) true set))
+    flagged_from a b (m ∷ ms) is as_long (suc k) set =
+        let e : a + 1 + k ≡ a + suc k = omega arith in
+        subst (λ r. slice_get old r ≡ slice_get (states ms) k) e (flagged_from (a + 1) b ms is.1 as_long k set)
+
+  pub all_flagged : (all : List Made) (state : List RouterState) (flags : List Bool) → IsStretch Makes 0 (length net.routers) all → IsStateOf (length net.routers) old → state ≡ states all → flags ≡ map has_stayed all → AreFlagged flags old state
+  all_flagged all state flags is ordered parts set r flag =
+      let e : 0 + r ≡ r = omega arith in
+      subst (λ k. slice_get old k ≡ slice_get state r) e (flagged_from ordered.each 0 (length net.routers) all is ordered.as_long r (ap (λ fs. slice_get fs r) (sym set) ∙ flag) ∙ ap (λ s. slice_get s r) (sym parts))
 
   pub all_told : (all : List Made) (state : List RouterState) (changes : List (List Cidr)) → IsStretch Makes 0 (length net.routers) all → IsStateOf (length net.routers) old → state ≡ states all → changes ≡ told all → AreChanges changes old state
   all_told all state changes is ordered parts changed = record {

@@ -11,8 +11,9 @@ use rc_bgp::{ConfiguredSessions, configured_sessions};
 use rc_config::{Network, RouterText};
 use rc_ospf::{Internal, internal_at};
 use rc_outside::OpenGate;
+use rc_pieces::{equal, into_state};
 use rc_rib::all_read_nothing;
-use rc_route::{State, equal};
+use rc_route::State;
 use rc_topology::Links;
 use std::alloc::{AllocError, Global};
 use std::thread::Threads;
@@ -74,11 +75,12 @@ fn first_state<R: Threads + Sync>(
     let Some(fresh) = fresh else {
         return Ok(None);
     };
-    let (rest, round) = progress.put_together(alloc, fresh)?;
-    let (state, _changes) = round.without_left(rt, alloc, workers);
-    if equal(&state, &rest.last) {
+    let round = progress.put_together(alloc, fresh)?;
+    let (next, _changes, _stayed) = round.into_parts();
+    if equal(&next, &progress.last) {
         return Ok(None);
     }
+    let state = into_state(alloc, next)?;
     Ok(Some(state))
 }
 

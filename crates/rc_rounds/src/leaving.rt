@@ -1,19 +1,17 @@
 //! States that nobody needs any more.
 ghost use Rattle.std.specs.Prelude.{◌≤◌};
 
-use rc_base::Items;
-use rc_route::{RouterState, State};
+use rc_pieces::{Knowledge, Known};
 use std::alloc::Global;
 use std::thread::{Threads, for_each_mut};
 
 /// Drops what a router knows.
-fn forget(alloc: Global, known: &mut RouterState) {
-    known.table = Items::new(alloc);
-    known.paths = Items::new(alloc);
+fn forget(alloc: Global, known: &mut Known) {
+    *known = Known::nothing(alloc);
 }
 
 /// Drops a state, which the workers share: to drop many paths takes as long as to copy them.
-pub(crate) fn drop_state<R: Threads + Sync>(rt: &R, alloc: Global, state: State, workers: u32)
+pub(crate) fn drop_state<R: Threads + Sync>(rt: &R, alloc: Global, state: Knowledge, workers: u32)
     requires { 1 ≤ workers }
 {
     let mut left = state.into_vec();
@@ -21,6 +19,6 @@ pub(crate) fn drop_state<R: Threads + Sync>(rt: &R, alloc: Global, state: State,
         rt,
         left.as_mut_slice(),
         workers as usize,
-        &|_, known: &mut RouterState| forget(alloc, known),
+        &|_, known: &mut Known| forget(alloc, known),
     );
 }

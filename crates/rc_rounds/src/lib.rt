@@ -1,9 +1,10 @@
 //! Rounds of tables, until they change no more, come again, or reach a limit.
 //!
-//! It stands on the next table of one router (rc_rib), on what OSPF gives without a state (rc_ospf) and the sessions of BGP (rc_bgp),
-//! which are made once before the first round, on what AS boundary routers send (rc_external), made once in each round, and on the
-//! gate of rc_outside. A router is made anew only where something changed that it reads (rc_reads). The layer above knows the outcome as
-//! a relation on the states after all rounds, of which there is one, whatever the number of workers.
+//! It stands on what routers know, in pieces that one round shares with the next (rc_pieces), on the next table of one router (rc_rib), on
+//! what OSPF gives without a state (rc_ospf) and the sessions of BGP (rc_bgp), which are made once before the first round, on what AS
+//! boundary routers send (rc_external), made once in each round, and on the gate of rc_outside. A router is made anew only where something
+//! changed that it reads (rc_reads). The layer above knows the outcome as a relation on the states after all rounds, of which there is one,
+//! whatever the number of workers.
 #![tactic(auto)]
 
 mod at_address;

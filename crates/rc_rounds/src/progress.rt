@@ -1,18 +1,17 @@
 //! What the rounds keep from one to the next.
-ghost use Rattle.std.specs.Prelude.{◌≡◌, ◌+◌, ◌≤◌, ◌<◌, ◌⊎◌, [], All, IfOk, MatchOption, length, if◌then◌else◌};
+ghost use Rattle.std.specs.Prelude.{◌≡◌, ◌+◌, ◌≤◌, ◌<◌, ◌⊎◌, All, IfOk, MatchOption, length, if◌then◌else◌};
 ghost use Rattle.rc_bgp.specs.Changes.{AreChanges, AreChangesInside};
 ghost use Rattle.rc_config.specs.declared.network.Network.{Network as NetworkModel};
 ghost use Rattle.rc_rib.specs.Next as rib;
 ghost use Rattle.rc_outside.specs.Gate.{passage};
 ghost use Rattle.rc_ospf.specs.declared.model.Internal.{Internal as InternalModel};
-ghost use Rattle.rc_reads.specs.Stayed.{AreFlagged, HaveStayed};
+ghost use Rattle.rc_reads.specs.Stayed.{AreFlagged};
 ghost use Rattle.rc_route.specs.Tables.{IsRouterState, IsStateOf};
-ghost use Rattle.rc_rounds.specs.Progress.{IsProgress, IsPowerBelow, IsRound, IsSame, IsUnderWay, checkpoint_state, lends, lent, without_lent};
+ghost use Rattle.rc_rounds.specs.Progress.{IsProgress, IsPowerBelow, IsRound, IsSame, IsUnderWay, checkpoint_state};
 ghost use Rattle.rc_rounds.specs.Renewing.{AreMadeAnew};
 ghost use Rattle.rc_rounds.specs.Rounds.{GoesOn};
 ghost use Rattle.rc_rounds.specs.Setting.{IsSetting};
 
-use crate::Outcome;
 use crate::parts::{Fresh, Setting};
 use crate::round::{Round, empty_state, put_together};
 use crate::shares::next_shares;
@@ -22,29 +21,31 @@ use rc_config::Network;
 use rc_external::externals;
 use rc_ospf::Internal;
 use rc_outside::{Gate, Passed};
-use rc_reads::{Stayed, who_stayed};
-use rc_route::{State, equal};
+use rc_pieces::{Knowledge, equal};
+use rc_reads::{have_all_stayed, who_stayed};
 use std::alloc::{AllocError, Global};
 use std::thread::Threads;
 
 /// How far the rounds are.
 ///
 /// Beside the state that is made three are kept: those after the last two rounds, and that of the checkpoint, the round of the
-/// greatest power of two below. Where the checkpoint is one of these two rounds, its state is kept once, so none is ever copied.
+/// greatest power of two below. Where the checkpoint is one of these two rounds, its state is kept once. They share what didn't change from
+/// one to the other.
 pub(crate) struct Progress {
     /// How many rounds are made.
     pub done: u32,
     /// The checkpoint of the next round.
     pub checkpoint: u32,
     /// The state after the last round.
-    pub last: State,
-    /// The state of the round before the last one, where two are made: a router that reads the same as there isn't made anew, and knows what
-    /// it knew there. Where the checkpoint doesn't keep this state, it is taken apart for that.
-    pub before: State,
+    pub last: Knowledge,
+    /// The state of the round before the last one, where two are made: a router that reads the same as there isn't made anew.
+    pub before: Knowledge,
     /// What changed in best paths from there to the last round, where two are made: only that is decided anew.
     pub changes: Changes,
+    /// A flag for each router, where two are made, which is set only where it knows the same after the last round as before it.
+    pub stayed: Items<bool>,
     /// The state of the checkpoint, where that is an earlier round yet.
-    pub kept: State,
+    pub kept: Knowledge,
 }
 
 /// By a function of its own, so that what holds the rounds drops their states by one call.
@@ -56,6 +57,7 @@ impl Drop for Progress {
             last: _,
             before: _,
             changes: _,
+            stayed: _,
             kept: _,
         } = self;
     }
@@ -86,25 +88,13 @@ fn next_checkpoint(round: u32, checkpoint: u32) -> u32
 }
 
 /// The state that is kept of the checkpoint, where the round before the last one leaves, and the one that isn't kept.
-fn kept_of(is_checkpoint: bool, leaving: State, kept: State) -> (State, State)
+fn kept_of(is_checkpoint: bool, leaving: Knowledge, kept: Knowledge) -> (Knowledge, Knowledge)
     ensures { result.0 ≡ (if is_checkpoint then leaving else kept) }
 {
     if is_checkpoint {
         (leaving, kept)
     } else {
         (kept, leaving)
-    }
-}
-
-/// The state before, where it isn't lent, and the one that is lent.
-fn lent_of(alloc: Global, lends: bool, before: State) -> (State, State)
-    ensures kept { result.0 ≡ (if lends then [] else before) }
-    ensures lent { result.1 ≡ (if lends then before else []) }
-{
-    if lends {
-        (Items::new(alloc), before)
-    } else {
-        (before, Items::new(alloc))
     }
 }
 
@@ -121,12 +111,13 @@ impl Progress {
             last,
             before: Items::new(alloc),
             changes: Items::new(alloc),
+            stayed: Items::new(alloc),
             kept: Items::new(alloc),
         })
     }
 
     /// The state of the checkpoint.
-    fn checkpoint_state(&self) -> &State
+    fn checkpoint_state(&self) -> &Knowledge
         requires { self.now.checkpoint ≤ 100000 }
         ensures { result.now ≡ checkpoint_state self.now }
     {
@@ -139,44 +130,20 @@ impl Progress {
         &self.kept
     }
 
-    /// Which earlier state this one is.
-    pub fn same(&self, next: &State) -> Same
-        requires { self.now.checkpoint ≤ 100000 }
+    /// Which earlier state this one is. Flags are set only for routers that know the same as in the round before.
+    pub fn same(&self, next: &Knowledge, stayed: &[bool]) -> Same
+        requires few { self.now.checkpoint ≤ 100000 }
+        requires long { length self.now.last ≡ length next.now }
+        requires stayed { AreFlagged stayed.now self.now.last next.now }
         ensures { IsSame self.now next.now result }
     {
-        if equal(next, &self.last) {
+        if have_all_stayed(stayed, &self.last, next) {
             return Same::Last;
         }
         if equal(next, self.checkpoint_state()) {
             return Same::Checkpoint;
         }
         Same::Neither
-    }
-
-    /// Whether the state before is lent to the next round: a round is made, and the checkpoint doesn't keep that state.
-    fn lends(&self) -> bool
-        requires { self.now.checkpoint ≤ 100000 }
-        ensures { result ≡ lends self.now }
-    {
-        self.done != 0 && self.checkpoint + 1 != self.done
-    }
-
-    /// Who knew the same after the last round as before it, where the state before is lent; nobody where it isn't.
-    fn stayed(&self, alloc: Global, net: &Network) -> Result<Stayed, AllocError>
-        requires few { self.now.checkpoint ≤ 100000 }
-        requires changes { 1 ≤ self.now.done → AreChanges self.now.changes self.now.before self.now.last }
-        requires before { All IsRouterState self.now.before }
-        requires last { All IsRouterState self.now.last }
-        ensures have { IfOk result (λ s. HaveStayed net.now s self.now.before self.now.last) }
-        ensures lent { IfOk result (λ s. AreFlagged s.routers (lent self.now) self.now.last) }
-    {
-        if self.lends() {
-            return who_stayed(alloc, net, &self.changes, &self.before, &self.last);
-        }
-        Ok(Stayed {
-            routers: Items::new(alloc),
-            boundaries: false,
-        })
     }
 
     /// What changed in the last round in what routers may tell inside, where two rounds are made.
@@ -215,7 +182,7 @@ impl Progress {
         requires some_workers { 1 ≤ workers }
         requires few_workers { workers ≤ 64 }
         ensures passed { IfOk result (λ p. p.0 ≡ passage (self.now.done + 1) 0 workers) }
-        ensures value { IfOk result (λ p. MatchOption p.1 (rib.next_state net.now internal.now self.now.last ≡ self.now.last) (AreMadeAnew net.now internal.now self.now.last (lent self.now))) }
+        ensures value { IfOk result (λ p. MatchOption p.1 (rib.next_state net.now internal.now self.now.last ≡ self.now.last) (AreMadeAnew net.now internal.now self.now.last)) }
     {
         let externals = externals(alloc, net, &self.last)?;
         let inside = told_inside(alloc, sessions, &self.last)?;
@@ -233,7 +200,8 @@ impl Progress {
         if setting.is_settled(alloc, &inside, &self.last, &self.before)? {
             return Ok((Passed::in_turn(gate, phase, 0, workers), None));
         }
-        let stayed = self.stayed(alloc, net)?;
+        let flags = self.stayed.copy(alloc)?;
+        let stayed = who_stayed(net, flags);
         let (passed, fresh) = next_shares(
             rt,
             alloc,
@@ -249,65 +217,41 @@ impl Progress {
         Ok((passed, Some(fresh?)))
     }
 
-    /// The state before, where it is lent, and all else.
-    fn lend(self, alloc: Global) -> (Progress, State)
-        requires { self.checkpoint ≤ 100000 }
-        ensures rest { result.0 ≡ without_lent self }
-        ensures lent { result.1 ≡ lent self }
+    /// What the next round makes, put together from what it makes anew and what routers know again.
+    pub fn put_together(&self, alloc: Global, fresh: Fresh) -> Result<Round, AllocError>
+        ensures { (net : NetworkModel) (internal : InternalModel) → IsProgress net internal self.now → AreMadeAnew net internal self.now.last fresh → IfOk result (IsRound net internal self.now.last) }
     {
-        let lends = self.lends();
-        let Progress {
-            done,
-            checkpoint,
-            last,
-            before,
-            changes,
-            kept,
-        } = self;
-        let (before, lent) = lent_of(alloc, lends, before);
-        let rest = Progress {
-            done,
-            checkpoint,
-            last,
-            before,
-            changes,
-            kept,
-        };
-        (rest, lent)
+        let round = put_together(alloc, fresh, &self.last)?;
+        Ok(round)
     }
 
-    /// What the next round makes, put together from what it makes anew and what routers know again, which is taken from the state before.
-    pub fn put_together(self, alloc: Global, fresh: Fresh) -> Result<(Progress, Round), AllocError>
-        requires { self.checkpoint ≤ 100000 }
-        ensures { (net : NetworkModel) (internal : InternalModel) → IsProgress net internal self → AreMadeAnew net internal self.last (lent self) fresh → IfOk result (λ p. IsRound net internal self.done p.0 p.1) }
-    {
-        let (rest, known) = self.lend(alloc);
-        let round = put_together(alloc, fresh, known)?;
-        Ok((rest, round))
-    }
-
-    /// The last state, at which the next round changes nothing.
-    pub fn fixed(self) -> Outcome
-        requires { self.done < 100000 }
-        ensures { result ≡ Outcome.Fixed (self.done + 1) self.last }
+    /// The last state alone.
+    pub fn into_last(self) -> Knowledge
+        ensures { result ≡ self.last }
     {
         let Progress {
-            done,
+            done: _,
             checkpoint: _,
             last,
             before: _,
             changes: _,
+            stayed: _,
             kept: _,
         } = self;
-        Outcome::Fixed(done + 1, last)
+        last
     }
 
     /// One round further, and the state that isn't kept any more.
-    pub fn after(self, next: State, changed: Changes) -> (Progress, State)
+    pub fn after(
+        self,
+        next: Knowledge,
+        changed: Changes,
+        stayed: Items<bool>,
+    ) -> (Progress, Knowledge)
         requires few { self.done < 100000 }
         requires checkpoint { self.checkpoint ≤ 100000 }
         ensures done { result.0.done ≡ self.done + 1 }
-        ensures made { (net : NetworkModel) (internal : InternalModel) → IsUnderWay net internal self → IsStateOf (length net.routers) next → next ≡ rib.next_state net internal self.last → AreChanges changed self.last next → GoesOn net internal (self.done + 1) → IsProgress net internal result.0 }
+        ensures made { (net : NetworkModel) (internal : InternalModel) → IsUnderWay net internal self → IsStateOf (length net.routers) next → next ≡ rib.next_state net internal self.last → AreChanges changed self.last next → AreFlagged stayed self.last next → GoesOn net internal (self.done + 1) → IsProgress net internal result.0 }
     {
         let Progress {
             done,
@@ -315,6 +259,7 @@ impl Progress {
             last,
             before,
             changes: _,
+            stayed: _,
             kept,
         } = self;
         let round = done + 1;
@@ -324,6 +269,7 @@ impl Progress {
             checkpoint: next_checkpoint(round, checkpoint),
             last: next,
             changes: changed,
+            stayed,
             kept,
             before: last,
         };

@@ -16,6 +16,7 @@ use rc_bgp::{ConfiguredSessions, configured_sessions};
 use rc_config::Network;
 use rc_ospf::{Internal, internal};
 use rc_outside::Gate;
+use rc_pieces::{Knowledge, into_state};
 use std::alloc::{AllocError, AllocGlobal, Global};
 use std::thread::Threads;
 
@@ -81,6 +82,14 @@ fn internal_of<R: Threads + Sync>(
     internal(rt, alloc, net, links, workers)
 }
 
+/// The end at a fixed point. What no other state shares is moved into its lists, so the other states are dropped before.
+fn fixed(alloc: Global, rounds: u32, state: Knowledge) -> Result<Outcome, AllocError>
+    ensures { IfOk result (λ o. o ≡ Outcome.Fixed rounds state) }
+{
+    let state = into_state(alloc, state)?;
+    Ok(Outcome::Fixed(rounds, state))
+}
+
 /// How the rounds of a network end beside what no round changes, where at most so many are made.
 fn rounds_within<R: Threads + Sync, G: Gate>(
     rt: &R,
@@ -103,16 +112,19 @@ fn rounds_within<R: Threads + Sync, G: Gate>(
     for done in 0..limit {
         let (_passed, fresh) = progress.next(rt, alloc, net, internal, sessions, workers, gate)?;
         let Some(fresh) = fresh else {
-            return Ok(progress.fixed());
+            return fixed(alloc, done + 1, progress.into_last());
         };
-        let (rest, round) = progress.put_together(alloc, fresh)?;
-        let (next, changes) = round.without_left(rt, alloc, workers);
-        let same = rest.same(&next);
+        let round = progress.put_together(alloc, fresh)?;
+        let (next, changes, stayed) = round.into_parts();
+        let same = progress.same(&next, stayed.as_slice());
         match same {
-            Same::Last => return Ok(Outcome::Fixed(done + 1, next)),
-            Same::Checkpoint => return Ok(Outcome::Repeats(rest.checkpoint, done + 1)),
+            Same::Last => {
+                drop(progress);
+                return fixed(alloc, done + 1, next);
+            }
+            Same::Checkpoint => return Ok(Outcome::Repeats(progress.checkpoint, done + 1)),
             Same::Neither => {
-                let (further, left) = rest.after(next, changes);
+                let (further, left) = progress.after(next, changes, stayed);
                 progress = further;
                 drop_state(rt, alloc, left, workers);
             }

@@ -13,9 +13,9 @@ use crate::parts::{Fresh, Setting};
 use rc_base::RouterId;
 use rc_bgp::{Changes, Inside};
 use rc_outside::{Gate, Passed};
+use rc_pieces::Knowledge;
 use rc_reads::{Stayed, table_anew};
 use rc_rib::{Earlier, Inputs, Made, is_settled};
-use rc_route::State;
 use rc_shares::{Each, each_at_once};
 use std::alloc::{AllocError, Global};
 use std::thread::Threads;
@@ -23,7 +23,7 @@ use std::thread::Threads;
 /// A state and what changed since, where there was a round earlier yet.
 fn earlier_of<'a>(
     has_earlier: bool,
-    state: &'a State,
+    state: &'a Knowledge,
     changes: &'a Changes,
     inside: &'a Changes,
 ) -> Option<Earlier<'a>>
@@ -81,8 +81,8 @@ impl<'a> Setting<'a> {
         &self,
         alloc: Global,
         inside: &Inside,
-        read: &State,
-        earlier: &State,
+        read: &Knowledge,
+        earlier: &Knowledge,
     ) -> Result<bool, AllocError>
         requires { AreRead self.now inside.now read.now earlier.now }
         ensures { IfOk result (λ is. is ≡ true → next_state self.now.network.now self.now.internal.now read.now ≡ read.now) }
@@ -100,7 +100,7 @@ impl<'a> Setting<'a> {
     }
 }
 
-impl<'a> Makes<State, Inside, Stayed> for Setting<'a> {
+impl<'a> Makes<Knowledge, Inside, Stayed> for Setting<'a> {
     ghost use Rattle.std.specs.Prelude.{length};
     ghost use Rattle.rc_rounds.specs.Parts.{IsReady};
     ghost use Rattle.rc_reads.specs.Stayed.{IsMadeAnew};
@@ -121,8 +121,8 @@ impl<'a> Makes<State, Inside, Stayed> for Setting<'a> {
         &self,
         inside: &Inside,
         stayed: &Stayed,
-        read: &State,
-        earlier: &State,
+        read: &Knowledge,
+        earlier: &Knowledge,
         alloc: Global,
         router: usize,
     ) -> Result<Option<Made>, AllocError>
@@ -220,8 +220,8 @@ pub(crate) fn next_shares<R: Threads + Sync, G: Gate>(
     setting: &Setting<'_>,
     inside: &Inside,
     stayed: &Stayed,
-    read: &State,
-    earlier: &State,
+    read: &Knowledge,
+    earlier: &Knowledge,
     workers: u32,
     phase: u32,
     gate: &G,

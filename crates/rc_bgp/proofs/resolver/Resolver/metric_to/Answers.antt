@@ -6,7 +6,7 @@ use Rattle.rc_bgp.proofs.resolver.Resolver.metric_to.Goals as goal
 
 pub invariant_of-self-in-None : goal.invariant_of-self-in-None
 invariant_of-self-in-None c =
-    let table = c.self.inside.table.now in
+    let table = c.self.inside.table in
     record {
       in_order = c.self.invariant.in_order;
       noted = subst (AreWays table) (sym c.in_ok-note-in-None.ensures.ok)
@@ -15,4 +15,4 @@ invariant_of-self-in-None c =
 
 pub returns-in-Some-clause-value : goal.returns-in-Some-clause-value
 returns-in-Some-clause-value c =
-    found_way c.self.inside.table.now c.self.inside.known c.args.addr c.in-Some.metric c.self.invariant.noted c.in-Some.ensures ∙ ap (λ t. metric_to t c.args.addr) c.self.view_is
+    found_way c.self.inside.table c.self.inside.known c.args.addr c.in-Some.metric c.self.invariant.noted c.in-Some.ensures ∙ ap (λ t. metric_to t c.args.addr) c.self.view_is

@@ -1,6 +1,7 @@
 use Rattle.std.proofs.Common.{arith}
 use Rattle.rc_rounds.proofs.CheckpointLaws.{first-power}
 use Rattle.rc_rounds.proofs.RoundLaws.{none_below}
+use Rattle.rc_rounds.proofs.SettingLaws.{no_flags}
 use Rattle.rc_rounds.proofs.progress.Progress.start.Goals as goal
 
 pub returns-clause-made : goal.returns-clause-made
@@ -17,4 +18,5 @@ returns-clause-made c internal = record {
   before = λ some. absurd (omega (arith, some));
   before_in_order = rw c.new.ensures (λ k d less. absurd (omega (arith, less)));
   changes = λ some. absurd (omega (arith, some));
+  stayed = no_flags _ _ _ c.new-3.ensures;
 }

@@ -1,0 +1,6 @@
+use Rattle.std.proofs.Common.{take}
+use Rattle.rc_bgp.specs.AllOriginated.{SayAlike}
+use Rattle.rc_bgp.proofs.same_inputs.say_alike.Given as goal
+
+abbrev pub invariant-loop-prefix : goal.invariant-loop-prefix
+invariant-loop-prefix l = SayAlike l.before l.now (take l.prefix-index l.networks)

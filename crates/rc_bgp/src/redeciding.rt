@@ -1,0 +1,102 @@
+//! What is best now at some prefixes, where that is another path than the one that is known.
+ghost use Rattle.std.specs.List.Sorted.{IsStrictlySortedBy};
+ghost use Rattle.std.specs.Option.{option_copied};
+ghost use Rattle.std.specs.Prelude.{◌≡◌, ◌↔◌, All, IfOk, IsTrue};
+ghost use Rattle.rc_base.specs.Prefix.{prefix_cmp};
+ghost use Rattle.rc_route.specs.Tables.{IsBestList, IsPathList, IsRouterState};
+ghost use Rattle.rc_route.specs.declared.best.Best.{Best as BestModel};
+ghost use Rattle.rc_bgp.specs.Candidates.{best_among};
+ghost use Rattle.rc_bgp.specs.Updating.{AreDecided};
+
+use crate::Session;
+use crate::deciding::{best_among, sharing};
+use crate::resolver::Resolver;
+use rc_base::{Items, Prefix};
+use rc_config::{MaximumPaths, Network};
+use rc_pieces::{Edit, Edits, Knowledge, Listed};
+use rc_route::{Best, BgpPath};
+use std::alloc::{AllocError, Global};
+use std::collections::VecDeque;
+
+/// Whether two best paths are the same, with what goes with them.
+#[tactic(auto, using(rc_route::proofs::EqualLaws::best_decides))]
+pub(crate) fn is_same(best: &Best, other: &Best) -> bool
+    ensures { IsTrue result ↔ (best.now ≡ other.now) }
+{
+    *best == *other
+}
+
+/// Whether what is best is what is known.
+fn is_known(known: Option<&Best>, best: &Option<Best>) -> bool
+    ensures { IsTrue result → option_copied known.entry ≡ best.now }
+{
+    match known {
+        None => best.is_none(),
+        Some(known) => match best {
+            None => false,
+            Some(best) => is_same(known, best),
+        },
+    }
+}
+
+/// A best path, which shares the AS path of another one, if there is one, where both are the same.
+fn sharing_value(other: &Option<Best>, best: Best) -> Result<Best, AllocError>
+    ensures { IfOk result (λ made. made ≡ best) }
+{
+    match other {
+        None => Ok(best),
+        Some(other) => sharing(&other.path, best),
+    }
+}
+
+/// What is best, which shares the AS path of the last of some edits: paths of one origin mostly stand side by side.
+fn sharing_last(edits: &Edits<Best>, best: Option<Best>) -> Result<Option<Best>, AllocError>
+    ensures { IfOk result (λ made. made ≡ best) }
+{
+    match best {
+        None => Ok(None),
+        Some(best) => {
+            let last = edits.back();
+            match last {
+                None => Ok(Some(best)),
+                Some(last) => Ok(Some(sharing_value(&last.value, best)?)),
+            }
+        }
+    }
+}
+
+/// What is best now at those of some prefixes, which stand in order, at which that is another path than the one that is known, and these
+/// prefixes.
+pub(crate) fn decided(
+    alloc: Global,
+    net: &Network,
+    state: &Knowledge,
+    most: MaximumPaths,
+    resolver: &mut Resolver<'_>,
+    own: &[Items<BgpPath>],
+    sessions: &[Session],
+    known: &Listed<'_, Best>,
+    prefixes: &[Prefix],
+) -> Result<(Items<Prefix>, Edits<Best>), AllocError>
+    requires state { All IsRouterState state.now }
+    requires own { All IsPathList own.now }
+    requires known { IsBestList known.now }
+    requires prefixes { IsStrictlySortedBy prefix_cmp prefixes.now }
+    ensures { IfOk result (λ made. AreDecided (λ (b : BestModel). b.path.prefix) (best_among net.now state.now most resolver.old own.now sessions.now) known.now prefixes.now made.0 made.1.items) }
+{
+    let mut changed = Items::new(alloc);
+    let mut edits = VecDeque::new(alloc);
+    for prefix in prefixes {
+        let best = best_among(alloc, net, state, most, resolver, own, sessions, prefix)?;
+        if is_known(known.at(prefix), &best) {
+            continue;
+        }
+        let value = sharing_last(&edits, best)?;
+        changed.push(*prefix)?;
+        edits.push_back(Edit {
+            prefix: *prefix,
+            value,
+        })?;
+    }
+    Ok((changed, edits))
+}

@@ -1,0 +1,7 @@
+pub mod OrderLaws
+mod PlaceLaws
+mod EditLaws
+mod SaidLaws
+mod HoldLaws
+mod LongestLaws
+mod SameLaws

@@ -1,0 +1,4 @@
+pub mod Pieces
+pub mod Editing
+pub mod Knowing
+pub mod PieceRows
