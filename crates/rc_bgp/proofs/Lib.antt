@@ -12,6 +12,7 @@ pub mod ListedLaws
 pub mod DecidedLaws
 mod PieceLaws
 mod WithheldLaws
+mod SettledLaws
 mod LoopLaws
 mod OwnLaws
 mod AlikeLaws

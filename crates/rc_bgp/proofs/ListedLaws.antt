@@ -10,7 +10,8 @@ use Rattle.rc_base.specs.Prefix.{Cidr, prefix_cmp, same_prefix}
 use Rattle.rc_base.proofs.GroupLaws.{same_itself}
 use Rattle.rc_base.proofs.OrderedLaws.{all-weaker, prefix_cmp_total, same_by_prefix_cmp}
 use Rattle.rc_topology.proofs.ListLaws.{find_each, find_filter, find_never}
-use Rattle.rc_bgp.specs.Updating.{before, behind, updated}
+use Rattle.rc_bgp.specs.Updating.{updated}
+use Rattle.rc_pieces.specs.Editing.{before, behind}
 use Rattle.rc_bgp.proofs.PrefixLaws.{below, map_itself, none_later, same_is}
 
 turned : (p q : Cidr) (o : Ordering) → prefix_cmp p q ≡ o → prefix_cmp q p ≡ ordering_reverse o

@@ -31,6 +31,10 @@ best_prefixes paths = map (λ (b : Best). b.path.prefix) paths
 abbrev pub sender_prefixes : List RouterState → Session → List Cidr
 sender_prefixes old s = best_prefixes (paths_of old s.sender)
 
+-- the best paths of the senders of some sessions
+abbrev pub senders_paths : List RouterState → List Session → List (List Best)
+senders_paths old sessions = map (λ (s : Session). paths_of old s.sender) sessions
+
 -- the prefixes that may have candidates, by address, then length
 abbrev pub prefixes_seen : List RouterState → List (List BgpPath) → List Session → List Cidr
 prefixes_seen old own sessions = in_order prefix_cmp (default_prefix ∷ (flat_map prefixes_of own ++ flat_map (sender_prefixes old) sessions))

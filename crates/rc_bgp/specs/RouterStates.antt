@@ -8,11 +8,11 @@ use Rattle.rc_route.specs.declared.path.BgpPath.{BgpPath}
 use Rattle.rc_route.specs.declared.route.Route.{Route}
 use Rattle.rc_route.specs.declared.state.RouterState.{RouterState}
 
--- the table of a router in a state, and its best paths; none where there is no such router
+-- the table of a router in a state; none where there is no such router
 abbrev pub table_of : List RouterState → ℕ → List Route
 table_of state r = option_map_or (λ (s : RouterState). s.table) (slice_get state r) []
 
--- the best paths of a router in a state, none where there is no such router
+-- the best paths of a router in a state; none where there is no such router
 abbrev pub paths_of : List RouterState → ℕ → List Best
 paths_of state r = option_map_or (λ (s : RouterState). s.paths) (slice_get state r) []
 

@@ -1,10 +1,10 @@
 -- A list in order of prefix, with what a function says at some prefixes in place of what stands there.
 use Rattle.std.specs.Prelude.{◌≡◌, true, false, List, [], ◌∷◌, ◌++◌, map, Option}
-use Rattle.std.specs.List.{filter, list_any}
+use Rattle.std.specs.List.{list_any}
 use Rattle.std.specs.List.Sorted.{IsStrictlySortedBy}
 use Rattle.std.specs.Option.{option_to_list}
-use Rattle.std.specs.Ordering.{is_lt}
 use Rattle.rc_base.specs.Prefix.{Cidr, prefix_cmp, same_prefix}
+use Rattle.rc_pieces.specs.Editing.{before, behind}
 use Rattle.rc_pieces.specs.declared.edit.Edit.{Edit}
 use Rattle.rc_route.specs.Tables.{listed_at}
 
@@ -14,17 +14,10 @@ module _ {A : Type 0} where
   edit_of f p = record { prefix = p; value = f p }
 
 module _ {A : Type 0} (prefix_of : A → Cidr) where
-  -- what stands before a prefix, and what stands behind it
-  abbrev pub before : Cidr → List A → List A
-  before p xs = filter (λ x. is_lt (prefix_cmp (prefix_of x) p)) xs
-
-  abbrev pub behind : Cidr → List A → List A
-  behind p xs = filter (λ x. is_lt (prefix_cmp p (prefix_of x))) xs
-
   -- the prefixes stand in order
   abbrev pub updated : (Cidr → Option A) → List A → List Cidr → List A
   updated f xs [] = xs
-  updated f xs (p ∷ ps) = before p xs ++ (option_to_list (f p) ++ updated f (behind p xs) ps)
+  updated f xs (p ∷ ps) = before prefix_of p xs ++ (option_to_list (f p) ++ updated f (behind prefix_of p xs) ps)
 
   -- some of these prefixes, in order: all at which the list says other than the function
   pub record AreTaken (f : Cidr → Option A) (xs : List A) (ps taken : List Cidr) : Type 0 where

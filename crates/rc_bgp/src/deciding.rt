@@ -17,6 +17,7 @@ use crate::maximum::{maximum_of, number_for};
 use crate::originating::{insert, listed};
 use crate::resolver::Resolver;
 use crate::router_state::{paths_of, table_of};
+use crate::senders::{Senders, senders_of};
 use crate::up::{received, up_sessions};
 use crate::{ConfiguredSessions, Inside, Session, Sessions};
 use rc_as_path::AsPath;
@@ -76,14 +77,17 @@ pub(crate) fn best_among(
     resolver: &mut Resolver<'_>,
     own: &[Items<BgpPath>],
     sessions: &[Session],
+    senders: &mut Senders<'_>,
     prefix: &Prefix,
 ) -> Result<Option<Best>, AllocError>
     requires state { All IsRouterState state.now }
     requires own { All IsPathList own.now }
+    requires senders { senders.old.items ≡ spec.senders_paths state.now sessions.now }
     ensures value { IfOk result (λ best. best ≡ spec.best_among net.now state.now most resolver.old own.now sessions.now prefix.now) }
     ensures same { OnOk result (resolver.new ≡ resolver.old) }
+    ensures same_senders { OnOk result (senders.new.items ≡ senders.old.items) }
 {
-    let paths = candidates_at(alloc, net, state, resolver, own, sessions, prefix)?;
+    let paths = candidates_at(alloc, net, state, resolver, own, sessions, senders, prefix)?;
     best_with_further(alloc, most, paths.as_slice())
 }
 
@@ -301,8 +305,18 @@ fn candidates_for(
     ensures { IfOk result (λ all. all ≡ flat_map (spec.candidates_at net.now state.now resolver.old own.now sessions.now) prefixes.now) }
 {
     let mut all = Items::new(alloc);
+    let mut senders = senders_of(alloc, state, sessions)?;
     for prefix in prefixes {
-        let paths = candidates_at(alloc, net, state, resolver, own, sessions, prefix)?;
+        let paths = candidates_at(
+            alloc,
+            net,
+            state,
+            resolver,
+            own,
+            sessions,
+            &mut senders,
+            prefix,
+        )?;
         append(&mut all, paths)?;
     }
     Ok(all)

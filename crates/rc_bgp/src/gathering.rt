@@ -9,7 +9,7 @@ ghost use Rattle.rc_bgp.specs.Gathering as spec;
 ghost use Rattle.rc_bgp.specs.RouterStates.{paths_of};
 ghost use Rattle.rc_bgp.specs.Telling.{AreListed};
 
-use crate::hearing::{heard_path, path_heard};
+use crate::hearing::{best_path_for, heard_path, path_heard};
 use crate::resolver::Resolver;
 use crate::router_state::paths_of;
 use crate::telling::listed_for;
@@ -234,7 +234,9 @@ fn add_over(
     ensures same { OnOk result (resolver.new ≡ resolver.old) }
 {
     let prefix = Prefix::default_route();
-    let default = path_heard(alloc, net, state, resolver, session, &prefix)?;
+    let paths = paths_of(state, session.sender);
+    let best = best_path_for(&paths, &prefix);
+    let default = path_heard(alloc, net, state, resolver, session, best, &prefix)?;
     add_some(alloc, rows, default)?;
     add_offered(alloc, net, state, inside, resolver, session, rows)
 }

@@ -1,13 +1,13 @@
 //! What a router hears for a prefix.
-ghost use Rattle.std.specs.Prelude.{◌≡◌, ◌++◌, All, IfOk, OnOk, option_and_then};
+ghost use Rattle.std.specs.Prelude.{◌≡◌, ◌<◌, ◌++◌, [], All, IfOk, OnOk, length, option_and_then, slice_index_or};
 ghost use Rattle.std.specs.Option.{option_copied, option_to_list};
 ghost use Rattle.rc_route.specs.Tables.{IsBestList, IsPathList, IsRouterState, best_path_for};
 ghost use Rattle.rc_bgp.specs.Candidates as spec;
-ghost use Rattle.rc_bgp.specs.RouterStates.{path_at};
+ghost use Rattle.rc_bgp.specs.RouterStates.{path_at, paths_of};
 ghost use Rattle.rc_bgp_session.specs.Passing as pass;
 
 use crate::resolver::Resolver;
-use crate::router_state::paths_of;
+use crate::senders::{Senders, best_path_told};
 use crate::{Session, export};
 use rc_base::{Items, Prefix};
 use rc_bgp_session::{originated_default, taken};
@@ -17,7 +17,7 @@ use rc_route::{Best, BgpPath, listed_at};
 use std::alloc::{AllocError, Global};
 
 /// The best path for a prefix.
-fn best_path_for<'a>(paths: &Listed<'a, Best>, prefix: &Prefix) -> Option<&'a BgpPath>
+pub(crate) fn best_path_for<'a>(paths: &Listed<'a, Best>, prefix: &Prefix) -> Option<&'a BgpPath>
     requires { IsBestList paths.now }
     ensures { option_copied result ≡ best_path_for paths.now prefix.now }
 {
@@ -34,14 +34,13 @@ fn advertised_best(
     net: &Network,
     state: &Knowledge,
     session: &Session,
+    best: Option<&BgpPath>,
     prefix: &Prefix,
 ) -> Result<Option<BgpPath>, AllocError>
-    requires { All IsRouterState state.now }
+    requires { option_copied best ≡ best_path_for (paths_of state.now session.now.sender) prefix.now }
     ensures { IfOk result (λ made. made ≡ spec.advertised_best net.now state.now session.now prefix.now) }
 {
-    let paths = paths_of(state, session.sender);
-    let found = best_path_for(&paths, prefix);
-    match found {
+    match best {
         Some(path) => export(alloc, net, session, path),
         None => Ok(None),
     }
@@ -53,33 +52,35 @@ fn advertised_default(
     net: &Network,
     state: &Knowledge,
     session: &Session,
+    best: Option<&BgpPath>,
     prefix: &Prefix,
 ) -> Result<Option<BgpPath>, AllocError>
-    requires { All IsRouterState state.now }
+    requires { option_copied best ≡ best_path_for (paths_of state.now session.now.sender) prefix.now }
     ensures { IfOk result (λ made. made ≡ spec.advertised_default net.now state.now session.now prefix.now) }
 {
     let default = originated_default(alloc, net, session)?;
     match default {
         Some(path) => Ok(Some(path)),
-        None => advertised_best(alloc, net, state, session, prefix),
+        None => advertised_best(alloc, net, state, session, best, prefix),
     }
 }
 
-/// What is advertised over a session for a prefix.
+/// What is advertised over a session for a prefix, for which this is the sender's best path.
 fn advertised(
     alloc: Global,
     net: &Network,
     state: &Knowledge,
     session: &Session,
+    best: Option<&BgpPath>,
     prefix: &Prefix,
 ) -> Result<Option<BgpPath>, AllocError>
-    requires { All IsRouterState state.now }
+    requires { option_copied best ≡ best_path_for (paths_of state.now session.now.sender) prefix.now }
     ensures { IfOk result (λ made. made ≡ spec.advertised net.now state.now session.now prefix.now) }
 {
     if prefix.is_default() {
-        advertised_default(alloc, net, state, session, prefix)
+        advertised_default(alloc, net, state, session, best, prefix)
     } else {
-        advertised_best(alloc, net, state, session, prefix)
+        advertised_best(alloc, net, state, session, best, prefix)
     }
 }
 
@@ -121,20 +122,21 @@ pub(crate) fn heard_path(
     }
 }
 
-/// What a router with this table hears over a session for a prefix.
+/// What a router with this table hears over a session for a prefix, for which this is the sender's best path.
 pub(crate) fn path_heard(
     alloc: Global,
     net: &Network,
     state: &Knowledge,
     resolver: &mut Resolver<'_>,
     session: &Session,
+    best: Option<&BgpPath>,
     prefix: &Prefix,
 ) -> Result<Option<BgpPath>, AllocError>
-    requires { All IsRouterState state.now }
+    requires { option_copied best ≡ best_path_for (paths_of state.now session.now.sender) prefix.now }
     ensures value { IfOk result (λ made. made ≡ spec.path_heard net.now state.now resolver.old session.now prefix.now) }
     ensures same { OnOk result (resolver.new ≡ resolver.old) }
 {
-    let advertised = advertised(alloc, net, state, session, prefix)?;
+    let advertised = advertised(alloc, net, state, session, best, prefix)?;
     match advertised {
         None => Ok(None),
         Some(path) => heard_path(alloc, net, resolver, session, path),
@@ -181,6 +183,29 @@ fn own_at(
     Ok(made)
 }
 
+/// What a router with this table hears over a session, that of an index, for a prefix.
+#[tactic(auto, using(crate::proofs::KnownLaws::paths_in_order))]
+fn heard_over(
+    alloc: Global,
+    net: &Network,
+    state: &Knowledge,
+    resolver: &mut Resolver<'_>,
+    session: &Session,
+    senders: &mut Senders<'_>,
+    index: usize,
+    prefix: &Prefix,
+) -> Result<Option<BgpPath>, AllocError>
+    requires state { All IsRouterState state.now }
+    requires within { index < length senders.old.items }
+    requires sender { slice_index_or senders.old.items index [] ≡ paths_of state.now session.now.sender }
+    ensures value { IfOk result (λ made. made ≡ spec.path_heard net.now state.now resolver.old session.now prefix.now) }
+    ensures same { OnOk result (resolver.new ≡ resolver.old) }
+    ensures same_senders { OnOk result (senders.new.items ≡ senders.old.items) }
+{
+    let best = best_path_told(senders, index, prefix);
+    path_heard(alloc, net, state, resolver, session, best, prefix)
+}
+
 /// The candidates of a router for a prefix.
 pub(crate) fn candidates_at(
     alloc: Global,
@@ -189,16 +214,20 @@ pub(crate) fn candidates_at(
     resolver: &mut Resolver<'_>,
     own: &[Items<BgpPath>],
     sessions: &[Session],
+    senders: &mut Senders<'_>,
     prefix: &Prefix,
 ) -> Result<Vec<BgpPath>, AllocError>
     requires state { All IsRouterState state.now }
     requires own { All IsPathList own.now }
+    requires senders { senders.old.items ≡ spec.senders_paths state.now sessions.now }
     ensures value { IfOk result (λ paths. paths.items ≡ spec.candidates_at net.now state.now resolver.old own.now sessions.now prefix.now) }
     ensures same { OnOk result (resolver.new ≡ resolver.old) }
+    ensures same_senders { OnOk result (senders.new.items ≡ senders.old.items) }
 {
     let mut paths = own_at(alloc, own, prefix)?;
-    for session in sessions {
-        let path = path_heard(alloc, net, state, resolver, session, prefix)?;
+    for index in 0..sessions.len() {
+        let session = &sessions[index];
+        let path = heard_over(alloc, net, state, resolver, session, senders, index, prefix)?;
         push_some(&mut paths, path)?;
     }
     Ok(paths)

@@ -10,14 +10,15 @@ use crate::telling::has_internal;
 use crate::{Changes, ConfiguredSessions};
 use rc_base::{Items, Prefix, RouterId};
 use rc_bgp_session::is_internal;
-use rc_pieces::{Knowledge, Listed};
+use rc_pieces::{Finder, Knowledge, Listed};
 use rc_route::Best;
 use std::alloc::{AllocError, Global};
 
 /// Whether internal peers may be told something for a prefix.
-fn is_told(paths: &Listed<'_, Best>, prefix: &Prefix) -> bool
-    requires { IsBestList paths.now }
-    ensures { result ≡ spec.is_told paths.now prefix.now }
+fn is_told(paths: &mut Finder<'_, Best>, prefix: &Prefix) -> bool
+    requires { IsBestList paths.old }
+    ensures value { result ≡ spec.is_told paths.old prefix.now }
+    ensures same { paths.new ≡ paths.old }
 {
     let found = paths.at(prefix);
     match found {
@@ -38,8 +39,10 @@ fn told_by_either(
     ensures { IfOk result (λ told. told ≡ filter (spec.is_told_by_either old.now new.now) prefixes.now) }
 {
     let mut told = Items::new(alloc);
+    let mut before = Finder::of(old);
+    let mut after = Finder::of(new);
     for prefix in prefixes {
-        if is_told(old, prefix) || is_told(new, prefix) {
+        if is_told(&mut before, prefix) || is_told(&mut after, prefix) {
             told.push(*prefix)?;
         }
     }

@@ -1,23 +1,21 @@
 //! What a router's senders may tell it anew.
-ghost use Rattle.std.specs.BTreeSet.{insert_key, keys};
-ghost use Rattle.std.specs.List.{filter, flat_map, fold};
+ghost use Rattle.std.specs.List.{filter, flat_map};
 ghost use Rattle.std.specs.List.Sorted.{IsStrictlySortedBy};
-ghost use Rattle.std.specs.Prelude.{◌≡◌, All, IfOk, OnOk};
+ghost use Rattle.std.specs.Prelude.{◌≡◌, ◌++◌, All, IfOk, OnOk};
+ghost use Rattle.rc_base.specs.Lists.{in_order};
 ghost use Rattle.rc_base.specs.Prefix.{prefix_cmp};
 ghost use Rattle.rc_bgp.specs.Changes as spec;
 ghost use Rattle.rc_route.specs.Tables.{IsBestList, IsRouterState};
 
 use crate::changes::changes_over;
-use crate::originating::{insert, listed};
 use crate::router_state::paths_of;
 use crate::{Changes, Session};
 use rc_as_path::AsPath;
 use rc_base::{Items, Prefix, RouterId};
 use rc_config::Network;
-use rc_pieces::{Knowledge, Listed};
+use rc_pieces::{Finder, Knowledge, Listed};
 use rc_route::Best;
 use std::alloc::{AllocError, Global};
-use std::collections::BTreeSet;
 
 /// The AS of a router, if it has a BGP process.
 fn asn_of(net: &Network, router: RouterId) -> Option<u32>
@@ -44,9 +42,10 @@ fn is_no_loop(own: Option<u32>, path: &AsPath) -> bool
 }
 
 /// Whether a router of an AS may take the best path of a sender for a prefix.
-fn may_hear(own: Option<u32>, paths: &Listed<'_, Best>, prefix: &Prefix) -> bool
-    requires { IsBestList paths.now }
-    ensures { result ≡ spec.may_hear own paths.now prefix.now }
+fn may_hear(own: Option<u32>, paths: &mut Finder<'_, Best>, prefix: &Prefix) -> bool
+    requires { IsBestList paths.old }
+    ensures value { result ≡ spec.may_hear own paths.old prefix.now }
+    ensures same { paths.new ≡ paths.old }
 {
     let found = paths.at(prefix);
     match found {
@@ -55,9 +54,9 @@ fn may_hear(own: Option<u32>, paths: &Listed<'_, Best>, prefix: &Prefix) -> bool
     }
 }
 
-/// Puts those of some prefixes into a set for which a router of an AS may take what a sender knows, or may have taken what it knew.
+/// Puts those of some prefixes at the end for which a router of an AS may take what a sender knows, or may have taken what it knew.
 fn add_heard(
-    set: &mut BTreeSet<Prefix>,
+    news: &mut Items<Prefix>,
     own: Option<u32>,
     before: &Listed<'_, Best>,
     now: &Listed<'_, Best>,
@@ -65,19 +64,21 @@ fn add_heard(
 ) -> Result<(), AllocError>
     requires before { IsBestList before.now }
     requires now { IsBestList now.now }
-    ensures { OnOk result (keys set.new ≡ fold (insert_key prefix_cmp) (keys set.old) (filter (spec.may_hear_either own before.now now.now) prefixes.now)) }
+    ensures { OnOk result (news.new ≡ news.old ++ filter (spec.may_hear_either own before.now now.now) prefixes.now) }
 {
+    let mut earlier = Finder::of(before);
+    let mut later = Finder::of(now);
     for prefix in prefixes {
-        if may_hear(own, now, prefix) || may_hear(own, before, prefix) {
-            insert(set, *prefix)?;
+        if may_hear(own, &mut later, prefix) || may_hear(own, &mut earlier, prefix) {
+            news.push(*prefix)?;
         }
     }
     Ok(())
 }
 
-/// Puts the prefixes that a session's sender may tell anew into a set.
+/// Puts the prefixes that a session's sender may tell anew at the end.
 fn add_news_over(
-    set: &mut BTreeSet<Prefix>,
+    news: &mut Items<Prefix>,
     net: &Network,
     earlier: &Knowledge,
     previous: &Knowledge,
@@ -87,10 +88,10 @@ fn add_news_over(
 ) -> Result<(), AllocError>
     requires earlier { All IsRouterState earlier.now }
     requires previous { All IsRouterState previous.now }
-    ensures { OnOk result (keys set.new ≡ fold (insert_key prefix_cmp) (keys set.old) (spec.news_over net.now earlier.now previous.now changes.now inside.now session.now)) }
+    ensures { OnOk result (news.new ≡ news.old ++ spec.news_over net.now earlier.now previous.now changes.now inside.now session.now) }
 {
     add_heard(
-        set,
+        news,
         asn_of(net, session.receiver),
         &paths_of(earlier, session.sender),
         &paths_of(previous, session.sender),
@@ -98,9 +99,9 @@ fn add_news_over(
     )
 }
 
-/// Puts the prefixes that the senders of some sessions may tell anew into a set.
+/// Puts the prefixes that the senders of some sessions may tell anew at the end.
 fn add_news(
-    set: &mut BTreeSet<Prefix>,
+    news: &mut Items<Prefix>,
     net: &Network,
     earlier: &Knowledge,
     previous: &Knowledge,
@@ -110,12 +111,22 @@ fn add_news(
 ) -> Result<(), AllocError>
     requires earlier { All IsRouterState earlier.now }
     requires previous { All IsRouterState previous.now }
-    ensures { OnOk result (keys set.new ≡ fold (insert_key prefix_cmp) (keys set.old) (flat_map (spec.news_over net.now earlier.now previous.now changes.now inside.now) sessions.now)) }
+    ensures { OnOk result (news.new ≡ news.old ++ flat_map (spec.news_over net.now earlier.now previous.now changes.now inside.now) sessions.now) }
 {
     for session in sessions {
-        add_news_over(set, net, earlier, previous, changes, inside, session)?;
+        add_news_over(news, net, earlier, previous, changes, inside, session)?;
     }
     Ok(())
+}
+
+/// Prefixes in order, each once. Those of one sender stand in order already, and a sort takes them as they are.
+fn each_once(prefixes: Items<Prefix>) -> Result<Items<Prefix>, AllocError>
+    ensures { IfOk result (λ once. once ≡ in_order prefix_cmp prefixes) }
+{
+    let mut once = prefixes.into_vec();
+    once.sort()?;
+    once.dedup();
+    Ok(Items::from_vec(once))
 }
 
 /// The prefixes that the senders of some sessions may tell anew, in order, each once.
@@ -134,7 +145,7 @@ pub(crate) fn changed_at_senders(
     ensures value { IfOk result (λ prefixes. prefixes ≡ spec.changed_at_senders net.now earlier.now previous.now changes.now inside.now sessions.now) }
     ensures in_order { IfOk result (IsStrictlySortedBy prefix_cmp) }
 {
-    let mut set = BTreeSet::new(alloc);
-    add_news(&mut set, net, earlier, previous, changes, inside, sessions)?;
-    listed(alloc, set)
+    let mut news = Items::new(alloc);
+    add_news(&mut news, net, earlier, previous, changes, inside, sessions)?;
+    each_once(news)
 }

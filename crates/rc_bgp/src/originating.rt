@@ -9,7 +9,7 @@ ghost use Rattle.rc_bgp.specs.Originating as spec;
 
 use rc_as_path::AsPath;
 use rc_base::{Addr, Communities, Items, Origin, Prefix, RouterId};
-use rc_pieces::Listed;
+use rc_pieces::{Finder, Listed};
 use rc_route::{BgpPath, PathSource, Route, Source};
 use std::alloc::{AllocError, Global};
 use std::collections::BTreeSet;
@@ -62,9 +62,10 @@ fn metric_unless_bgp(route: &Route) -> Option<u32>
 }
 
 /// The metric of a table's route of just this prefix, where it isn't from BGP.
-pub(crate) fn metric_for(table: &Listed<'_, Route>, prefix: &Prefix) -> Option<u32>
-    requires { IsTable table.now }
-    ensures { result ≡ spec.metric_for table.now prefix.now }
+pub(crate) fn metric_for(table: &mut Finder<'_, Route>, prefix: &Prefix) -> Option<u32>
+    requires { IsTable table.old }
+    ensures value { result ≡ spec.metric_for table.old prefix.now }
+    ensures same { table.new ≡ table.old }
 {
     let found = table.at(prefix);
     match found {
@@ -74,9 +75,10 @@ pub(crate) fn metric_for(table: &Listed<'_, Route>, prefix: &Prefix) -> Option<u
 }
 
 /// The path that a line `network` originates, if any.
-fn by_network(router: RouterId, table: &Listed<'_, Route>, prefix: &Prefix) -> Option<BgpPath>
-    requires { IsTable table.now }
-    ensures { result ≡ spec.by_network router table.now prefix.now }
+fn by_network(router: RouterId, table: &mut Finder<'_, Route>, prefix: &Prefix) -> Option<BgpPath>
+    requires { IsTable table.old }
+    ensures value { result ≡ spec.by_network router table.old prefix.now }
+    ensures same { table.new ≡ table.old }
 {
     let metric = metric_for(table, prefix);
     match metric {
@@ -125,8 +127,9 @@ fn paths_for(
     ensures { IfOk result (λ paths. paths ≡ spec.paths_for router table.now prefixes.now) }
 {
     let mut paths = Items::new(alloc);
+    let mut finder = Finder::of(table);
     for prefix in prefixes {
-        let path = by_network(router, table, prefix);
+        let path = by_network(router, &mut finder, prefix);
         match path {
             Some(path) => paths.push(path)?,
             None => {}

@@ -1,7 +1,7 @@
 //! What is best now at some prefixes, where that is another path than the one that is known.
 ghost use Rattle.std.specs.List.Sorted.{IsStrictlySortedBy};
 ghost use Rattle.std.specs.Option.{option_copied};
-ghost use Rattle.std.specs.Prelude.{◌≡◌, ◌↔◌, All, IfOk, IsTrue};
+ghost use Rattle.std.specs.Prelude.{◌≡◌, All, IfOk, IsTrue};
 ghost use Rattle.rc_base.specs.Prefix.{prefix_cmp};
 ghost use Rattle.rc_route.specs.Tables.{IsBestList, IsPathList, IsRouterState};
 ghost use Rattle.rc_route.specs.declared.best.Best.{Best as BestModel};
@@ -11,20 +11,13 @@ ghost use Rattle.rc_bgp.specs.Updating.{AreDecided};
 use crate::Session;
 use crate::deciding::{best_among, sharing};
 use crate::resolver::Resolver;
+use crate::senders::senders_of;
 use rc_base::{Items, Prefix};
 use rc_config::{MaximumPaths, Network};
-use rc_pieces::{Edit, Edits, Knowledge, Listed};
+use rc_pieces::{Alike, Edit, Edits, Finder, Knowledge, Listed};
 use rc_route::{Best, BgpPath};
 use std::alloc::{AllocError, Global};
 use std::collections::VecDeque;
-
-/// Whether two best paths are the same, with what goes with them.
-#[tactic(auto, using(rc_route::proofs::EqualLaws::best_decides))]
-pub(crate) fn is_same(best: &Best, other: &Best) -> bool
-    ensures { IsTrue result ↔ (best.now ≡ other.now) }
-{
-    *best == *other
-}
 
 /// Whether what is best is what is known.
 fn is_known(known: Option<&Best>, best: &Option<Best>) -> bool
@@ -34,7 +27,7 @@ fn is_known(known: Option<&Best>, best: &Option<Best>) -> bool
         None => best.is_none(),
         Some(known) => match best {
             None => false,
-            Some(best) => is_same(known, best),
+            Some(best) => known.is_same(best),
         },
     }
 }
@@ -86,9 +79,21 @@ pub(crate) fn decided(
 {
     let mut changed = Items::new(alloc);
     let mut edits = VecDeque::new(alloc);
+    let mut finder = Finder::of(known);
+    let mut senders = senders_of(alloc, state, sessions)?;
     for prefix in prefixes {
-        let best = best_among(alloc, net, state, most, resolver, own, sessions, prefix)?;
-        if is_known(known.at(prefix), &best) {
+        let best = best_among(
+            alloc,
+            net,
+            state,
+            most,
+            resolver,
+            own,
+            sessions,
+            &mut senders,
+            prefix,
+        )?;
+        if is_known(finder.at(prefix), &best) {
             continue;
         }
         let value = sharing_last(&edits, best)?;

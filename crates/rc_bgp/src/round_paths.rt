@@ -18,7 +18,7 @@ use crate::deciding::{add_best_prefixes, best_paths};
 use crate::maximum::maximum_of;
 use crate::news::changed_at_senders;
 use crate::originating::listed;
-use crate::redeciding::{decided, is_same};
+use crate::redeciding::decided;
 use crate::resolver::Resolver;
 use crate::router_state::{paths_of, table_of};
 use crate::same_inputs::reads_alike;
@@ -27,7 +27,7 @@ use crate::up::{sessions_of, up_sessions};
 use crate::{Changes, ConfiguredSessions, Inside, Renewed, Session};
 use rc_base::{Items, Prefix, RouterId};
 use rc_config::Network;
-use rc_pieces::{Knowledge, Listed, Pieces, edited};
+use rc_pieces::{Alike, Finder, Knowledge, Listed, Pieces, edited};
 use rc_route::Best;
 use std::alloc::{AllocError, Global};
 use std::collections::BTreeSet;
@@ -37,10 +37,12 @@ use std::collections::BTreeSet;
 const MANY: usize = 8;
 
 /// Whether two lists of paths say otherwise at a prefix.
-fn differ_at(old: &Listed<'_, Best>, new: &Listed<'_, Best>, prefix: &Prefix) -> bool
-    requires old { IsBestList old.now }
-    requires new { IsBestList new.now }
-    ensures { result ≡ false → best_for old.now prefix.now ≡ best_for new.now prefix.now }
+fn differ_at(old: &mut Finder<'_, Best>, new: &mut Finder<'_, Best>, prefix: &Prefix) -> bool
+    requires old { IsBestList old.old }
+    requires new { IsBestList new.old }
+    ensures value { result ≡ false → best_for old.old prefix.now ≡ best_for new.old prefix.now }
+    ensures same_old { old.new ≡ old.old }
+    ensures same_new { new.new ≡ new.old }
 {
     let before = old.at(prefix);
     let after = new.at(prefix);
@@ -48,7 +50,7 @@ fn differ_at(old: &Listed<'_, Best>, new: &Listed<'_, Best>, prefix: &Prefix) ->
         None => after.is_some(),
         Some(before) => match after {
             None => true,
-            Some(after) => !is_same(before, after),
+            Some(after) => !before.is_same(after),
         },
     }
 }
@@ -66,8 +68,10 @@ fn differing(
     ensures { IfOk result (λ changed. AreTaken (λ (b : BestModel). b.path.prefix) (best_for new.now) old.now prefixes.now changed) }
 {
     let mut changed = Items::new(alloc);
+    let mut before = Finder::of(old);
+    let mut after = Finder::of(new);
     for prefix in prefixes {
-        if !differ_at(old, new, prefix) {
+        if !differ_at(&mut before, &mut after, prefix) {
             continue;
         }
         changed.push(*prefix)?;

@@ -21,7 +21,7 @@ use crate::{ConfiguredSessions, Inside, Session};
 use rc_base::{Addr, Items, Prefix, RouterId};
 use rc_bgp_session::is_originated;
 use rc_config::{BgpProcess, Network, RouterText};
-use rc_pieces::{Knowledge, Listed};
+use rc_pieces::{Finder, Knowledge, Listed};
 use rc_route::{Best, BgpPath, Route};
 use std::alloc::{AllocError, Global};
 
@@ -45,8 +45,11 @@ fn say_alike(before: &Listed<'_, Route>, now: &Listed<'_, Route>, networks: &[Pr
     requires now { IsTable now.now }
     ensures { IsTrue result → SayAlike before.now now.now networks.now }
 {
+    let mut earlier = Finder::of(before);
+    let mut later = Finder::of(now);
     for prefix in networks {
-        if !is_same_metric(metric_for(before, prefix), metric_for(now, prefix)) {
+        let metric = metric_for(&mut earlier, prefix);
+        if !is_same_metric(metric, metric_for(&mut later, prefix)) {
             return false;
         }
     }

@@ -1,4 +1,5 @@
 pub mod Pieces
+pub mod Finding
 pub mod Editing
 pub mod Knowing
 pub mod PieceRows

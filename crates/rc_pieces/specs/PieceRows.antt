@@ -4,6 +4,7 @@ use Rattle.rc_base.specs.Prefix.{Cidr}
 use Rattle.rc_route.specs.Tables.{listed_at}
 use Rattle.rc_trie.specs.Tree.{longest_by}
 use Rattle.rc_pieces.specs.Editing.{edited, goes_before, said}
+use Rattle.rc_pieces.specs.Finding.{is_begun, stands_before, stands_behind}
 use Rattle.rc_pieces.specs.Pieces.{joined, piece_before}
 use Rattle.rc_pieces.specs.declared.edit.Edit.{Edit}
 
@@ -58,6 +59,35 @@ before_the_second_place = refl
 
 pub before_the_end : piece_before 2 pieces ≡ second
 before_the_end = refl
+
+-- ---- where a prefix is looked for
+
+pub a_piece_begins_at_it : is_begun prefix_of (subnet 3) (Some second) ≡ true
+a_piece_begins_at_it = refl
+
+pub a_piece_begins_behind_it : is_begun prefix_of (subnet 2) (Some second) ≡ false
+a_piece_begins_behind_it = refl
+
+pub no_piece_begins : is_begun prefix_of (subnet 4) None ≡ false
+no_piece_begins = refl
+
+pub an_element_before_it : stands_before prefix_of (subnet 2) (Some (subnet 1, 1)) ≡ true
+an_element_before_it = refl
+
+pub an_element_of_it : stands_before prefix_of (subnet 1) (Some (subnet 1, 1)) ≡ false
+an_element_of_it = refl
+
+pub no_element_before_it : stands_before prefix_of (subnet 1) None ≡ false
+no_element_before_it = refl
+
+pub an_element_behind_it : stands_behind prefix_of (subnet 2) (Some (subnet 3, 3)) ≡ true
+an_element_behind_it = refl
+
+pub none_of_it : stands_behind prefix_of (subnet 3) (Some (subnet 3, 3)) ≡ false
+none_of_it = refl
+
+pub no_element_at_all : stands_behind prefix_of (subnet 3) None ≡ true
+no_element_at_all = refl
 
 -- ---- by address
 

@@ -46,7 +46,7 @@ pub(crate) fn place_for<T: HasPrefix>(pieces: &[Piece<T>], prefix: &Prefix) -> u
 }
 
 /// The elements of the piece before a place.
-fn before<T: HasPrefix>(pieces: &[Piece<T>], place: usize) -> &[T]
+pub(crate) fn before<T: HasPrefix>(pieces: &[Piece<T>], place: usize) -> &[T]
     ensures { result.now ≡ piece_before place pieces.now }
 {
     if place == 0 {
@@ -99,16 +99,6 @@ impl<'a, T: HasPrefix> Listed<'a, T> {
         ensures in_order { IsListed T.prefix_of self.now → AreEachInOrder T.prefix_of result.now }
     {
         self.pieces
-    }
-
-    /// The same once more.
-    pub fn once_more(&self) -> Listed<'a, T>
-        ensures { result ≡ self.now }
-    {
-        Listed {
-            pieces: self.pieces,
-            len: self.len,
-        }
     }
 
     /// What is there for just this prefix, by two bisections.

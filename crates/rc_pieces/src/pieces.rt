@@ -130,12 +130,13 @@ impl<T: Again> Pieces<T> {
         self.push_parts(alloc, each, items)
     }
 
-    /// A list in pieces. It errs only where memory runs out.
+    /// A list in one piece, which is cut only where something is edited in it: so what isn't edited is never copied. It errs only where
+    /// memory runs out.
     pub fn of(alloc: Global, items: Items<T>) -> Result<Pieces<T>, AllocError>
         ensures { IfOk result (λ made. made ≡ items) }
     {
         let mut made = Pieces::new(alloc);
-        made.push_all(alloc, items)?;
+        made.push_items(alloc, items)?;
         Ok(made)
     }
 
@@ -154,8 +155,9 @@ impl<T: Again> Pieces<T> {
     pub fn into_items(self, alloc: Global) -> Result<Items<T>, AllocError>
         ensures { IfOk result (λ items. items ≡ self) }
     {
-        let mut items = Items::with_room(alloc, self.len)?;
+        let len = self.len;
         let mut left = VecDeque::from(self.into_pieces().into_vec());
+        let mut items = first_items(alloc, len, &mut left)?;
         while let Some(piece) = left.pop_front() {
             append(alloc, &mut items, piece)?;
         }
@@ -180,6 +182,37 @@ fn append_moved<T: Again>(items: &mut Items<T>, moved: Items<T>) -> Result<(), A
         items.push(item)?;
     }
     Ok(())
+}
+
+/// The elements of a piece. Where nobody else holds it they are moved, and take no memory.
+fn whole<T: Again>(alloc: Global, piece: Piece<T>) -> Result<Items<T>, AllocError>
+    ensures { IfOk result (λ items. items ≡ piece) }
+{
+    match piece.into_items() {
+        Ok(items) => Ok(items),
+        Err(piece) => {
+            let mut items = Items::with_room(alloc, piece.as_slice().len())?;
+            append_again(alloc, &mut items, piece.as_slice())?;
+            Ok(items)
+        }
+    }
+}
+
+/// What a list of some pieces begins with: the elements of the first one, where it is the only one, and else nothing, with room for so many.
+fn first_items<T: Again>(
+    alloc: Global,
+    len: usize,
+    left: &mut VecDeque<Piece<T>>,
+) -> Result<Items<T>, AllocError>
+    ensures { IfOk result (λ items. items ++ joined left.new.items ≡ joined left.old.items) }
+{
+    if left.len() != 1 {
+        return Items::with_room(alloc, len);
+    }
+    match left.pop_front() {
+        None => Items::with_room(alloc, len),
+        Some(piece) => whole(alloc, piece),
+    }
 }
 
 /// Puts the elements of a piece at the end of a list.

@@ -21,7 +21,7 @@ use crate::next::{has_no_boundaries, is_free_of_tables, own_from, table_beside};
 use rc_base::{Prefix, RouterId};
 use rc_bgp::learned_route;
 use rc_config::RouterText;
-use rc_pieces::{Alike, Edit, Edits, Listed, Pieces, edited, known_at, same};
+use rc_pieces::{Alike, Edit, Edits, Finder, Listed, Pieces, edited, known_at, same};
 use rc_route::{Best, Route, Source, Table, listed_at};
 use std::alloc::{AllocError, Global};
 use std::collections::VecDeque;
@@ -29,11 +29,12 @@ use std::collections::VecDeque;
 /// The route that the best path of a prefix gives.
 fn learned_at(
     alloc: Global,
-    paths: &Listed<'_, Best>,
+    paths: &mut Finder<'_, Best>,
     prefix: &Prefix,
 ) -> Result<Option<Route>, AllocError>
-    requires { IsBestList paths.now }
-    ensures { IfOk result (λ route. route ≡ spec.learned_at paths.now prefix.now) }
+    requires { IsBestList paths.old }
+    ensures value { IfOk result (λ route. route ≡ spec.learned_at paths.old prefix.now) }
+    ensures same { paths.new ≡ paths.old }
 {
     let found = paths.at(prefix);
     match found {
@@ -174,9 +175,11 @@ fn edits_of(
 {
     let mut edits = VecDeque::new(alloc);
     let mut own = None;
+    let mut routes = Finder::of(known);
+    let mut best = Finder::of(paths);
     for prefix in changed {
-        let before = known.at(prefix);
-        let learned = learned_at(alloc, paths, prefix)?;
+        let before = routes.at(prefix);
+        let learned = learned_at(alloc, &mut best, prefix)?;
         let route = route_after(
             alloc, inputs, router, file, &mut own, before, learned, prefix,
         )?;

@@ -1,4 +1,5 @@
 use Rattle.std.proofs.Common.{◌∙◌, ap, sym, List}
+use Rattle.rc_route.specs.Tables.{best_for}
 use Rattle.rc_route.specs.declared.best.Best.{Best}
 use Rattle.rc_route.specs.declared.route.Route.{Route}
 use Rattle.rc_bgp.specs.Candidates.{best_among}
@@ -12,9 +13,11 @@ loop-prefix-preserved-then-is_known c =
     let is_best = c.in_ok-best.ensures.value ∙ ap (λ (table : List Route). best table q) c.loop-prefix.invariant.same in
     record {
       taken = stays_known (λ (b : Best). b.path.prefix) (best c.args.resolver.now) c.args.known.now c.args.prefixes.now c.loop-prefix.prefix-index q c.loop-prefix-test.true c.prefix-item.is c.loop-prefix.changed c.loop-prefix.invariant.taken
-          (sym c.at.ensures ∙ c.is_known.ensures c.if-is_known.true ∙ is_best);
+          (ap (λ xs. best_for xs q) (sym c.loop-prefix.invariant.finder) ∙ sym c.at.ensures.value ∙ c.is_known.ensures c.if-is_known.true ∙ is_best);
       edits = c.loop-prefix.invariant.edits;
       same = c.in_ok-best.ensures.same ∙ c.loop-prefix.invariant.same;
+      finder = c.at.ensures.same ∙ c.loop-prefix.invariant.finder;
+      senders = c.in_ok-best.ensures.same_senders ∙ c.loop-prefix.invariant.senders;
     }
 
 pub loop-prefix-preserved : goal.loop-prefix-preserved
@@ -28,4 +31,6 @@ loop-prefix-preserved c =
       edits = is_edited (λ (b : Best). b.path.prefix) (best c.args.resolver.now) c.args.known.now c.args.prefixes.now q c.in_ok-value.value c.loop-prefix.changed c.push.new.self c.loop-prefix.edits.items c.push_back.new.self.items
           (c.in_ok-value.ensures ∙ is_best) c.in_ok-push.ensures.ok c.in_ok-push_back.ensures.items c.loop-prefix.invariant.edits;
       same = c.in_ok-best.ensures.same ∙ c.loop-prefix.invariant.same;
+      finder = c.at.ensures.same ∙ c.loop-prefix.invariant.finder;
+      senders = c.in_ok-best.ensures.same_senders ∙ c.loop-prefix.invariant.senders;
     }

@@ -13,5 +13,7 @@ abbrev pub invariant-loop-prefix : goal.invariant-loop-prefix
 invariant-loop-prefix l = record {
   taken : AreTaken prefix_of (mended_at (own_routes l.router l.file (table_of l.inputs.previous.now l.router)) l.paths (routes_of l.inputs.internal.now l.router) l.known) l.known l.changed (map (λ (e : Edit Route). e.prefix) l.edits.items ++ drop l.prefix-index l.changed);
   values : l.edits.items ≡ map (edit_of (mended_at (own_routes l.router l.file (table_of l.inputs.previous.now l.router)) l.paths (routes_of l.inputs.internal.now l.router) l.known)) (map (λ (e : Edit Route). e.prefix) l.edits.items);
+  routes : l.routes ≡ l.known;
+  best : l.best ≡ l.paths;
   own : IfSome l.own (λ t. t ≡ own_routes l.router l.file (table_of l.inputs.previous.now l.router));
 }
