@@ -1,1 +1,1 @@
-mod RunLaws
+mod SegmentLaws

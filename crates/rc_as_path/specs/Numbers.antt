@@ -1,6 +1,7 @@
 -- The numbers of a path, the nearest first.
-use Rattle.std.specs.Prelude.{◌≡◌, ◌==◌, ℕ, zero, suc, ◌+◌, Bool, false, length, List, [], ◌∷◌, Option, Some, None}
-use Rattle.std.proofs.Common.{zero-add, suc-add, sym, ap, ◌∙◌}
+use Rattle.std.specs.Prelude.{◌≡◌, ℕ, suc, ◌+◌, ◌*◌, ◌≤◌, length, take, List, [], ◌++◌, Option, Some, None}
+use Rattle.std.proofs.Common.{arith}
+use Rattle.std.proofs.lemmas.Grind.{common_steps}
 use Rattle.std.specs.declared.sync.Arc.{Arc}
 use Rattle.std.specs.Arc.{arc_value}
 use Rattle.std.specs.declared.alloc.Global.{Global}
@@ -15,21 +16,13 @@ abbrev pub height : Option (Arc (List ℕ) Global) → ℕ
 height None = 0
 height (Some segment) = suc (length (arc_value segment))
 
--- a number so many times, in front of others
-abbrev pub again : ℕ → ℕ → List ℕ → List ℕ
-again zero a rest = rest
-again (suc n) a rest = a ∷ again n a rest
+-- a segment has room for 16 numbers and holds some, so many segments stand behind it, each of 16, and so many numbers as there are can be counted
+pub record IsSegment (room : List ℕ) (held behind : ℕ) (rest : List ℕ) : Type 0 where
+  pub wide : length room ≡ 16
+  pub some : 1 ≤ held
+  pub few : held ≤ 16
+  pub full : length rest ≡ 16 * behind
+  pub short : held + 16 * behind ≤ 4294967295
 
-pub length-again : (n a : ℕ) (rest : List ℕ) → length (again n a rest) ≡ n + length rest
-length-again zero a rest = sym (zero-add (length rest))
-length-again (suc n) a rest = ap suc (length-again n a rest) ∙ sym (suc-add n (length rest))
-
--- it is the first of some numbers
-abbrev pub starts_with : ℕ → List ℕ → Bool
-starts_with a [] = false
-starts_with a (b ∷ bs) = a == b
-
--- a number stands there once and so many times more, those behind it begin with another, and so many there are in all
-pub record IsRun (asn more : ℕ) (rest : List ℕ) (len : ℕ) : Type 0 where
-  pub apart : starts_with asn rest ≡ false
-  pub all : len ≡ suc (more + length rest)
+pub length-whole : (room : List ℕ) (held behind : ℕ) (rest : List ℕ) → IsSegment room held behind rest → length (take held room ++ rest) ≡ held + length rest
+length-whole room held behind rest h = Prim.grind (arith, common_steps, h.wide, h.few)

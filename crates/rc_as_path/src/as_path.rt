@@ -52,13 +52,10 @@ impl AsPath {
     pub fn first(&self) -> Option<u32>
         ensures { result ≡ slice_get self.now 0 }
     {
-        match &self.front {
-            None => None,
-            Some(segment) => Some(segment.asn),
-        }
+        segment::first(&self.front)
     }
 
-    /// Whether an AS is on it: RFC 4271 s.9.1.2 has a router refuse a path that holds its own AS. By one look at each number.
+    /// Whether an AS is on it: RFC 4271 s.9.1.2 has a router refuse a path that holds its own AS. The numbers are read in their order, 16 beside each other.
     pub fn holds(&self, asn: u32) -> bool
         ensures { result ≡ list_any (λ a. a == asn) self.now }
     {

@@ -1,47 +1,51 @@
-//! The numbers of a path, one behind the other.
-ghost use Rattle.std.specs.Prelude.{◌≡◌, ◌≤◌, ◌==◌, ◌&&◌, ◌∷◌, IfOk, false, length, nat_eq};
+//! The numbers of a path, several beside each other and the rest behind them.
+ghost use Rattle.std.specs.Prelude.{◌≡◌, ◌≤◌, ◌*◌, ◌==◌, ◌∷◌, ◌++◌, IfOk, length, nat_eq, slice_get, suc, take};
 ghost use Rattle.std.specs.Arc.{arc_value};
 ghost use Rattle.std.specs.List.{list_any};
 ghost use Rattle.std.specs.Cmp.Lexicographic.{pointwise};
-ghost use Rattle.rc_as_path.specs.Numbers.{again, height, numbers, starts_with};
+ghost use Rattle.rc_as_path.specs.Numbers.{height, numbers};
 
 use std::alloc::{AllocError, Global};
 use std::marker::Model;
 use std::sync::Arc;
 
+/// How many numbers stand beside each other at most.
+const ROOM: u32 = 16;
+
 /// The numbers from some place of a path on. Paths that end alike share it.
 pub(crate) type Tail = Option<Arc<Segment, Global>>;
 
-/// A run of one number of a path, as AS prepending makes it, and what stands behind it. It is seen as the list of all its numbers.
+/// Up to 16 numbers of a path, which are read without a look elsewhere, and what stands behind them. It is seen as the list of all its
+/// numbers.
+///
+/// Only the first segment of a path may have fewer, so two paths of as many numbers are cut at the same places.
 pub(crate) struct Segment {
-    pub(crate) asn: u32,
-    /// How many times more the number stands there.
-    more: u32,
-    /// How many numbers there are from the run on.
-    len: u32,
-    /// It begins with another number.
+    /// The nearest first.
+    own: [u32; 16],
+    /// How many of these are numbers of the path.
+    held: u32,
+    /// How many segments stand behind it.
+    behind: u32,
     rest: Tail,
 }
 
 impl Model for Segment {
-    ghost use Rattle.std.specs.Prelude.{ℕ, List, ◌∷◌, length};
+    ghost use Rattle.std.specs.Prelude.{ℕ, List, ◌++◌, length, take};
+    ghost use Rattle.std.proofs.Common.{arith};
+    ghost use Rattle.rc_as_path.specs.Numbers.{IsSegment, length-whole, numbers};
 
     ghost Value = { List ℕ };
 
-    ghost use Rattle.rc_as_path.specs.Numbers.{again, length-again, numbers, IsRun};
+    ghost view = { λ s. take s.held s.own ++ numbers s.rest };
 
-    ghost view = { λ s. s.asn ∷ again s.more s.asn (numbers s.rest) };
-
-    ghost invariant = { λ s. IsRun s.asn s.more (numbers s.rest) s.len };
+    ghost invariant = { λ s. IsSegment s.own s.held s.behind (numbers s.rest) };
 
     ghost size = { length };
 
-    ghost use Rattle.std.proofs.Common.{arith};
-
-    ghost size_decreases = { λ a h. Prim.grind (arith, length-again) };
+    ghost size_decreases = { λ a h. Prim.grind (arith, length-whole a.own a.held a.behind (numbers a.rest) h, h.some) };
 }
 
-/// By a loop: a path may be long, and a drop that calls itself for each number would need a stack as long.
+/// By a loop: a path may be long, and a drop that calls itself for each segment would need a stack as long.
 impl Drop for Segment {
     fn drop(self) {
         let mut left = self.into_rest();
@@ -51,12 +55,12 @@ impl Drop for Segment {
     }
 }
 
-/// A run of one number, and what stands behind it.
+/// The numbers of a segment, and what stands behind them.
 #[derive(Clone, Copy)]
-struct Run<'a> {
-    asn: u32,
-    /// How many times more the number stands there.
-    more: u32,
+struct Parts<'a> {
+    own: &'a [u32],
+    /// How many segments stand behind them.
+    behind: u32,
     rest: &'a Tail,
 }
 
@@ -65,37 +69,39 @@ impl Segment {
     fn len(&self) -> u32
         ensures { result ≡ length self.now }
     {
-        self.len
+        self.held + self.behind * ROOM
     }
 
-    /// The run in front, and what stands behind it.
-    fn run(&self) -> Run<'_>
-        ensures whole { self.now ≡ result.asn ∷ again result.more result.asn (numbers result.rest.now) }
-        ensures apart { starts_with result.asn (numbers result.rest.now) ≡ false }
+    /// Its numbers, and what stands behind them.
+    fn parts(&self) -> Parts<'_>
+        ensures whole { self.now ≡ result.own.now ++ numbers result.rest.now }
+        ensures some { 1 ≤ length result.own.now }
+        ensures few { length result.own.now ≤ 16 }
+        ensures full { length (numbers result.rest.now) ≡ 16 * result.behind }
         ensures falls { height result.rest.now ≤ length self.now }
     {
-        Run {
-            asn: self.asn,
-            more: self.more,
+        Parts {
+            own: &self.own[..self.held as usize],
+            behind: self.behind,
             rest: &self.rest,
         }
     }
 
-    /// What stands behind its first run.
+    /// What stands behind its numbers.
     fn into_rest(self) -> Tail
         ensures { height result ≤ length self }
     {
         let Segment {
-            asn: _,
-            more: _,
-            len: _,
+            own: _,
+            held: _,
+            behind: _,
             rest,
         } = self;
         rest
     }
 }
 
-/// What stands behind the first run, where nobody else holds it; else nothing.
+/// What stands behind the numbers of a segment, where nobody else holds it; else nothing.
 fn rest_of(segment: Arc<Segment, Global>) -> Tail
     ensures { height result ≤ length (arc_value segment) }
 {
@@ -105,45 +111,48 @@ fn rest_of(segment: Arc<Segment, Global>) -> Tail
     }
 }
 
-/// A run in front of a tail that begins with another number.
-fn run_before(asn: u32, more: u32, rest: &Tail) -> Result<Segment, AllocError>
-    requires { starts_with asn (numbers rest.now) ≡ false }
-    ensures { IfOk result (λ made. made ≡ asn ∷ again more asn (numbers rest.now)) }
+/// A number with others behind it, of which there is room for one more.
+fn beside(asn: u32, others: &[u32]) -> [u32; 16]
+    requires { suc (length others.now) ≤ 16 }
+    ensures { take (suc (length others.now)) result ≡ asn ∷ others.now }
 {
-    let count = len(rest).checked_add(more).ok_or(AllocError)?;
-    let len = count.checked_add(1).ok_or(AllocError)?;
+    let mut numbers = [0; 16];
+    numbers[0] = asn;
+    numbers[1..=others.len()].copy_from_slice(others);
+    numbers
+}
+
+/// Some numbers, in front of which one more is put, and so many segments behind them.
+fn longer(asn: u32, others: &[u32], behind: u32, rest: &Tail) -> Result<Segment, AllocError>
+    requires room { suc (length others.now) ≤ 16 }
+    requires full { length (numbers rest.now) ≡ 16 * behind }
+    ensures { IfOk result (λ made. made ≡ asn ∷ others.now ++ numbers rest.now) }
+{
+    let below = behind.checked_mul(ROOM).ok_or(AllocError)?;
+    let held = others.len() as u32 + 1;
+    let _ = below.checked_add(held).ok_or(AllocError)?;
     let rest = share(rest)?;
     Ok(Segment {
-        asn,
-        more,
-        len,
+        own: beside(asn, others),
+        held,
+        behind,
         rest,
     })
 }
 
-/// A run with its number once more.
-#[tactic(auto, using(crate::proofs::RunLaws::once_more))]
-fn longer(run: &Run<'_>) -> Result<Segment, AllocError>
-    requires { starts_with run.now.asn (numbers run.now.rest.now) ≡ false }
-    ensures { IfOk result (λ made. made ≡ run.now.asn ∷ run.now.asn ∷ again run.now.more run.now.asn (numbers run.now.rest.now)) }
-{
-    let more = run.more.checked_add(1).ok_or(AllocError)?;
-    let segment = run_before(run.asn, more, run.rest)?;
-    Ok(segment)
-}
-
-/// A number in front of a tail: its first run made longer where that is of the same number, else a run of its own.
+/// A number in front of a tail: beside the numbers of its first segment where there is room, else in one of its own.
 fn in_front(asn: u32, tail: &Tail) -> Result<Segment, AllocError>
     ensures { IfOk result (λ made. made ≡ asn ∷ numbers tail.now) }
 {
     match tail {
-        None => run_before(asn, 0, tail),
+        None => longer(asn, &[], 0, tail),
         Some(segment) => {
-            let run = segment.run();
-            if run.asn == asn {
-                longer(&run)
+            let parts = segment.parts();
+            if parts.own.len() < ROOM as usize {
+                longer(asn, parts.own, parts.behind, parts.rest)
             } else {
-                run_before(asn, 0, tail)
+                let behind = parts.behind.checked_add(1).ok_or(AllocError)?;
+                longer(asn, &[], behind, tail)
             }
         }
     }
@@ -181,42 +190,58 @@ pub(crate) fn len(tail: &Tail) -> u32
     }
 }
 
+/// The nearest number, or `None` exactly where there is none.
+pub(crate) fn first(tail: &Tail) -> Option<u32>
+    ensures { result ≡ slice_get (numbers tail.now) 0 }
+{
+    match tail {
+        None => None,
+        Some(segment) => Some(segment.parts().own[0]),
+    }
+}
+
+/// Whether a number is one of some.
+fn is_among(asn: u32, numbers: &[u32]) -> bool
+    ensures { result ≡ list_any (λ a. a == asn) numbers.now }
+{
+    numbers.iter().any(|a| *a == asn)
+}
+
 /// Whether a number is one of them.
-#[tactic(auto, using(crate::proofs::RunLaws::held_here))]
 pub(crate) fn holds(tail: &Tail, asn: u32) -> bool
     ensures { result ≡ list_any (λ a. a == asn) (numbers tail.now) }
 {
     let mut left = tail;
     while let Some(segment) = left {
-        let run = segment.run();
-        if run.asn == asn {
+        let parts = segment.parts();
+        if is_among(asn, parts.own) {
             return true;
         }
-        left = run.rest;
+        left = parts.rest;
     }
     false
 }
 
-/// Whether two runs are of one number and as long.
-fn is_same_run(one: &Run<'_>, other: &Run<'_>) -> bool
-    ensures { result ≡ (one.now.asn == other.now.asn) && (one.now.more == other.now.more) }
+/// Whether some numbers are the same.
+fn are_same(own: &[u32], other: &[u32]) -> bool
+    ensures { result ≡ pointwise nat_eq own.now other.now }
 {
-    one.asn == other.asn && one.more == other.more
+    own == other
 }
 
-/// Whether two tails have the same numbers, by their runs.
-#[tactic(auto, using(crate::proofs::RunLaws::other_runs, crate::proofs::RunLaws::one_ends))]
-fn are_same_runs(one: &Tail, other: &Tail) -> bool
+/// Whether two tails of as many numbers have the same ones: both are cut at the same places.
+fn is_same_behind(one: &Tail, other: &Tail) -> bool
+    requires { length (numbers one.now) ≡ length (numbers other.now) }
     ensures { result ≡ pointwise nat_eq (numbers one.now) (numbers other.now) }
 {
     let mut left = one;
     let mut right = other;
     while let Some(x) = left {
-        let here = x.run();
+        let here = x.parts();
         match right {
             Some(y) => {
-                let there = y.run();
-                if !is_same_run(&here, &there) {
+                let there = y.parts();
+                if !are_same(here.own, there.own) {
                     return false;
                 }
                 left = here.rest;
@@ -225,16 +250,16 @@ fn are_same_runs(one: &Tail, other: &Tail) -> bool
             None => return false,
         }
     }
-    len(right) == 0
+    true
 }
 
 /// Whether two tails have the same numbers. Most that differ do in how many.
-#[tactic(auto, using(crate::proofs::RunLaws::lengths_differ))]
+#[tactic(auto, using(crate::proofs::SegmentLaws::lengths_differ))]
 pub(crate) fn is_same(one: &Tail, other: &Tail) -> bool
     ensures { result ≡ pointwise nat_eq (numbers one.now) (numbers other.now) }
 {
     if len(one) != len(other) {
         return false;
     }
-    are_same_runs(one, other)
+    is_same_behind(one, other)
 }
