@@ -1,28 +1,10 @@
 -- Whether two lists, and what routers know in them, are the same.
-use Rattle.std.proofs.Common.{refl, ◌≡◌, ◌⊎◌, ap, sym, ◌∙◌, ℕ, suc, ◌<◌, Bool, true, false, ◌&&◌, List, [], ◌∷◌, length, inl, inr, Some, arith}
-use Rattle.std.specs.Bool.{Decides}
+use Rattle.std.proofs.Common.{refl, ◌≡◌, ◌⊎◌, ap, ℕ, suc, ◌<◌, List, [], ◌∷◌, length, inl, inr, Some, arith}
 use Rattle.std.specs.List.{slice_get}
 use Rattle.rc_route.specs.declared.best.Best.{Best}
 use Rattle.rc_route.specs.declared.route.Route.{Route}
 use Rattle.rc_route.specs.declared.state.RouterState.{RouterState}
-use Rattle.rc_route.specs.contracts.route.RoutePartialEq.TheImpl as route_impl
-use Rattle.rc_route.proofs.EqualLaws.{table_decides}
 use Rattle.rc_pieces.specs.Knowing.{known_as}
-
--- a test that holds of one is that of a list of one
-of_one : (b : Bool) → b && true ≡ b
-of_one true = refl
-of_one false = refl
-
-head_is : {X : Type 0} (x y : X) → x ∷ [] ≡ y ∷ [] → x ≡ y
-head_is x y e = cc
-
--- the test of two routes decides whether they are equal
-pub route_decides : (x y : Route) → Decides (route_impl.eq-value.it x y) (x ≡ y)
-route_decides x y =
-    let lists = table_decides (x ∷ []) (y ∷ []) in
-    let one = of_one (route_impl.eq-value.it x y) in
-    ((λ passes. head_is x y (lists.0 (one ∙ passes))), (λ same. sym one ∙ lists.1 (ap (λ (z : Route). z ∷ []) same)))
 
 -- ---- what a router knows
 

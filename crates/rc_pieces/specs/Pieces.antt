@@ -1,7 +1,10 @@
 -- Lists in pieces.
-use Rattle.std.specs.Prelude.{◌≡◌, ◌≢◌, ◌≤◌, ℕ, zero, suc, All, List, [], ◌∷◌, Option, MatchOption, drop, length, map, slice_get, unwrap_or}
+use Rattle.std.specs.Prelude.{◌≡◌, ◌≢◌, ◌≤◌, ℕ, zero, suc, All, List, [], ◌∷◌, Option, Some, None, MatchOption, drop, length, map, slice_get, unwrap_or}
+use Rattle.std.specs.Arc.{arc_value}
 use Rattle.std.specs.List.{AllByRecursion, flat_map}
+use Rattle.std.specs.declared.alloc.Global.{Global}
 use Rattle.std.specs.declared.cmp.Ordering.TheVariants.{Less}
+use Rattle.std.specs.declared.sync.Arc.{Arc}
 use Rattle.rc_base.specs.Prefix.{Cidr, default_prefix, prefix_cmp}
 use Rattle.rc_route.specs.Tables.{IsListed, listed_at}
 
@@ -18,6 +21,11 @@ module _ {A : Type 0} where
   pub record ArePieces (pieces : List (List A)) (len : ℕ) : Type 0 where
     pub filled : AreFilled pieces
     pub long : len ≡ length (joined pieces)
+
+  -- the pieces that are kept
+  abbrev pub kept_pieces : Option (Arc (List (List A)) Global) → List (List A)
+  kept_pieces None = []
+  kept_pieces (Some pieces) = arc_value pieces
 
   -- the piece before a place; before the first one there is nothing
   abbrev pub piece_before : ℕ → List (List A) → List A

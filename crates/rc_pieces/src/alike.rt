@@ -18,7 +18,7 @@ pub trait Alike: HasPrefix {
 
 impl Alike for Route {
     #[inline]
-    #[tactic(auto, using(crate::proofs::SameLaws::route_decides))]
+    #[tactic(auto, using(rc_route::proofs::EqualLaws::route_decides))]
     fn is_same(&self, other: &Route) -> bool {
         *self == *other
     }

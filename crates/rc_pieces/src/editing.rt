@@ -8,6 +8,7 @@ ghost use Rattle.rc_pieces.specs.Pieces.{AreFilled, joined};
 
 use crate::again::{Again, append_again};
 use crate::edit::{Edit, Edits, goes_before, number_before};
+use crate::growing::Growing;
 use crate::listed::Listed;
 use crate::piece::Piece;
 use crate::pieces::Pieces;
@@ -116,7 +117,7 @@ fn behind_first<T: HasPrefix>(pieces: &[Piece<T>]) -> &[Piece<T>]
 /// Puts a piece at the end, with the edits before an end: the same piece, where there are none.
 fn put_piece<T: Again>(
     alloc: Global,
-    made: &mut Pieces<T>,
+    made: &mut Growing<T>,
     piece: &Piece<T>,
     edits: &mut Edits<T>,
     end: &Option<Prefix>,
@@ -136,7 +137,7 @@ fn put_piece<T: Again>(
 /// Puts what edits say at the end, where nothing else is left.
 fn put_values<T: Again>(
     alloc: Global,
-    made: &mut Pieces<T>,
+    made: &mut Growing<T>,
     edits: Edits<T>,
 ) -> Result<(), AllocError>
     ensures { OnOk result (made.new ≡ made.old ++ spec.edited T.prefix_of [] edits.items) }
@@ -161,7 +162,7 @@ pub fn edited<T: Again>(
     ensures list { IfOk result (λ made. made ≡ spec.edited T.prefix_of known.now edits.items) }
     ensures says { AreEdits T.prefix_of edits.items → IfOk result (λ made. SaysAsEdited T.prefix_of known.now edits.items made) }
 {
-    let mut made = Pieces::new(alloc);
+    let mut made = Growing::new(alloc);
     let mut edits = edits;
     let mut left = known.pieces();
     while let Some(piece) = left.first() {
@@ -170,5 +171,5 @@ pub fn edited<T: Again>(
         put_piece(alloc, &mut made, piece, &mut edits, &end)?;
     }
     put_values(alloc, &mut made, edits)?;
-    Ok(made)
+    made.finish(alloc)
 }

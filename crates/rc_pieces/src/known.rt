@@ -1,5 +1,5 @@
 //! What routers know, in pieces.
-ghost use Rattle.std.specs.Prelude.{◌≡◌, ◌↔◌, ◌++◌, IfOk, IsTrue, OnOk, slice_get};
+ghost use Rattle.std.specs.Prelude.{◌≡◌, ◌↔◌, IfOk, IsTrue, slice_get};
 ghost use Rattle.std.specs.Option.{option_copied};
 ghost use Rattle.rc_pieces.specs.Knowing.{nothing_known};
 
@@ -7,7 +7,7 @@ use crate::alike::same;
 use crate::listed::Listed;
 use crate::pieces::Pieces;
 use rc_base::{Items, RouterId};
-use rc_route::{Best, Route, RouterState};
+use rc_route::{Best, BestParts, Route, RouterState};
 use std::alloc::{AllocError, Global};
 use std::collections::VecDeque;
 use std::marker::Model;
@@ -39,12 +39,12 @@ pub type Knowledge = Items<Known>;
 
 impl Known {
     /// What a router knows that knows nothing.
-    pub fn nothing(alloc: Global) -> Known
+    pub fn nothing() -> Known
         ensures { result ≡ nothing_known }
     {
         Known {
-            table: Pieces::new(alloc),
-            paths: Pieces::new(alloc),
+            table: Pieces::new(),
+            paths: Pieces::new(),
         }
     }
 
@@ -70,12 +70,12 @@ impl Known {
         self.paths.listed()
     }
 
-    /// The same again, which shares all pieces.
-    pub fn share(&self, alloc: Global) -> Result<Known, AllocError>
+    /// The same again, which shares all pieces at once. It takes no memory, and errs only where as many hold them as can be counted.
+    pub fn share(&self) -> Result<Known, AllocError>
         ensures { IfOk result (λ shared. shared ≡ self.now) }
     {
-        let table = self.table.share(alloc)?;
-        let paths = self.paths.share(alloc)?;
+        let table = self.table.share()?;
+        let paths = self.paths.share()?;
         Ok(Known { table, paths })
     }
 
@@ -87,15 +87,28 @@ impl Known {
         same(&self.table, &other.table) && same(&self.paths, &other.paths)
     }
 
-    /// The same in two lists. What nobody else holds is moved, and takes no memory.
+    /// The same with its table in one list and its paths in parts. Of the table what nobody else holds is moved, and takes no memory; no path
+    /// is copied or moved.
     pub fn into_state(self, alloc: Global) -> Result<RouterState, AllocError>
         ensures { IfOk result (λ state. state ≡ self) }
     {
         let Known { table, paths } = self;
+        let paths = in_parts(alloc, paths)?;
         let table = table.into_items(alloc)?;
-        let paths = paths.into_items(alloc)?;
         Ok(RouterState { table, paths })
     }
+}
+
+/// Best paths in parts, for which none is copied or moved.
+fn in_parts(alloc: Global, paths: Pieces<Best>) -> Result<BestParts, AllocError>
+    ensures { IfOk result (λ parts. parts ≡ paths) }
+{
+    let mut parts = BestParts::new(alloc);
+    let mut left = VecDeque::from(paths.into_pieces(alloc)?.into_vec());
+    while let Some(piece) = left.pop_front() {
+        parts.push(piece.into_shared())?;
+    }
+    Ok(parts)
 }
 
 /// What a router knows in a state, or `None` exactly past its end.
@@ -105,7 +118,7 @@ pub fn known_at(state: &Knowledge, router: RouterId) -> Option<&Known>
     state.as_slice().get(router.index())
 }
 
-/// A state in lists. What nobody else holds is moved, and takes no memory.
+/// A state, each router's table in one list and its paths in parts. What nobody else holds is moved, and takes no memory.
 pub fn into_state(alloc: Global, state: Knowledge) -> Result<rc_route::State, AllocError>
     ensures { IfOk result (λ made. made ≡ state) }
 {

@@ -11,6 +11,7 @@ mod edit;
 mod editing;
 mod equality;
 mod finder;
+mod growing;
 mod known;
 mod listed;
 mod longest;

@@ -66,6 +66,14 @@ impl<T: HasPrefix> Piece<T> {
         }
     }
 
+    /// Its elements, as lists share them. It takes no memory.
+    pub(crate) fn into_shared(self) -> Arc<Items<T>, Global>
+        ensures { arc_value result ≡ self }
+    {
+        let Piece { first: _, items } = self;
+        items
+    }
+
     /// The same again, which both share. It takes no memory, and errs only where as many hold it as can be counted.
     pub(crate) fn share(&self) -> Result<Piece<T>, AllocError>
         ensures { IfOk result (λ shared. shared ≡ self.now) }
@@ -78,8 +86,22 @@ impl<T: HasPrefix> Piece<T> {
     }
 }
 
+/// Pieces again, each of which both share. It errs only where memory runs out, or as many hold one as can be counted.
+pub(crate) fn share_all<T: HasPrefix + Drop>(
+    alloc: Global,
+    pieces: &[Piece<T>],
+) -> Result<Items<Piece<T>>, AllocError>
+    ensures { IfOk result (λ shared. shared ≡ pieces.now) }
+{
+    let mut shared = Items::with_room(alloc, pieces.len())?;
+    for piece in pieces {
+        shared.push(piece.share()?)?;
+    }
+    Ok(shared)
+}
+
 /// The elements of what lists share, where nobody else holds them; else what they share.
-fn unshared<T>(items: Arc<Items<T>, Global>) -> Result<Items<T>, Arc<Items<T>, Global>>
+pub(crate) fn unshared<T>(items: Arc<Items<T>, Global>) -> Result<Items<T>, Arc<Items<T>, Global>>
     ensures ok { IfOk result (λ moved. moved ≡ arc_value items) }
     ensures err { IfErr result (λ again. again ≡ items) }
 {

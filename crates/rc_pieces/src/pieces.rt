@@ -1,22 +1,25 @@
 //! A list in pieces.
 ghost use Rattle.std.specs.Prelude.{◌≡◌, ◌↔◌, ◌++◌, [], IfOk, IsTrue, OnOk, length};
-ghost use Rattle.rc_pieces.specs.Pieces.{joined};
+ghost use Rattle.std.specs.Arc.{arc_value};
+ghost use Rattle.rc_pieces.specs.Pieces.{ArePieces, joined, kept_pieces};
 
 use crate::again::{Again, append_again};
+use crate::growing::Growing;
 use crate::listed::Listed;
-use crate::piece::Piece;
+use crate::piece::{Piece, share_all, unshared};
 use rc_base::Items;
 use rc_route::HasPrefix;
 use std::alloc::{AllocError, Global};
 use std::collections::VecDeque;
 use std::marker::Model;
+use std::sync::Arc;
 
-/// How many elements a piece has at most: so many are copied where one of them changes.
-const MOST: usize = 64;
+/// The pieces, where there are some.
+type Kept<T> = Option<Arc<Items<Piece<T>>, Global>>;
 
-/// A list, seen as that list, in pieces that such lists share.
+/// A list, seen as that list, in pieces. Lists share pieces, and a list and its copies all of them at once.
 pub struct Pieces<T: HasPrefix> {
-    pieces: Items<Piece<T>>,
+    kept: Kept<T>,
     /// How many elements they have in all.
     len: usize,
 }
@@ -24,30 +27,50 @@ pub struct Pieces<T: HasPrefix> {
 /// By a function of its own, so that what holds such lists drops each by one call.
 impl<T: HasPrefix + Drop> Drop for Pieces<T> {
     fn drop(self) {
-        let Pieces { pieces: _, len: _ } = self;
+        let Pieces { kept: _, len: _ } = self;
     }
 }
 
 impl<T: HasPrefix> Model for Pieces<T> {
     ghost use Rattle.std.specs.Prelude.{List};
-    ghost use Rattle.rc_pieces.specs.Pieces.{ArePieces, joined};
+    ghost use Rattle.rc_pieces.specs.Pieces.{ArePieces, joined, kept_pieces};
 
     ghost Value = { List T };
 
-    ghost view = { λ p. joined p.pieces };
+    ghost view = { λ p. joined (kept_pieces p.kept) };
 
-    ghost invariant = { λ p. ArePieces p.pieces p.len };
+    ghost invariant = { λ p. ArePieces (kept_pieces p.kept) p.len };
+}
+
+/// The pieces that are kept, in order.
+fn pieces_of<T: HasPrefix>(kept: &Kept<T>) -> &[Piece<T>]
+    ensures { result.now ≡ kept_pieces kept.now }
+{
+    match kept {
+        None => &[],
+        Some(pieces) => pieces.as_slice(),
+    }
+}
+
+/// What is kept again, which both share.
+fn share<T: HasPrefix>(kept: &Kept<T>) -> Result<Kept<T>, AllocError>
+    ensures { IfOk result (λ shared. kept_pieces shared ≡ kept_pieces kept.now) }
+{
+    match kept {
+        None => Ok(None),
+        Some(pieces) => {
+            let shared = Arc::try_clone(pieces)?;
+            Ok(Some(shared))
+        }
+    }
 }
 
 impl<T: HasPrefix> Pieces<T> {
     /// The empty list. It takes no memory.
-    pub fn new(alloc: Global) -> Pieces<T>
+    pub fn new() -> Pieces<T>
         ensures { result ≡ [] }
     {
-        Pieces {
-            pieces: Items::new(alloc),
-            len: 0,
-        }
+        Pieces { kept: None, len: 0 }
     }
 
     /// How many elements it has, at once.
@@ -68,66 +91,28 @@ impl<T: HasPrefix> Pieces<T> {
     pub fn listed(&self) -> Listed<'_, T>
         ensures { result ≡ self.now }
     {
-        Listed::of(self.pieces.as_slice(), self.len)
+        Listed::of(pieces_of(&self.kept), self.len)
     }
 }
 
 impl<T: Again> Pieces<T> {
-    /// Puts a piece at the end. It errs only where memory runs out, or behind as many elements as can be counted.
-    fn push(&mut self, piece: Piece<T>) -> Result<(), AllocError>
-        ensures { OnOk result (self.new ≡ self.old ++ piece) }
+    /// The list of some pieces, with so many elements in all. It takes no memory where there are none.
+    pub(crate) fn of_pieces(
+        alloc: Global,
+        pieces: Items<Piece<T>>,
+        len: usize,
+    ) -> Result<Pieces<T>, AllocError>
+        requires { ArePieces pieces len }
+        ensures { IfOk result (λ made. made ≡ joined pieces) }
     {
-        let more = piece.as_slice().len();
-        let len = self.len.checked_add(more).ok_or(AllocError)?;
-        self.pieces.push(piece)?;
-        self.len = len;
-        Ok(())
-    }
-
-    /// Puts a piece of another list at the end, which both share.
-    pub(crate) fn push_shared(&mut self, piece: &Piece<T>) -> Result<(), AllocError>
-        ensures { OnOk result (self.new ≡ self.old ++ piece.now) }
-    {
-        self.push(piece.share()?)
-    }
-
-    /// Puts elements at the end as one piece, if there are some.
-    fn push_items(&mut self, alloc: Global, items: Items<T>) -> Result<(), AllocError>
-        ensures { OnOk result (self.new ≡ self.old ++ items) }
-    {
-        let piece = Piece::of(alloc, items)?;
-        match piece {
-            None => Ok(()),
-            Some(piece) => self.push(piece),
+        if pieces.is_empty() {
+            return Ok(Pieces::new());
         }
-    }
-
-    /// Puts elements at the end, in pieces of up to so many.
-    fn push_parts(&mut self, alloc: Global, each: usize, items: Items<T>) -> Result<(), AllocError>
-        ensures { OnOk result (self.new ≡ self.old ++ items) }
-    {
-        let mut part = Items::with_room(alloc, each)?;
-        let mut left = VecDeque::from(items.into_vec());
-        while let Some(item) = left.pop_front() {
-            part.push(item)?;
-            if part.len() >= each {
-                self.push_items(alloc, part)?;
-                part = Items::with_room(alloc, each)?;
-            }
-        }
-        self.push_items(alloc, part)
-    }
-
-    /// Puts elements at the end, in as few pieces as may be, of about the same length.
-    pub(crate) fn push_all(&mut self, alloc: Global, items: Items<T>) -> Result<(), AllocError>
-        ensures { OnOk result (self.new ≡ self.old ++ items) }
-    {
-        let parts = items.len().div_ceil(MOST);
-        if parts <= 1 {
-            return self.push_items(alloc, items);
-        }
-        let each = items.len().div_ceil(parts);
-        self.push_parts(alloc, each, items)
+        let kept = Arc::new(alloc, pieces)?;
+        Ok(Pieces {
+            kept: Some(kept),
+            len,
+        })
     }
 
     /// A list in one piece, which is cut only where something is edited in it: so what isn't edited is never copied. It errs only where
@@ -135,20 +120,20 @@ impl<T: Again> Pieces<T> {
     pub fn of(alloc: Global, items: Items<T>) -> Result<Pieces<T>, AllocError>
         ensures { IfOk result (λ made. made ≡ items) }
     {
-        let mut made = Pieces::new(alloc);
+        let mut made = Growing::new(alloc);
         made.push_items(alloc, items)?;
-        Ok(made)
+        made.finish(alloc)
     }
 
-    /// The same again, which shares all pieces.
-    pub fn share(&self, alloc: Global) -> Result<Pieces<T>, AllocError>
+    /// The same again, which shares all pieces at once. It takes no memory, and errs only where as many hold them as can be counted.
+    pub fn share(&self) -> Result<Pieces<T>, AllocError>
         ensures { IfOk result (λ shared. shared ≡ self.now) }
     {
-        let mut shared = Pieces::new(alloc);
-        for piece in self.pieces.as_slice() {
-            shared.push_shared(piece)?;
-        }
-        Ok(shared)
+        let kept = share(&self.kept)?;
+        Ok(Pieces {
+            kept,
+            len: self.len,
+        })
     }
 
     /// The list in one. What nobody else holds is moved, and takes no memory.
@@ -156,7 +141,7 @@ impl<T: Again> Pieces<T> {
         ensures { IfOk result (λ items. items ≡ self) }
     {
         let len = self.len;
-        let mut left = VecDeque::from(self.into_pieces().into_vec());
+        let mut left = VecDeque::from(self.into_pieces(alloc)?.into_vec());
         let mut items = first_items(alloc, len, &mut left)?;
         while let Some(piece) = left.pop_front() {
             append(alloc, &mut items, piece)?;
@@ -164,12 +149,28 @@ impl<T: Again> Pieces<T> {
         Ok(items)
     }
 
-    /// Its pieces.
-    fn into_pieces(self) -> Items<Piece<T>>
-        ensures { joined result ≡ self }
+    /// Its pieces. Where nobody else holds them they are moved, and take no memory.
+    pub(crate) fn into_pieces(self, alloc: Global) -> Result<Items<Piece<T>>, AllocError>
+        ensures { IfOk result (λ pieces. joined pieces ≡ self) }
     {
-        let Pieces { pieces, len: _ } = self;
-        pieces
+        let Pieces { kept, len: _ } = self;
+        match kept {
+            None => Ok(Items::new(alloc)),
+            Some(shared) => owned(alloc, shared),
+        }
+    }
+}
+
+/// Pieces that others may hold. Where nobody does they are moved, and take no memory; else both share each.
+fn owned<T: Again>(
+    alloc: Global,
+    pieces: Arc<Items<Piece<T>>, Global>,
+) -> Result<Items<Piece<T>>, AllocError>
+    ensures { IfOk result (λ own. own ≡ arc_value pieces) }
+{
+    match unshared(pieces) {
+        Ok(pieces) => Ok(pieces),
+        Err(pieces) => share_all(alloc, pieces.as_slice()),
     }
 }
 

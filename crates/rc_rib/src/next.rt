@@ -2,7 +2,6 @@
 ghost use Rattle.std.specs.Prelude.{◌≡◌, ◌⊎◌, [], All, IfOk, IfSome, IsTrue, None, Some, false, slice_get, true};
 ghost use Rattle.std.specs.List.{list_any};
 ghost use Rattle.std.specs.List.Sorted.{IsStrictlySortedBy};
-ghost use Rattle.std.specs.Option.{option_map_or};
 ghost use Rattle.rc_base.specs.Prefix.{prefix_cmp};
 ghost use Rattle.rc_bgp.specs.Candidates as bgp_spec;
 ghost use Rattle.rc_bgp.specs.Changes.{CoversChange};
@@ -257,7 +256,7 @@ fn anew(alloc: Global, inputs: &Inputs<'_>, router: RouterId) -> Result<Made, Al
     match found {
         Some(file) => made_of(alloc, inputs, router, file),
         None => Ok(Made {
-            state: Known::nothing(alloc),
+            state: Known::nothing(),
             has_same_table: false,
             changed: Items::new(alloc),
         }),
@@ -269,7 +268,7 @@ fn again(alloc: Global, known: &Known) -> Result<Made, AllocError>
     ensures state { IfOk result (λ m. m.state ≡ known.now) }
     ensures changed { IfOk result (λ m. m.changed ≡ []) }
 {
-    let state = known.share(alloc)?;
+    let state = known.share()?;
     Ok(Made {
         state,
         has_same_table: true,

@@ -2,16 +2,15 @@
 ghost use Rattle.std.specs.Prelude.{◌≤◌};
 
 use rc_pieces::{Knowledge, Known};
-use std::alloc::Global;
 use std::thread::{Threads, for_each_mut};
 
 /// Drops what a router knows.
-fn forget(alloc: Global, known: &mut Known) {
-    *known = Known::nothing(alloc);
+fn forget(known: &mut Known) {
+    *known = Known::nothing();
 }
 
 /// Drops a state, which the workers share: to drop many paths takes as long as to copy them.
-pub(crate) fn drop_state<R: Threads + Sync>(rt: &R, alloc: Global, state: Knowledge, workers: u32)
+pub(crate) fn drop_state<R: Threads + Sync>(rt: &R, state: Knowledge, workers: u32)
     requires { 1 ≤ workers }
 {
     let mut left = state.into_vec();
@@ -19,6 +18,6 @@ pub(crate) fn drop_state<R: Threads + Sync>(rt: &R, alloc: Global, state: Knowle
         rt,
         left.as_mut_slice(),
         workers as usize,
-        &|_, known: &mut Known| forget(alloc, known),
+        &|_, known: &mut Known| forget(known),
     );
 }

@@ -41,19 +41,19 @@ pub(crate) fn empty_state(alloc: Global, net: &Network) -> Result<Knowledge, All
 {
     let mut state = Items::new(alloc);
     for _ in 0..net.routers.len() {
-        state.push(Known::nothing(alloc))?;
+        state.push(Known::nothing())?;
     }
     Ok(state)
 }
 
 /// What a router knows in a state, again; nothing where the state has no such router.
-fn again(alloc: Global, last: &Knowledge, router: RouterId) -> Result<Known, AllocError>
+fn again(last: &Knowledge, router: RouterId) -> Result<Known, AllocError>
     ensures { IfOk result (λ known. known ≡ unwrap_or (slice_get last.now router) spec.nothing_known) }
 {
     let known = known_at(last, router);
     match known {
-        None => Ok(Known::nothing(alloc)),
-        Some(known) => known.share(alloc),
+        None => Ok(Known::nothing()),
+        Some(known) => known.share(),
     }
 }
 
@@ -69,7 +69,7 @@ fn renewed(
     match made {
         Some(made) => Ok(made),
         None => {
-            let state = again(alloc, last, router)?;
+            let state = again(last, router)?;
             Ok(Made {
                 state,
                 has_same_table: true,

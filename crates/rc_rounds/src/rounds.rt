@@ -126,7 +126,7 @@ fn rounds_within<R: Threads + Sync, G: Gate>(
             Same::Neither => {
                 let (further, left) = progress.after(next, changes, stayed);
                 progress = further;
-                drop_state(rt, alloc, left, workers);
+                drop_state(rt, left, workers);
             }
         }
     }

@@ -1,8 +1,8 @@
--- The derived `==` of routes, paths and what a router knows decides equality.
-use Rattle.std.proofs.Common.{List, ◌≡◌, ◌&&◌, ◌==◌, rules}
+-- The derived `==` of routes and paths decides equality.
+use Rattle.std.proofs.Common.{◌≡◌, ◌&&◌, ◌==◌, rules}
 use Rattle.std.specs.Bool.{Decides}
 use Rattle.std.proofs.lemmas.Bool.Decides.{nat_tests, Decides-eqb, Decides-and, Decides-like}
-use Rattle.std.specs.Cmp.Lexicographic.{pointwise, pointwise_decides, bytes_decides}
+use Rattle.std.specs.Cmp.Lexicographic.{bytes_decides}
 use Rattle.rc_base.specs.Prefix.{Cidr}
 use Rattle.rc_base.specs.declared.origin.Origin.{Origin}
 use Rattle.rc_base.specs.contracts.origin.OriginPartialEq.TheImpl as origin_impl
@@ -12,13 +12,11 @@ use Rattle.rc_route.specs.declared.path.BgpPath.{BgpPath}
 use Rattle.rc_route.specs.declared.path.PathSource.{PathSource}
 use Rattle.rc_route.specs.declared.route.Route.{Route}
 use Rattle.rc_route.specs.declared.route.Source.{Source}
-use Rattle.rc_route.specs.declared.state.RouterState.{RouterState}
 use Rattle.rc_route.specs.contracts.best.BestPartialEq.TheImpl as best_impl
 use Rattle.rc_route.specs.contracts.path.BgpPathPartialEq.TheImpl as path_impl
 use Rattle.rc_route.specs.contracts.path.PathSourcePartialEq.TheImpl as path_source_impl
 use Rattle.rc_route.specs.contracts.route.RoutePartialEq.TheImpl as route_impl
 use Rattle.rc_route.specs.contracts.route.SourcePartialEq.TheImpl as source_impl
-use Rattle.rc_route.specs.contracts.state.RouterStatePartialEq.TheImpl as router_impl
 
 source-Decides : (x y : Source) → Decides (source_impl.eq-value.it x y) (x ≡ y)
 source-Decides x y = search rules
@@ -32,14 +30,11 @@ path_source-Decides x y = search rules
 prefix-Decides : (p q : Cidr) → Decides ((p.network == q.network) && (p.len == q.len)) (p ≡ q)
 prefix-Decides p q = search (rules, nat_tests)
 
-route-Decides : (x y : Route) → Decides (route_impl.eq-value.it x y) (x ≡ y)
-route-Decides x y =
+-- the test of two routes decides whether they are equal
+pub route_decides : (x y : Route) → Decides (route_impl.eq-value.it x y) (x ≡ y)
+route_decides x y =
     Decides-like _ (λ h. search rules) (λ e. search rules)
     (Decides-and _ _ (prefix-Decides x.prefix y.prefix) (Decides-and _ _ (source-Decides x.source y.source) (Decides-and _ _ (Decides-eqb x.distance y.distance) (Decides-and _ _ (Decides-eqb x.metric y.metric) (same_hops-Decides x.hops y.hops)))))
-
--- the test of two tables decides whether they are equal
-pub table_decides : (x y : List Route) → Decides (pointwise route_impl.eq-value.it x y) (x ≡ y)
-table_decides = pointwise_decides route-Decides
 
 -- the test of two paths decides whether they are equal
 pub path_decides : (x y : BgpPath) → Decides (path_impl.eq-value.it x y) (x ≡ y)
@@ -50,10 +45,3 @@ path_decides x y =
 -- the test of two best paths decides whether they are equal
 pub best_decides : (x y : Best) → Decides (best_impl.eq-value.it x y) (x ≡ y)
 best_decides x y = Decides-like _ (λ h. search rules) (λ e. search rules) (Decides-and _ _ (path_decides x.path y.path) (bytes_decides x.also y.also))
-
-router-Decides : (x y : RouterState) → Decides (router_impl.eq-value.it x y) (x ≡ y)
-router-Decides x y = search (rules, route-Decides, best_decides, pointwise_decides)
-
--- the test of two states decides whether they are equal
-pub state_decides : (x y : List RouterState) → Decides (pointwise router_impl.eq-value.it x y) (x ≡ y)
-state_decides = pointwise_decides router-Decides

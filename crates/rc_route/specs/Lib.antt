@@ -1,4 +1,5 @@
 pub mod Best
+pub mod BestParts
 pub mod Further
 pub mod Hops
 pub mod Kept

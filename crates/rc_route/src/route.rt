@@ -102,14 +102,6 @@ impl Route {
     }
 }
 
-/// Whether two tables are equal, in all that they hold.
-#[tactic(auto, using(crate::proofs::EqualLaws::table_decides))]
-pub fn same_table(a: &Table, b: &Table) -> bool
-    ensures { IsTrue result ↔ (a.now ≡ b.now) }
-{
-    a == b
-}
-
 /// Hops in the order in which those of a route stand, which is that of `Hop` as a key of std's maps and sorts too.
 pub fn compare_hops(a: &Hop, b: &Hop) -> Ordering
     ensures { result ≡ hop_cmp a.now b.now }

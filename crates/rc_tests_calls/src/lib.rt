@@ -13,6 +13,8 @@ mod bounds;
 #[cfg(test)]
 mod chains;
 #[cfg(test)]
+mod copies;
+#[cfg(test)]
 mod memory;
 #[cfg(test)]
 mod names;
@@ -22,5 +24,3 @@ mod prefix_trees;
 mod printed;
 #[cfg(test)]
 mod several_paths;
-#[cfg(test)]
-mod states;

@@ -1,4 +1,5 @@
 use Rattle.std.proofs.Common.{◌≡◌, ◌∙◌, ◌∷◌, ap, sym}
+use Rattle.std.proofs.lemmas.Result.{IfOk-weaker}
 use Rattle.rc_pieces.specs.Editing.{edited}
 use Rattle.rc_pieces.proofs.EditLaws.{all_edited, piece_in_order, piece_put, rest_filled, rest_in_order, taken}
 use Rattle.rc_pieces.proofs.SaidLaws.{edits_said}
@@ -23,4 +24,5 @@ loop-piece-preserved g c =
 pub returns-clause-says : goal.returns-clause-says
 returns-clause-says g c are =
     let f = g.T.HasPrefix.prefix_of in
-    edits_said f c.args.known.now c.args.edits.items c.put_values.new.made (all_edited f c.loop-piece.made c.put_values.new.made c.loop-piece.edits.items c.loop-piece.left.now _ c.in_default.ensures.value c.in_ok-put_values.ensures c.loop-piece.invariant.whole) c.requires are
+    let whole = all_edited f c.loop-piece.made c.put_values.new.made c.loop-piece.edits.items c.loop-piece.left.now _ c.in_default.ensures.value c.in_ok-put_values.ensures c.loop-piece.invariant.whole in
+    IfOk-weaker c.finish.result (λ made. made ≡ c.put_values.new.made) _ (λ made is. edits_said f c.args.known.now c.args.edits.items made (is ∙ whole) c.requires are) c.finish.ensures

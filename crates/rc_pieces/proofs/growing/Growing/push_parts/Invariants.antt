@@ -1,5 +1,5 @@
 use Rattle.std.proofs.Common.{◌≡◌, ◌++◌, length}
-use Rattle.rc_pieces.proofs.pieces.Pieces.push_parts.Given as goal
+use Rattle.rc_pieces.proofs.growing.Growing.push_parts.Given as goal
 
 -- what is made, the part in the making, and what is left behind it, is all
 abbrev pub invariant-loop-item : goal.invariant-loop-item

@@ -1,28 +1,14 @@
-//! States that differ in one field or in what they lack, and copies.
+//! Routes and best paths that differ in one field, and copies of them.
 ghost use Rattle.std.specs.Prelude.{◌≤◌};
 
 use rc_as_path::AsPath;
 use rc_base::{Addr, Communities, IfId, Items, Origin, Prefix, RouterId};
-use rc_route::{
-    Best, BgpPath, FurtherHops, Hop, Hops, PathSource, Route, RouterState, Source, State, Table,
-    copy, equal, same_table,
-};
+use rc_route::{Best, BgpPath, FurtherHops, Hop, Hops, PathSource, Route, Source};
 use std::alloc::{AllocError, Global};
 use std::test::Fail;
 
-/// How many fields a route and a best path have together.
+/// How many fields a route and a best path have together. Where the field of this number is changed, none is.
 const FIELDS: usize = 19;
-
-/// Where no field is changed.
-const SAME: usize = 19;
-
-const NO_ROUTE: usize = 20;
-
-const NO_PATH: usize = 21;
-
-const NO_ROUTER: usize = 22;
-
-const TWO_ROUTERS: usize = 23;
 
 /// 2 at the field that is changed, else 1.
 fn value_at(field: usize, changed: usize) -> u8
@@ -123,93 +109,37 @@ fn best_at(alloc: Global, changed: usize) -> Result<Best, Fail> {
     Ok(Best { path, also })
 }
 
-/// Puts that route, where it isn't what is lacking.
-fn put_route(table: &mut Table, alloc: Global, changed: usize) -> Result<(), Fail> {
-    if changed != NO_ROUTE {
-        table.push(route_at(alloc, changed)?)?;
-    }
-    Ok(())
+/// Whether a copy of a route where a field is changed is equal to it, and to another one exactly where that field is none of a route.
+fn is_route_copied(alloc: Global, like: &Route, changed: usize) -> Result<bool, Fail> {
+    let route = route_at(alloc, changed)?;
+    let copied = route.copy(alloc)?;
+    Ok(copied == route && (copied == *like) == (changed > 4))
 }
 
-/// Puts that best path, where it isn't what is lacking.
-fn put_path(paths: &mut Items<Best>, alloc: Global, changed: usize) -> Result<(), Fail> {
-    if changed != NO_PATH {
-        paths.push(best_at(alloc, changed)?)?;
-    }
-    Ok(())
-}
-
-/// What a router knows: one route and one best path, all 1 but the field that is changed.
-fn router_at(alloc: Global, changed: usize) -> Result<RouterState, Fail> {
-    let mut router = RouterState {
-        table: Items::new(alloc),
-        paths: Items::new(alloc),
-    };
-    put_route(&mut router.table, alloc, changed)?;
-    put_path(&mut router.paths, alloc, changed)?;
-    Ok(router)
-}
-
-/// Puts that router, where it isn't what is lacking.
-fn put_router(state: &mut State, alloc: Global, changed: usize) -> Result<(), Fail> {
-    if changed != NO_ROUTER {
-        state.push(router_at(alloc, changed)?)?;
-    }
-    Ok(())
-}
-
-/// The state of that router, or of two of them.
-fn state_of(alloc: Global, changed: usize) -> Result<State, Fail> {
-    let mut state = Items::new(alloc);
-    put_router(&mut state, alloc, changed)?;
-    if changed == TWO_ROUTERS {
-        put_router(&mut state, alloc, SAME)?;
-    }
-    Ok(state)
-}
-
-/// Whether two states are equal, both ways.
-fn are_equal(one: &State, other: &State) -> bool {
-    equal(one, other) && equal(other, one)
-}
-
-/// Whether two states are not equal, both ways.
-fn differ(one: &State, other: &State) -> bool {
-    !equal(one, other) && !equal(other, one)
-}
-
-/// Whether a state with a change is another, where there is one, and equal to one that is made again.
-fn is_told_by(alloc: Global, state: &State, changed: usize) -> Result<bool, Fail> {
-    let other = state_of(alloc, changed)?;
-    let again = state_of(alloc, changed)?;
-    Ok(differ(state, &other) == (changed != SAME) && are_equal(&other, &again))
-}
-
-/// A state is told by each of its fields, and by what it lacks.
-#[test]
-fn states_differ_in_all_that_they_hold(rt: HostRuntime) -> Result<(), Fail> {
-    let state = state_of(rt.alloc(), SAME)?;
-    for changed in 0..=TWO_ROUTERS {
-        let is_told = is_told_by(rt.alloc(), &state, changed)?;
-        assert!(rt; is_told, "change {changed}");
-    }
-    Ok(())
-}
-
-/// Whether a copy of what a router knows where a field is changed is equal to it, and has the table of another one where that field is none
-/// of a route.
-fn is_copied(alloc: Global, like: &RouterState, changed: usize) -> Result<bool, Fail> {
-    let router = router_at(alloc, changed)?;
-    let copied = copy(alloc, &router)?;
-    Ok(copied == router && same_table(&copied.table, &like.table) == (changed > 4))
+/// So it is with a best path.
+fn is_best_copied(alloc: Global, like: &Best, changed: usize) -> Result<bool, Fail> {
+    let best = best_at(alloc, changed)?;
+    let copied = best.copy()?;
+    Ok(copied == best && (copied == *like) == (changed < 5 || changed == FIELDS))
 }
 
 /// The fields 0 to 4 are those of the route.
 #[test]
-fn copies_are_equal(rt: HostRuntime) -> Result<(), Fail> {
-    let like = router_at(rt.alloc(), SAME)?;
+fn copies_of_routes_are_equal(rt: HostRuntime) -> Result<(), Fail> {
+    let like = route_at(rt.alloc(), FIELDS)?;
     for changed in 0..=FIELDS {
-        let is_copied = is_copied(rt.alloc(), &like, changed)?;
+        let is_copied = is_route_copied(rt.alloc(), &like, changed)?;
+        assert!(rt; is_copied, "field {changed}");
+    }
+    Ok(())
+}
+
+/// The fields 5 to 18 are those of the best path.
+#[test]
+fn copies_of_best_paths_are_equal(rt: HostRuntime) -> Result<(), Fail> {
+    let like = best_at(rt.alloc(), FIELDS)?;
+    for changed in 0..=FIELDS {
+        let is_copied = is_best_copied(rt.alloc(), &like, changed)?;
         assert!(rt; is_copied, "field {changed}");
     }
     Ok(())
