@@ -1,6 +1,7 @@
 -- The best paths are in order of prefix: each candidate has the prefix for which it is one.
 use Rattle.std.proofs.Common.{refl, ◌≡◌, ap, sym, subst, ◌∙◌, ℕ, zero, suc, ◌==◌, Bool, true, false, not, cond, List, [], ◌∷◌, ◌++◌, All, Option, Some, None, option_and_then}
-use Rattle.std.specs.Prelude.{slice_get}
+use Rattle.std.specs.Prelude.{◌<◌, length, slice_get, slice_index_or}
+use Rattle.std.proofs.lemmas.Option.{slice_get_read}
 use Rattle.std.specs.List.{AllByRecursion, cons_option, filter_map, flat_map, fold, list_any}
 use Rattle.std.specs.Option.{option_map}
 use Rattle.std.specs.BTreeSet.{insert_key}
@@ -177,15 +178,17 @@ seen_in_parts old own sessions first second last a b c =
 
 -- ---- the best by its place
 
-pub best_found : (paths : List BgpPath) (i : ℕ) (o : Option BgpPath) → Some i ≡ best_place paths → o ≡ slice_get paths i → o ≡ best_path paths
-best_found paths i o place found = found ∙ ap (option_and_then (slice_get paths)) place ∙ sym (best_path_at_place paths)
+module _ (most : MaximumPaths) (paths : List BgpPath) where
+  -- taken out of its place, with the next hops of further paths
+  pub best_taken : (place : ℕ) (x y : BgpPath) (also : List ℕ) → place < length paths → Some place ≡ best_place paths → x ≡ slice_index_or paths place x → y ≡ slice_index_or paths place y
+      → also ≡ further (number_for most y.source) paths → Some (record { path = x; also = also }) ≡ best_with_further most paths
+  best_taken place x y also within found taken read is =
+      let here : slice_get paths place ≡ Some x = slice_get_read paths (length paths) place x refl within taken in
+      let there : slice_get paths place ≡ Some y = slice_get_read paths (length paths) place y refl within read in
+      let both : Some y ≡ Some x = sym there ∙ here in
+      let same : y ≡ x = cc both in
+      (λ i. Some (record { path = x; also = (is ∙ ap (λ (z : BgpPath). further (number_for most z.source) paths) same) i }))
+      ∙ sym (ap (option_map (with_further most paths)) (best_path_at_place paths ∙ ap (option_and_then (slice_get paths)) (sym found) ∙ here))
 
--- with the next hops of further paths
-pub best_with : (most : MaximumPaths) (paths : List BgpPath) (x copied : BgpPath) (also : List ℕ) → Some x ≡ best_path paths → also ≡ further (number_for most x.source) paths → copied ≡ x → Some (record { path = copied; also = also }) ≡ best_with_further most paths
-best_with most paths x copied also found is same = (λ i. Some (record { path = same i; also = is i })) ∙ ap (option_map (with_further most paths)) found
-
-pub none_with : (most : MaximumPaths) (paths : List BgpPath) → None ≡ best_path paths → None ≡ best_with_further most paths
-none_with most paths none = ap (option_map (with_further most paths)) none
-
-pub none_found : (paths : List BgpPath) → None ≡ best_place paths → None ≡ best_path paths
-none_found paths none = ap (option_and_then (slice_get paths)) none ∙ sym (best_path_at_place paths)
+  pub none_placed : None ≡ best_place paths → None ≡ best_with_further most paths
+  none_placed none = ap (option_map (with_further most paths)) (ap (option_and_then (slice_get paths)) none ∙ sym (best_path_at_place paths))

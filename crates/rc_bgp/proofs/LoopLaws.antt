@@ -23,7 +23,7 @@ use Rattle.rc_policy.specs.declared.attrs.Attrs.{Attrs}
 use Rattle.rc_route.specs.Tables.{best_for}
 use Rattle.rc_route.specs.declared.best.Best.{Best}
 use Rattle.rc_route.specs.declared.path.BgpPath.{BgpPath}
-use Rattle.rc_bgp.specs.Changes.{asn_of, is_no_loop, may_hear}
+use Rattle.rc_bgp.specs.Changes.{asn_of, is_told_back, may_hear}
 use Rattle.rc_bgp_session.specs.Passing.{as_received, as_sent, attrs_of_path, export, exported, import, imported, is_withheld, mapped_path, originated_default, passes_list, weight_of, with_attrs, with_med}
 use Rattle.rc_bgp_session.specs.declared.session.Session.{Session}
 use Rattle.rc_bgp.proofs.PartLaws.{Each, ask_each, either_each, mapped_each, none_each, some_each}
@@ -92,7 +92,17 @@ module _ (t : ℕ → Bool) where
 -- ---- a loop isn't taken
 
 abbrev IsLoop : Option ℕ → BgpPath → Type 0
-IsLoop own x = is_no_loop own x.as_path ≡ false
+IsLoop own x = not (option_map_or (λ asn. list_any (λ a. a == asn) x.as_path) own false) ≡ false
+
+-- a path that begins with an AS holds it
+told_back_goes_round : (own : Option ℕ) (numbers : List ℕ) → not (is_told_back own numbers) ≡ false → not (option_map_or (λ asn. list_any (λ a. a == asn) numbers) own false) ≡ false
+told_back_goes_round None numbers is = is
+told_back_goes_round (Some asn) [] is = is
+told_back_goes_round (Some asn) (a ∷ numbers) is = by (a == asn) is
+  where
+    by : (b : Bool) → not b ≡ false → not (b || list_any (λ c. c == asn) numbers) ≡ false
+    by true e = refl
+    by false e = absurd (let clash : true ≡ false = e in cc clash)
 
 loop_goes : (net : Network) (s : Session) (own : Option ℕ) (x : BgpPath) → IsLoop own x → Each (IsLoop own) (export net s x)
 loop_goes net s None x is = absurd (let clash : true ≡ false = is in cc)
@@ -125,7 +135,7 @@ module _ (net : Network) (s : Session) where
       at_router None is = refl
       at_router (Some file) is = at_process file file.bgp is
 
-  -- of the best path for a prefix nothing is taken, where it is a loop or there is none
+  -- of the best path for a prefix nothing is taken, where it is told back or there is none
   pub nothing_taken : (paths : List Best) (p : Cidr) → may_hear (asn_of net s.receiver) paths p ≡ false
       → option_and_then (import net s) (option_and_then (export net s) (option_map (λ (b : Best). b.path) (best_for paths p))) ≡ None
   nothing_taken paths p = by (best_for paths p)
@@ -134,10 +144,10 @@ module _ (net : Network) (s : Session) where
       of_sent None loops = refl
       of_sent (Some y) loops = loop_not_taken y (loops y refl)
 
-      by : (o : Option Best) → option_map_or (λ (b : Best). is_no_loop (asn_of net s.receiver) b.path.as_path) o false ≡ false
+      by : (o : Option Best) → option_map_or (λ (b : Best). not (is_told_back (asn_of net s.receiver) b.path.as_path)) o false ≡ false
           → option_and_then (import net s) (option_and_then (export net s) (option_map (λ (b : Best). b.path) o)) ≡ None
       by None is = refl
-      by (Some b) is = of_sent (export net s b.path) (loop_goes net s (asn_of net s.receiver) b.path is)
+      by (Some b) is = of_sent (export net s b.path) (loop_goes net s (asn_of net s.receiver) b.path (told_back_goes_round (asn_of net s.receiver) b.path.as_path is))
 
   -- what `default-originate` tells goes before any path, so beside it the same is taken of two paths of which nothing is taken
   pub same_taken : (p : Cidr) (o q : Option BgpPath) → option_and_then (import net s) o ≡ None → option_and_then (import net s) q ≡ None

@@ -56,17 +56,18 @@ told_over before now = changed_at_senders three_ases (knows [] [] ∷ knows [] b
 abbrev over : List ℕ → BgpPath
 over numbers = record (from_source External 9) { as_path = numbers }
 
--- what R1 told R2, R2 tells back: R1's AS is on it
+-- what R1 told R2, R2 tells back: R1's AS comes first on it
 pub told_back : told_over [] (over (65001 ∷ []) ∷ []) ≡ []
 told_back = refl
 
-pub told_back_from_afar : told_over [] (over (65004 ∷ 65001 ∷ 65005 ∷ []) ∷ []) ≡ []
+-- where R1's AS stands further behind, that is seen when the path is decided
+pub told_back_from_afar : told_over [] (over (65004 ∷ 65001 ∷ 65005 ∷ []) ∷ []) ≡ subnet 9 ∷ []
 told_back_from_afar = refl
 
 pub told_back_before : told_over (over (65001 ∷ []) ∷ []) [] ≡ []
 told_back_before = refl
 
-pub told_back_otherwise : told_over (over (65001 ∷ []) ∷ []) (over (65004 ∷ 65001 ∷ []) ∷ []) ≡ []
+pub told_back_otherwise : told_over (over (65001 ∷ []) ∷ []) (over (65001 ∷ 65004 ∷ []) ∷ []) ≡ []
 told_back_otherwise = refl
 
 -- R2 told R1 of another way before, which is no longer there

@@ -93,13 +93,13 @@ changes_over changes inside s = if s.is_external then changes_of changes s.sende
 abbrev pub asn_of : Network → ℕ → Option ℕ
 asn_of net r = option_and_then (λ (file : RouterText). option_map (λ (process : BgpProcess). process.asn) file.bgp) (router_at net r)
 
--- an AS path doesn't hold this AS; a router refuses one that holds its own as a loop (RFC 4271 s.9.1.2)
-abbrev pub is_no_loop : Option ℕ → List ℕ → Bool
-is_no_loop own numbers = not (option_map_or (λ asn. list_any (λ a. a == asn) numbers) own false)
+-- an AS path begins with this AS, which told it: its routers refuse it as a loop (RFC 4271 s.9.1.2)
+abbrev pub is_told_back : Option ℕ → List ℕ → Bool
+is_told_back own numbers = option_map_or (λ asn. option_map_or (λ a. a == asn) (slice_get numbers 0) false) own false
 
--- a router of this AS may take one of the best paths of a sender for a prefix: there is one, and it is no loop
+-- a router of this AS may take one of the best paths of a sender for a prefix: there is one, and it isn't told back
 abbrev pub may_hear : Option ℕ → List Best → Cidr → Bool
-may_hear own paths p = option_map_or (λ (b : Best). is_no_loop own b.path.as_path) (best_for paths p) false
+may_hear own paths p = option_map_or (λ (b : Best). not (is_told_back own b.path.as_path)) (best_for paths p) false
 
 -- it may take one now, or may have taken one before
 abbrev pub may_hear_either : Option ℕ → List Best → List Best → Cidr → Bool

@@ -1,10 +1,9 @@
 //! A router's candidates and best paths.
-ghost use Rattle.std.specs.Prelude.{◌≡◌, ◌↔◌, ◌++◌, All, IfOk, IsTrue, OnOk, slice_get};
+ghost use Rattle.std.specs.Prelude.{◌≡◌, ◌↔◌, ◌++◌, All, IfOk, IsTrue, OnOk};
 ghost use Rattle.std.specs.List.{fold, flat_map, filter_map};
-ghost use Rattle.std.specs.Option.{option_copied, option_to_list};
+ghost use Rattle.std.specs.Option.{option_to_list};
 ghost use Rattle.std.specs.BTreeSet.{keys, insert_key};
 ghost use Rattle.rc_base.specs.Prefix.{prefix_cmp};
-ghost use Rattle.rc_bgp_decide.specs.Decision.{best_path};
 ghost use Rattle.rc_route.specs.Tables.{IsBestList, IsPathList, IsRouterState};
 ghost use Rattle.rc_bgp.specs.Candidates as spec;
 ghost use Rattle.rc_bgp.specs.Telling.{AreListed, told_inside};
@@ -29,43 +28,24 @@ use rc_route::{Best, BgpPath};
 use std::alloc::{AllocError, Global};
 use std::collections::{BTreeMap, BTreeSet};
 
-/// The path at an index.
-fn at_path(paths: &[BgpPath], index: usize) -> Option<&BgpPath>
-    ensures { option_copied result ≡ slice_get paths.now index }
-{
-    paths.get(index)
-}
-
-/// The best of some paths.
-#[tactic(auto, using(crate::proofs::BestLaws::best_found, crate::proofs::BestLaws::none_found))]
-fn best_path(paths: &[BgpPath]) -> Option<&BgpPath>
-    ensures { option_copied result ≡ best_path paths.now }
-{
-    let place = best(paths);
-    match place {
-        None => None,
-        Some(place) => at_path(paths, place),
-    }
-}
-
-/// The best of some paths again, with the next hops of further ones.
-#[tactic(auto, using(crate::proofs::BestLaws::best_with, crate::proofs::BestLaws::none_with))]
+/// The best of some paths, which is taken out of them, with the next hops of further ones.
+#[tactic(auto, using(crate::proofs::BestLaws::none_placed))]
 fn best_with_further(
     alloc: Global,
     most: MaximumPaths,
-    paths: &[BgpPath],
+    paths: Vec<BgpPath>,
 ) -> Result<Option<Best>, AllocError>
-    ensures { IfOk result (λ best. best ≡ spec.best_with_further most paths.now) }
+    ensures { IfOk result (λ best. best ≡ spec.best_with_further most paths.items) }
 {
-    let found = best_path(paths);
-    match found {
-        None => Ok(None),
-        Some(path) => {
-            let also = further(alloc, number_for(most, path.source), paths)?;
-            let path = path.copy()?;
-            Ok(Some(Best { path, also }))
-        }
-    }
+    let place = best(paths.as_slice());
+    let Some(place) = place else {
+        return Ok(None);
+    };
+    let number = number_for(most, paths[place].source);
+    let also = further(alloc, number, paths.as_slice())?;
+    let mut left = paths;
+    let path = left.swap_remove(place);
+    Ok(Some(Best { path, also }))
 }
 
 /// The best path for a prefix.
@@ -88,7 +68,7 @@ pub(crate) fn best_among(
     ensures same_senders { OnOk result (senders.new.items ≡ senders.old.items) }
 {
     let paths = candidates_at(alloc, net, state, resolver, own, sessions, senders, prefix)?;
-    best_with_further(alloc, most, paths.as_slice())
+    best_with_further(alloc, most, paths)
 }
 
 /// Puts the prefixes of paths into a set.
@@ -222,7 +202,7 @@ fn best_of_each(
 {
     let mut paths = Items::new(alloc);
     for (_, candidates) in rows {
-        let best = best_with_further(alloc, most, candidates.as_slice())?;
+        let best = best_with_further(alloc, most, candidates.into_vec())?;
         push_some(&mut paths, best)?;
     }
     Ok(paths)

@@ -15,7 +15,7 @@ use crate::router_state::paths_of;
 use crate::telling::listed_for;
 use crate::{Inside, Session, export};
 use rc_base::{Items, Prefix, PrefixMap};
-use rc_bgp_session::is_internal;
+use rc_bgp_session::{LastAsPath, is_internal};
 use rc_config::Network;
 use rc_pieces::{Knowledge, Listed};
 use rc_route::{Best, BgpPath};
@@ -236,7 +236,16 @@ fn add_over(
     let prefix = Prefix::default_route();
     let paths = paths_of(state, session.sender);
     let best = best_path_for(&paths, &prefix);
-    let default = path_heard(alloc, net, state, resolver, session, best, &prefix)?;
+    let default = path_heard(
+        alloc,
+        &mut LastAsPath::new(),
+        net,
+        state,
+        resolver,
+        session,
+        best,
+        &prefix,
+    )?;
     add_some(alloc, rows, default)?;
     add_offered(alloc, net, state, inside, resolver, session, rows)
 }

@@ -1,16 +1,16 @@
 //! What a router hears for a prefix.
-ghost use Rattle.std.specs.Prelude.{◌≡◌, ◌<◌, ◌++◌, [], All, IfOk, OnOk, length, option_and_then, slice_index_or};
+ghost use Rattle.std.specs.Prelude.{◌≡◌, ◌++◌, All, IfOk, OnOk, option_and_then};
 ghost use Rattle.std.specs.Option.{option_copied, option_to_list};
 ghost use Rattle.rc_route.specs.Tables.{IsBestList, IsPathList, IsRouterState, best_path_for};
 ghost use Rattle.rc_bgp.specs.Candidates as spec;
 ghost use Rattle.rc_bgp.specs.RouterStates.{path_at, paths_of};
 ghost use Rattle.rc_bgp_session.specs.Passing as pass;
 
+use crate::Session;
 use crate::resolver::Resolver;
-use crate::senders::{Senders, best_path_told};
-use crate::{Session, export};
+use crate::senders::Senders;
 use rc_base::{Items, Prefix};
-use rc_bgp_session::{originated_default, taken};
+use rc_bgp_session::{LastAsPath, export_with_last, originated_default, taken};
 use rc_config::Network;
 use rc_pieces::{Knowledge, Listed};
 use rc_route::{Best, BgpPath, listed_at};
@@ -31,6 +31,7 @@ pub(crate) fn best_path_for<'a>(paths: &Listed<'a, Best>, prefix: &Prefix) -> Op
 /// What the sender's best path of a prefix becomes on a session.
 fn advertised_best(
     alloc: Global,
+    last: &mut LastAsPath,
     net: &Network,
     state: &Knowledge,
     session: &Session,
@@ -41,7 +42,7 @@ fn advertised_best(
     ensures { IfOk result (λ made. made ≡ spec.advertised_best net.now state.now session.now prefix.now) }
 {
     match best {
-        Some(path) => export(alloc, net, session, path),
+        Some(path) => export_with_last(alloc, last, net, session, path),
         None => Ok(None),
     }
 }
@@ -49,6 +50,7 @@ fn advertised_best(
 /// What is advertised over a session for the default prefix.
 fn advertised_default(
     alloc: Global,
+    last: &mut LastAsPath,
     net: &Network,
     state: &Knowledge,
     session: &Session,
@@ -61,13 +63,14 @@ fn advertised_default(
     let default = originated_default(alloc, net, session)?;
     match default {
         Some(path) => Ok(Some(path)),
-        None => advertised_best(alloc, net, state, session, best, prefix),
+        None => advertised_best(alloc, last, net, state, session, best, prefix),
     }
 }
 
 /// What is advertised over a session for a prefix, for which this is the sender's best path.
 fn advertised(
     alloc: Global,
+    last: &mut LastAsPath,
     net: &Network,
     state: &Knowledge,
     session: &Session,
@@ -78,9 +81,9 @@ fn advertised(
     ensures { IfOk result (λ made. made ≡ spec.advertised net.now state.now session.now prefix.now) }
 {
     if prefix.is_default() {
-        advertised_default(alloc, net, state, session, best, prefix)
+        advertised_default(alloc, last, net, state, session, best, prefix)
     } else {
-        advertised_best(alloc, net, state, session, best, prefix)
+        advertised_best(alloc, last, net, state, session, best, prefix)
     }
 }
 
@@ -125,6 +128,7 @@ pub(crate) fn heard_path(
 /// What a router with this table hears over a session for a prefix, for which this is the sender's best path.
 pub(crate) fn path_heard(
     alloc: Global,
+    last: &mut LastAsPath,
     net: &Network,
     state: &Knowledge,
     resolver: &mut Resolver<'_>,
@@ -136,7 +140,7 @@ pub(crate) fn path_heard(
     ensures value { IfOk result (λ made. made ≡ spec.path_heard net.now state.now resolver.old session.now prefix.now) }
     ensures same { OnOk result (resolver.new ≡ resolver.old) }
 {
-    let advertised = advertised(alloc, net, state, session, best, prefix)?;
+    let advertised = advertised(alloc, last, net, state, session, best, prefix)?;
     match advertised {
         None => Ok(None),
         Some(path) => heard_path(alloc, net, resolver, session, path),
@@ -183,29 +187,6 @@ fn own_at(
     Ok(made)
 }
 
-/// What a router with this table hears over a session, that of an index, for a prefix.
-#[tactic(auto, using(crate::proofs::KnownLaws::paths_in_order))]
-fn heard_over(
-    alloc: Global,
-    net: &Network,
-    state: &Knowledge,
-    resolver: &mut Resolver<'_>,
-    session: &Session,
-    senders: &mut Senders<'_>,
-    index: usize,
-    prefix: &Prefix,
-) -> Result<Option<BgpPath>, AllocError>
-    requires state { All IsRouterState state.now }
-    requires within { index < length senders.old.items }
-    requires sender { slice_index_or senders.old.items index [] ≡ paths_of state.now session.now.sender }
-    ensures value { IfOk result (λ made. made ≡ spec.path_heard net.now state.now resolver.old session.now prefix.now) }
-    ensures same { OnOk result (resolver.new ≡ resolver.old) }
-    ensures same_senders { OnOk result (senders.new.items ≡ senders.old.items) }
-{
-    let best = best_path_told(senders, index, prefix);
-    path_heard(alloc, net, state, resolver, session, best, prefix)
-}
-
 /// The candidates of a router for a prefix.
 pub(crate) fn candidates_at(
     alloc: Global,
@@ -227,7 +208,7 @@ pub(crate) fn candidates_at(
     let mut paths = own_at(alloc, own, prefix)?;
     for index in 0..sessions.len() {
         let session = &sessions[index];
-        let path = heard_over(alloc, net, state, resolver, session, senders, index, prefix)?;
+        let path = senders[index].heard(alloc, net, state, resolver, session, prefix)?;
         push_some(&mut paths, path)?;
     }
     Ok(paths)

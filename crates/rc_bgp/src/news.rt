@@ -1,7 +1,8 @@
 //! What a router's senders may tell it anew.
 ghost use Rattle.std.specs.List.{filter, flat_map};
 ghost use Rattle.std.specs.List.Sorted.{IsStrictlySortedBy};
-ghost use Rattle.std.specs.Prelude.{◌≡◌, ◌++◌, All, IfOk, OnOk};
+ghost use Rattle.std.specs.Option.{option_map_or};
+ghost use Rattle.std.specs.Prelude.{◌≡◌, ◌==◌, ◌++◌, All, IfOk, OnOk, false, slice_get};
 ghost use Rattle.rc_base.specs.Lists.{in_order};
 ghost use Rattle.rc_base.specs.Prefix.{prefix_cmp};
 ghost use Rattle.rc_bgp.specs.Changes as spec;
@@ -31,13 +32,25 @@ fn asn_of(net: &Network, router: RouterId) -> Option<u32>
     }
 }
 
-/// Whether an AS path doesn't hold the AS of a router, which refuses one that does as a loop (RFC 4271 s.9.1.2).
-fn is_no_loop(own: Option<u32>, path: &AsPath) -> bool
-    ensures { result ≡ spec.is_no_loop own path.now }
+/// Whether an AS path begins with an AS.
+fn begins_with(path: &AsPath, asn: u32) -> bool
+    ensures { result ≡ option_map_or (λ a. a == asn) (slice_get path.now 0) false }
+{
+    let first = path.first();
+    match first {
+        None => false,
+        Some(first) => first == asn,
+    }
+}
+
+/// Whether an AS path begins with the AS of a router, which refuses it as a loop (RFC 4271 s.9.1.2). The AS may stand further behind too:
+/// that is seen where the path is decided, and costs a look at each number.
+fn is_told_back(own: Option<u32>, path: &AsPath) -> bool
+    ensures { result ≡ spec.is_told_back own path.now }
 {
     match own {
-        None => true,
-        Some(asn) => !path.holds(asn),
+        None => false,
+        Some(asn) => begins_with(path, asn),
     }
 }
 
@@ -50,7 +63,7 @@ fn may_hear(own: Option<u32>, paths: &mut Finder<'_, Best>, prefix: &Prefix) -> 
     let found = paths.at(prefix);
     match found {
         None => false,
-        Some(best) => is_no_loop(own, &best.path.as_path),
+        Some(best) => !is_told_back(own, &best.path.as_path),
     }
 }
 

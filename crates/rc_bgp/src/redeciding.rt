@@ -9,7 +9,7 @@ ghost use Rattle.rc_bgp.specs.Candidates.{best_among};
 ghost use Rattle.rc_bgp.specs.Updating.{AreDecided};
 
 use crate::Session;
-use crate::deciding::{best_among, sharing};
+use crate::deciding::best_among;
 use crate::resolver::Resolver;
 use crate::senders::senders_of;
 use rc_base::{Items, Prefix};
@@ -29,32 +29,6 @@ fn is_known(known: Option<&Best>, best: &Option<Best>) -> bool
             None => false,
             Some(best) => known.is_same(best),
         },
-    }
-}
-
-/// A best path, which shares the AS path of another one, if there is one, where both are the same.
-fn sharing_value(other: &Option<Best>, best: Best) -> Result<Best, AllocError>
-    ensures { IfOk result (λ made. made ≡ best) }
-{
-    match other {
-        None => Ok(best),
-        Some(other) => sharing(&other.path, best),
-    }
-}
-
-/// What is best, which shares the AS path of the last of some edits: paths of one origin mostly stand side by side.
-fn sharing_last(edits: &Edits<Best>, best: Option<Best>) -> Result<Option<Best>, AllocError>
-    ensures { IfOk result (λ made. made ≡ best) }
-{
-    match best {
-        None => Ok(None),
-        Some(best) => {
-            let last = edits.back();
-            match last {
-                None => Ok(Some(best)),
-                Some(last) => Ok(Some(sharing_value(&last.value, best)?)),
-            }
-        }
     }
 }
 
@@ -96,11 +70,10 @@ pub(crate) fn decided(
         if is_known(finder.at(prefix), &best) {
             continue;
         }
-        let value = sharing_last(&edits, best)?;
         changed.push(*prefix)?;
         edits.push_back(Edit {
             prefix: *prefix,
-            value,
+            value: best,
         })?;
     }
     Ok((changed, edits))

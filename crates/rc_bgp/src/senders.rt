@@ -1,20 +1,48 @@
 //! The best paths of the senders of sessions, asked for one prefix after another.
-ghost use Rattle.std.specs.Prelude.{◌≡◌, ◌<◌, [], All, IfOk, length, slice_index_or};
+ghost use Rattle.std.specs.Prelude.{◌≡◌, All, IfOk, OnOk};
 ghost use Rattle.std.specs.Option.{option_copied};
 ghost use Rattle.rc_route.specs.Tables.{IsBestList, IsRouterState, best_path_for};
-ghost use Rattle.rc_bgp.specs.Candidates.{senders_paths};
+ghost use Rattle.rc_bgp.specs.Candidates.{path_heard, senders_paths};
+ghost use Rattle.rc_bgp.specs.RouterStates.{paths_of};
 
 use crate::Session;
+use crate::hearing::path_heard;
+use crate::resolver::Resolver;
 use crate::router_state::paths_of;
 use rc_base::Prefix;
+use rc_bgp_session::LastAsPath;
+use rc_config::Network;
 use rc_pieces::{Finder, Knowledge};
 use rc_route::{Best, BgpPath};
 use std::alloc::{AllocError, Global};
+use std::marker::Model;
 
-/// For each of some sessions, in order, the best paths of its sender.
-pub(crate) type Senders<'a> = Vec<Finder<'a, Best>>;
+/// The best paths of the sender of a session, seen as their list, and the AS path that it put together last.
+pub(crate) struct Sender<'a> {
+    paths: Finder<'a, Best>,
+    last: LastAsPath,
+}
 
-/// The best paths of the senders of some sessions.
+/// By a function of its own, so that what holds senders drops each by one call.
+impl<'a> Drop for Sender<'a> {
+    fn drop(self) {
+        let Sender { paths: _, last: _ } = self;
+    }
+}
+
+impl<'a> Model for Sender<'a> {
+    ghost use Rattle.std.specs.Prelude.{List};
+    ghost use Rattle.rc_route.specs.declared.best.Best.{Best};
+
+    ghost Value = { List Best };
+
+    ghost view = { λ s. s.paths };
+}
+
+/// Those of some sessions, in order.
+pub(crate) type Senders<'a> = Vec<Sender<'a>>;
+
+/// The senders of some sessions.
 pub(crate) fn senders_of<'a>(
     alloc: Global,
     state: &'a Knowledge,
@@ -25,7 +53,10 @@ pub(crate) fn senders_of<'a>(
 {
     let mut senders = Vec::new(alloc);
     for session in sessions {
-        senders.push(Finder::of(&paths_of(state, session.sender)))?;
+        senders.push(Sender {
+            paths: Finder::of(&paths_of(state, session.sender)),
+            last: LastAsPath::new(),
+        })?;
     }
     Ok(senders)
 }
@@ -43,16 +74,34 @@ fn best_path_of<'a>(paths: &mut Finder<'a, Best>, prefix: &Prefix) -> Option<&'a
     }
 }
 
-/// The best path of the sender of a session, that of an index, for a prefix.
-pub(crate) fn best_path_told<'a>(
-    senders: &mut Senders<'a>,
-    index: usize,
-    prefix: &Prefix,
-) -> Option<&'a BgpPath>
-    requires within { index < length senders.old.items }
-    requires in_order { IsBestList (slice_index_or senders.old.items index []) }
-    ensures value { option_copied result ≡ best_path_for (slice_index_or senders.old.items index []) prefix.now }
-    ensures same { senders.new.items ≡ senders.old.items }
-{
-    best_path_of(&mut senders[index], prefix)
+impl<'a> Sender<'a> {
+    /// What a router with this table hears of it over a session for a prefix.
+    #[tactic(auto, using(crate::proofs::KnownLaws::paths_in_order))]
+    pub fn heard(
+        &mut self,
+        alloc: Global,
+        net: &Network,
+        state: &Knowledge,
+        resolver: &mut Resolver<'_>,
+        session: &Session,
+        prefix: &Prefix,
+    ) -> Result<Option<BgpPath>, AllocError>
+        requires state { All IsRouterState state.now }
+        requires sender { self.old ≡ paths_of state.now session.now.sender }
+        ensures value { IfOk result (λ made. made ≡ path_heard net.now state.now resolver.old session.now prefix.now) }
+        ensures same { OnOk result (resolver.new ≡ resolver.old) }
+        ensures same_sender { OnOk result (self.new ≡ self.old) }
+    {
+        let best = best_path_of(&mut self.paths, prefix);
+        path_heard(
+            alloc,
+            &mut self.last,
+            net,
+            state,
+            resolver,
+            session,
+            best,
+            prefix,
+        )
+    }
 }

@@ -5,10 +5,14 @@
 //! functions of the network, the session and the path. Which sessions there are is not asked here. All that errs is memory.
 #![tactic(auto)]
 
+mod last_as_path;
 mod passing;
 mod policy;
 mod session;
 
-pub use passing::{export, import, is_internal, is_originated, originated_default, taken};
+pub use last_as_path::LastAsPath;
+pub use passing::{
+    export, export_with_last, import, is_internal, is_originated, originated_default, taken,
+};
 pub use policy::mapped_path;
 pub use session::Session;

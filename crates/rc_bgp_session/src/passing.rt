@@ -1,9 +1,10 @@
 //! What a session makes of a path: export by its sender, import by its receiver.
-ghost use Rattle.std.specs.Prelude.{◌≡◌, IfOk};
+ghost use Rattle.std.specs.Prelude.{◌≡◌, IfOk, option_map};
 ghost use Rattle.rc_bgp_decide.specs.Decision.{is_internal, is_originated};
 ghost use Rattle.rc_bgp_session.specs.Passing as spec;
 
 use crate::Session;
+use crate::last_as_path::LastAsPath;
 use crate::policy::{mapped_path, passes_list};
 use rc_as_path::AsPath;
 use rc_base::{Addr, Communities, Origin, Prefix};
@@ -95,6 +96,7 @@ fn local_preference_over(session: &Session, path: &BgpPath) -> u32
 /// The AS path of a path over a session (RFC 4271 s.5.1.2).
 fn as_path_over(
     alloc: Global,
+    last: &mut LastAsPath,
     asn: u32,
     session: &Session,
     path: &AsPath,
@@ -102,7 +104,7 @@ fn as_path_over(
     ensures { IfOk result (λ made. made ≡ spec.as_path_over asn session.now path.now) }
 {
     if session.is_external {
-        path.prepend(alloc, asn)
+        last.prepend(alloc, asn, path)
     } else {
         path.share()
     }
@@ -119,22 +121,24 @@ fn communities_to(neighbor: &Neighbor, path: &BgpPath) -> Result<Communities, Al
     }
 }
 
-/// A path as it is sent, behind the prefix list and the route map.
+/// A path as it is sent with this MED, behind the prefix list and the route map.
 fn as_sent(
     alloc: Global,
+    last: &mut LastAsPath,
     asn: u32,
     session: &Session,
     neighbor: &Neighbor,
     path: &BgpPath,
+    med: u32,
 ) -> Result<BgpPath, AllocError>
-    ensures { IfOk result (λ made. made ≡ spec.as_sent asn session.now neighbor.now path.now) }
+    ensures { IfOk result (λ made. made ≡ spec.as_sent asn session.now neighbor.now (record path.now { med = med })) }
 {
-    let as_path = as_path_over(alloc, asn, session, &path.as_path)?;
+    let as_path = as_path_over(alloc, last, asn, session, &path.as_path)?;
     let communities = communities_to(neighbor, path)?;
     Ok(BgpPath {
         prefix: path.prefix,
         next_hop: next_hop_over(session, neighbor, path),
-        med: path.med,
+        med,
         local_preference: local_preference_over(session, path),
         weight: path.weight,
         origin: path.origin,
@@ -148,9 +152,33 @@ fn as_sent(
     })
 }
 
-/// What a sender exports, by its statement about the receiver.
+/// What a route map makes of a path that a sender exports.
+fn exported_by_map(
+    alloc: Global,
+    last: &mut LastAsPath,
+    file: &RouterText,
+    asn: u32,
+    neighbor: &Neighbor,
+    session: &Session,
+    path: &BgpPath,
+) -> Result<Option<BgpPath>, AllocError>
+    ensures { IfOk result (λ made. made ≡ option_map (spec.as_sent asn session.now neighbor.now) (spec.mapped_path file.now neighbor.now.settings.map_out (spec.with_med session.now path.now))) }
+{
+    let offered = with_med(session, path)?;
+    let made = mapped_path(alloc, file, &neighbor.settings.map_out, offered)?;
+    match made {
+        None => Ok(None),
+        Some(made) => {
+            let sent = as_sent(alloc, last, asn, session, neighbor, &made, made.med)?;
+            Ok(Some(sent))
+        }
+    }
+}
+
+/// What a sender exports, by its statement about the receiver. Without a route map the path isn't copied before.
 fn exported(
     alloc: Global,
+    last: &mut LastAsPath,
     file: &RouterText,
     asn: u32,
     neighbor: &Neighbor,
@@ -165,12 +193,11 @@ fn exported(
     if !passes_list(file, &neighbor.settings.list_out, &path.prefix) {
         return Ok(None);
     }
-    let offered = with_med(session, path)?;
-    let made = mapped_path(alloc, file, &neighbor.settings.map_out, offered)?;
-    match made {
-        None => Ok(None),
-        Some(made) => {
-            let sent = as_sent(alloc, asn, session, neighbor, &made)?;
+    match &neighbor.settings.map_out {
+        Some(_) => exported_by_map(alloc, last, file, asn, neighbor, session, path),
+        None => {
+            let med = med_over(session, path);
+            let sent = as_sent(alloc, last, asn, session, neighbor, path, med)?;
             Ok(Some(sent))
         }
     }
@@ -186,6 +213,19 @@ pub fn export(
 ) -> Result<Option<BgpPath>, AllocError>
     ensures { IfOk result (λ made. made ≡ spec.export net.now session.now path.now) }
 {
+    export_with_last(alloc, &mut LastAsPath::new(), net, session, path)
+}
+
+/// The same, where the AS path that the sender put together last is at hand: mostly the path goes on with that one.
+pub fn export_with_last(
+    alloc: Global,
+    last: &mut LastAsPath,
+    net: &Network,
+    session: &Session,
+    path: &BgpPath,
+) -> Result<Option<BgpPath>, AllocError>
+    ensures { IfOk result (λ made. made ≡ spec.export net.now session.now path.now) }
+{
     let Some(file) = net.router_at(session.sender) else {
         return Ok(None);
     };
@@ -195,14 +235,20 @@ pub fn export(
     let Some(neighbor) = process.neighbors.get(session.receiver_address.bits()) else {
         return Ok(None);
     };
-    exported(alloc, file, process.asn, neighbor, session, path)
+    exported(alloc, last, file, process.asn, neighbor, session, path)
 }
 
 /// The default path of `default-originate`.
 fn default_path(alloc: Global, asn: u32, session: &Session) -> Result<BgpPath, AllocError>
     ensures { IfOk result (λ made. made ≡ spec.default_path asn session.now) }
 {
-    let as_path = as_path_over(alloc, asn, session, &AsPath::empty())?;
+    let as_path = as_path_over(
+        alloc,
+        &mut LastAsPath::new(),
+        asn,
+        session,
+        &AsPath::empty(),
+    )?;
     Ok(BgpPath {
         prefix: Prefix::default_route(),
         next_hop: session.sender_address,

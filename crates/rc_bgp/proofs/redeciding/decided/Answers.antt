@@ -28,8 +28,8 @@ loop-prefix-preserved c =
     record {
       taken = is_taken (λ (b : Best). b.path.prefix) (best c.args.resolver.now) c.args.known.now c.args.prefixes.now c.loop-prefix.prefix-index q c.loop-prefix-test.true c.prefix-item.is c.loop-prefix.changed c.loop-prefix.invariant.taken
           c.push.new.self c.in_ok-push.ensures.ok;
-      edits = is_edited (λ (b : Best). b.path.prefix) (best c.args.resolver.now) c.args.known.now c.args.prefixes.now q c.in_ok-value.value c.loop-prefix.changed c.push.new.self c.loop-prefix.edits.items c.push_back.new.self.items
-          (c.in_ok-value.ensures ∙ is_best) c.in_ok-push.ensures.ok c.in_ok-push_back.ensures.items c.loop-prefix.invariant.edits;
+      edits = is_edited (λ (b : Best). b.path.prefix) (best c.args.resolver.now) c.args.known.now c.args.prefixes.now q c.in_ok-best.best c.loop-prefix.changed c.push.new.self c.loop-prefix.edits.items c.push_back.new.self.items
+          is_best c.in_ok-push.ensures.ok c.in_ok-push_back.ensures.items c.loop-prefix.invariant.edits;
       same = c.in_ok-best.ensures.same ∙ c.loop-prefix.invariant.same;
       finder = c.at.ensures.same ∙ c.loop-prefix.invariant.finder;
       senders = c.in_ok-best.ensures.same_senders ∙ c.loop-prefix.invariant.senders;
