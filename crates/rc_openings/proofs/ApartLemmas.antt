@@ -154,7 +154,7 @@ first_is row best rows line member fits first most = record { member = member; f
     all other (zero, lt, here) ok = subst (λ y. length y.words ≤ length best.words) here (first (subst (λ y. begins_with line y.words ≡ true) (sym here) ok))
     all other (suc k, lt, here) ok = most other (k, omega arith, here) ok
 
-later_member : (row : Row) (rows : List Row) (r : Row) → Contains rows r → Contains (row ∷ rows) r
+pub later_member : (row : Row) (rows : List Row) (r : Row) → Contains rows r → Contains (row ∷ rows) r
 later_member row rows r (k, lt, here) = (suc k, omega arith, here)
 
 -- what the computed row is

@@ -1,5 +1,5 @@
 -- The openings that a line finds in a table are all with which it begins.
-use Rattle.std.proofs.Common.{◌≡◌, ℕ, suc, zero, ◌+◌, ◌-◌, ◌<◌, ◌≤◌, add-one, Bool, true, false, ◌||◌, ◌&&◌, cond, List, [], ◌∷◌, ◌++◌, length, map, take, drop, arith, refl, sym, ◌∙◌, ap, inl, inr, Option, Some, None}
+use Rattle.std.proofs.Common.{◌≡◌, ℕ, suc, zero, ◌+◌, ◌-◌, ◌<◌, ◌≤◌, add-one, Bool, true, false, ◌||◌, ◌&&◌, cond, List, [], ◌∷◌, ◌++◌, length, map, take, drop, arith, refl, sym, ◌∙◌, ap, subst, inl, inr, Option, Some, None}
 use borrow.Author.Tests.{ltb-true}
 use Rattle.std.specs.Prelude.{nat_eq, nat_lt, slice_index_or, Contains}
 use Rattle.std.specs.List.{filter, flat_map, list_all, list_any}
@@ -10,10 +10,11 @@ use Rattle.std.proofs.lemmas.List.{take_at, take-map, drop_at, drop-drop}
 use Rattle.std.proofs.lemmas.List.Elements.{All-contains_itself, All-filter, All-contains, Contains-append_left, Contains-append_right, Contains-append_cases}
 use Rattle.std.proofs.lemmas.List.Folds.{list_any_at, list_any-append}
 use Rattle.rc_openings.specs.declared.table.Index.{Index}
+use Rattle.rc_openings.specs.declared.table.Longer.{Longer}
 use Rattle.rc_openings.specs.declared.table.Table.{Table}
-use Rattle.rc_openings.specs.Groups.{groups, starts_from, is_letter, letters, letters_from, keyed, is_placed, IsIndex, one_word, starred, more_words, is_of_three, IsTable}
+use Rattle.rc_openings.specs.Groups.{AreLonger, is_one_of, groups, starts_from, is_letter, letters, letters_from, keyed, is_placed, IsIndex, one_word, starred, more_words, is_of_three, IsTable}
 use Rattle.rc_openings.specs.Opening.{Row, row_of, stands_for, begins_with, begins_form, is_form_verdict, IsAnswer}
-use Rattle.rc_openings.specs.Words.{first_byte, second_byte}
+use Rattle.rc_openings.specs.Words.{first_byte, byte_behind}
 use Rattle.rc_openings.proofs.ApartLemmas.{at_element}
 
 -- what a filter leaves, and what it keeps
@@ -43,49 +44,59 @@ first_agrees ((c ∷ cs) ∷ ws) ((d ∷ ds) ∷ vs) g h = same (bytes_eq cs [])
     same : (x y z : Bool) → nat_eq c 42 ≡ false → (((nat_eq c 42 && x) || (nat_eq c d && y)) && z) ≡ true → nat_eq c d ≡ true
     same x y z star h = (and_parts (nat_eq c d) y (and_parts (nat_eq c d && y) z (rw star at h)).0).0
 
-second_agrees : (words line : List (List ℕ)) → nat_lt 42 (second_byte words) ≡ true → begins_with line words ≡ true → nat_eq (second_byte words) (second_byte line) ≡ true
-second_agrees [] line g h = absurd (false≢true g)
-second_agrees (w ∷ ws) [] g h = absurd (false≢true h)
-second_agrees (w ∷ ws) (v ∷ vs) g h = first_agrees ws vs g (and_parts (stands_for w v) (begins_with vs ws) h).1
+agrees_behind : (count : ℕ) (words line : List (List ℕ)) → nat_lt 42 (byte_behind count words) ≡ true → begins_with line words ≡ true → nat_eq (byte_behind count words) (byte_behind count line) ≡ true
+agrees_behind zero words line g h = first_agrees words line g h
+agrees_behind (suc n) [] line g h = absurd (false≢true g)
+agrees_behind (suc n) (w ∷ ws) [] g h = absurd (false≢true h)
+agrees_behind (suc n) (w ∷ ws) (v ∷ vs) g h = agrees_behind n ws vs g (and_parts (stands_for w v) (begins_with vs ws) h).1
 
 -- the group of a line's key has all rows of an index with which the line begins
-in_group : (key : List (List ℕ) → ℕ) → ((words line : List (List ℕ)) → nat_lt 42 (key words) ≡ true → begins_with line words ≡ true → nat_eq (key words) (key line) ≡ true)
-    → (rows : List Row) (line : List (List ℕ)) (r : Row) → list_all (is_placed key) rows ≡ true → Contains rows r → begins_with line r.words ≡ true → Contains (keyed key (key line) rows) r
-in_group key agrees rows line r placed there fits =
+in_group : (count : ℕ) (rows : List Row) (line : List (List ℕ)) (r : Row) → list_all (is_placed (byte_behind count)) rows ≡ true → Contains rows r → begins_with line r.words ≡ true
+    → Contains (keyed (byte_behind count) (byte_behind count line) rows) r
+in_group count rows line r placed there fits =
+    let key = byte_behind count in
     let own = and_parts (nat_lt 42 (key r.words)) (is_letter (key r.words)) (at_element (is_placed key) rows r placed there.0 there.1 there.2) in
-    to_filter (λ x. nat_eq (key x.words) (key line)) rows r (agrees r.words line own.0 fits) there
+    to_filter (λ x. nat_eq (key x.words) (key line)) rows r (agrees_behind count r.words line own.0 fits) there
+
+-- the rows that a line finds by the word behind so many
+abbrev pub group : ℕ → List (List ℕ) → List Row → List Row
+group count line rows = keyed (byte_behind count) (byte_behind count line) rows
 
 -- what a line finds in a table
 abbrev pub found : List Row → List (List ℕ) → List Row
-found rows line = keyed first_byte (first_byte line) (one_word rows) ++ starred rows ++ keyed second_byte (second_byte line) (more_words rows)
+found rows line = group 0 line (one_word rows) ++ group 2 line (starred rows) ++ group 1 line (more_words rows)
 
 found_in : (rows : List Row) (line : List (List ℕ)) (r : Row) → Contains (found rows line) r → Contains rows r
 found_in rows line r h =
-    let ones = keyed first_byte (first_byte line) (one_word rows) in
-    let more = keyed second_byte (second_byte line) (more_words rows) in
-    elim (Contains-append_cases (ones ++ starred rows) more r h) [
-      | inl front ↦ elim (Contains-append_cases ones (starred rows) r front) [
-        | inl one ↦ from_filter (λ x. nat_eq (second_byte x.words) 0) rows r (from_filter (λ x. nat_eq (first_byte x.words) (first_byte line)) (one_word rows) r one)
-        | inr star ↦ from_filter (λ x. nat_eq (second_byte x.words) 42) rows r star
+    let ones = group 0 line (one_word rows) in
+    let stars = group 2 line (starred rows) in
+    let more = group 1 line (more_words rows) in
+    elim (Contains-append_cases (ones ++ stars) more r h) [
+      | inl front ↦ elim (Contains-append_cases ones stars r front) [
+        | inl one ↦ from_filter (λ x. nat_eq (byte_behind 1 x.words) 0) rows r (from_filter (λ x. nat_eq (byte_behind 0 x.words) (byte_behind 0 line)) (one_word rows) r one)
+        | inr star ↦ from_filter (λ x. nat_eq (byte_behind 1 x.words) 42) rows r (from_filter (λ x. nat_eq (byte_behind 2 x.words) (byte_behind 2 line)) (starred rows) r star)
       ]
-      | inr last ↦ from_filter (λ x. nat_lt 42 (second_byte x.words)) rows r (from_filter (λ x. nat_eq (second_byte x.words) (second_byte line)) (more_words rows) r last)
+      | inr last ↦ from_filter (λ x. nat_lt 42 (byte_behind 1 x.words)) rows r (from_filter (λ x. nat_eq (byte_behind 1 x.words) (byte_behind 1 line)) (more_words rows) r last)
     ]
 
 found_all : (table : Table) (rows : List Row) (line : List (List ℕ)) (r : Row) → IsTable table rows → Contains rows r → begins_with line r.words ≡ true → Contains (found rows line) r
 found_all table rows line r h there fits =
-    let ones = keyed first_byte (first_byte line) (one_word rows) in
-    let more = keyed second_byte (second_byte line) (more_words rows) in
-    let b = second_byte r.words in
+    let ones = group 0 line (one_word rows) in
+    let stars = group 2 line (starred rows) in
+    let more = group 1 line (more_words rows) in
+    let b = byte_behind 1 r.words in
     elim (or_cases (nat_eq b 0 || nat_eq b 42) (nat_lt 42 b) (at_element is_of_three rows r h.three there.0 there.1 there.2)) [
       | inl few ↦ elim (or_cases (nat_eq b 0) (nat_eq b 42) few) [
         | inl none ↦
-            let one = in_group first_byte first_agrees (one_word rows) line r h.one_word.placed (to_filter (λ x. nat_eq (second_byte x.words) 0) rows r none there) fits in
-            Contains-append_left (ones ++ starred rows) more r (Contains-append_left ones (starred rows) r one)
-        | inr star ↦ Contains-append_left (ones ++ starred rows) more r (Contains-append_right ones (starred rows) r (to_filter (λ x. nat_eq (second_byte x.words) 42) rows r star there))
+            let one = in_group 0 (one_word rows) line r h.one_word.placed (to_filter (λ x. nat_eq (byte_behind 1 x.words) 0) rows r none there) fits in
+            Contains-append_left (ones ++ stars) more r (Contains-append_left ones stars r one)
+        | inr star ↦
+            let starry = in_group 2 (starred rows) line r h.starred.index.placed (to_filter (λ x. nat_eq (byte_behind 1 x.words) 42) rows r star there) fits in
+            Contains-append_left (ones ++ stars) more r (Contains-append_right ones stars r starry)
       ]
       | inr own ↦
-          let last = in_group second_byte second_agrees (more_words rows) line r h.more_words.placed (to_filter (λ x. nat_lt 42 (second_byte x.words)) rows r own there) fits in
-          Contains-append_right (ones ++ starred rows) more r last
+          let last = in_group 1 (more_words rows) line r h.more_words.index.placed (to_filter (λ x. nat_lt 42 (byte_behind 1 x.words)) rows r own there) fits in
+          Contains-append_right (ones ++ stars) more r last
     ]
 
 -- the decisive row of what the line finds is that of all rows
@@ -100,6 +111,42 @@ answer_of_found table rows line (Some best) h was = record {
   fits = was.fits;
   most = λ other there ok. was.most other (found_all table rows line other h there ok) ok;
 }
+
+-- where the line begins with no further row, the answer stays
+stays : (rows more : List Row) (line : List (List ℕ)) (best : Option Row) → ((r : Row) → Contains more r → begins_with line r.words ≡ true → ⊥) → IsAnswer rows line best → IsAnswer (rows ++ more) line best
+stays rows more line None never none = λ r there. by r there (begins_with line r.words) refl
+  where
+    by : (r : Row) → Contains (rows ++ more) r → (v : Bool) → begins_with line r.words ≡ v → begins_with line r.words ≡ false
+    by r there false e = e
+    by r there true e = elim (Contains-append_cases rows more r there) [ inl h ↦ none r h | inr h ↦ absurd (never r h e) ]
+stays rows more line (Some best) never was = record {
+  member = Contains-append_left rows more best was.member;
+  fits = was.fits;
+  most = λ other there ok. elim (Contains-append_cases rows more other there) [ inl h ↦ was.most other h ok | inr h ↦ absurd (never other h ok) ];
+}
+
+pub no_front : (count : ℕ) (longer : Longer) (rows found : List Row) (line : List (List ℕ)) (best : Option Row) → AreLonger count longer rows → is_one_of longer.fronts.now (byte_behind 0 line) ≡ false
+    → IsAnswer found line best → IsAnswer (found ++ group count line rows) line best
+no_front count longer rows found line best h other was = stays found (group count line rows) line best none was
+  where
+    none : (r : Row) → Contains (group count line rows) r → begins_with line r.words ≡ true → ⊥
+    none r there fits =
+        let own = from_filter (λ x. nat_eq (byte_behind count x.words) (byte_behind count line)) rows r there in
+        let test = λ (x : Row). nat_lt 42 (byte_behind 0 x.words) && is_one_of longer.fronts.now (byte_behind 0 x.words) in
+        let front = and_parts (nat_lt 42 (byte_behind 0 r.words)) (is_one_of longer.fronts.now (byte_behind 0 r.words)) (at_element test rows r h.fronts own.0 own.1 own.2) in
+        let same : byte_behind 0 r.words ≡ byte_behind 0 line = eqb-true (byte_behind 0 r.words) (byte_behind 0 line) (first_agrees r.words line front.0 fits) in
+        false≢true (sym other ∙ subst (λ b. is_one_of longer.fronts.now b ≡ true) same front.1)
+
+-- what holds of all rows holds of those that a filter leaves
+pub all_left : (p q : Row → Bool) (rows : List Row) → list_all p rows ≡ true → list_all p (filter q rows) ≡ true
+all_left p q [] h = h
+all_left p q (x ∷ rows) h =
+    let parts = and_parts (p x) (list_all p rows) h in
+    by parts.0 (q x) (all_left p q rows parts.1)
+  where
+    by : p x ≡ true → (v : Bool) → list_all p (filter q rows) ≡ true → list_all p (cond v (x ∷ filter q rows) (filter q rows)) ≡ true
+    by one true e = rw one e
+    by one false e = e
 
 -- an element that passes, and a test that some element passes
 some_of : (q : Row → Bool) (rows : List Row) → list_any q rows ≡ true → (r : Row) × Contains rows r × (q r ≡ true)
@@ -119,12 +166,13 @@ same_test false false f g = refl
 
 -- a form opening that the line finds is one of all rows
 pub form_of_found : (table : Table) (rows : List Row) (line : List (List ℕ)) → IsTable table rows
-    → (begins_form (keyed first_byte (first_byte line) (one_word rows)) line || begins_form (starred rows) line || begins_form (keyed second_byte (second_byte line) (more_words rows)) line) ≡ begins_form rows line
+    → (begins_form (group 0 line (one_word rows)) line || begins_form (group 2 line (starred rows)) line || begins_form (group 1 line (more_words rows)) line) ≡ begins_form rows line
 form_of_found table rows line h =
     let q = λ (r : Row). is_form_verdict r.verdict && begins_with line r.words in
-    let ones = keyed first_byte (first_byte line) (one_word rows) in
-    let more = keyed second_byte (second_byte line) (more_words rows) in
-    let joined : list_any q (found rows line) ≡ (list_any q ones || list_any q (starred rows) || list_any q more) = rw (list_any-append q (ones ++ starred rows) more, list_any-append q ones (starred rows)) refl in
+    let ones = group 0 line (one_word rows) in
+    let stars = group 2 line (starred rows) in
+    let more = group 1 line (more_words rows) in
+    let joined : list_any q (found rows line) ≡ (list_any q ones || list_any q stars || list_any q more) = rw (list_any-append q (ones ++ stars) more, list_any-append q ones stars) refl in
     sym joined ∙ same_test (list_any q (found rows line)) (list_any q rows)
     (λ e. let p = some_of q (found rows line) e in any_of q rows p.0 (found_in rows line p.0 p.1) p.2)
     (λ e. let p = some_of q rows e in any_of q (found rows line) p.0 (found_all table rows line p.0 h p.1 (and_parts (is_form_verdict p.0.verdict) (begins_with line p.0.words) p.2).1) p.2)

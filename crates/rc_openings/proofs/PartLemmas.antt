@@ -1,6 +1,6 @@
 -- What a glance at the texts of an opening and of a line tells of their words.
 use borrow.Author.Tests.{ltb-true}
-use Rattle.std.proofs.Common.{◌≡◌, ℕ, suc, ◌<◌, arith, Bool, true, false, ◌||◌, ◌&&◌, cond, List, [], ◌∷◌, ◌++◌, append-nil, ap, length, take, drop, Some, refl, sym, ◌∙◌, subst, add-one}
+use Rattle.std.proofs.Common.{◌≡◌, ℕ, suc, ◌<◌, arith, Bool, true, false, ◌||◌, ◌&&◌, cond, List, [], ◌∷◌, ◌++◌, append-nil, ap, length, take, drop, Some, None, is_some, unwrap_or, refl, sym, ◌∙◌, subst, add-one}
 use Rattle.std.specs.Prelude.{nat_eq, nat_lt, codes}
 use Rattle.std.specs.Str.{bytes_eq}
 use Rattle.std.specs.List.{slice_split, filter, onto_first}
@@ -12,7 +12,7 @@ use Rattle.std.proofs.Math.Bool.{and-false}
 use Rattle.std.proofs.lemmas.Bool.{false≢true, eqb-true, ne_eqb, and_parts}
 use Rattle.std.proofs.lemmas.Bool.Decides.{nat_tests}
 use Rattle.rc_openings.specs.Words.{words_of, is_blank, has_bytes, ends_word}
-use Rattle.rc_openings.specs.Opening.{begins_with, stands_for, first_difference, told_by, glance}
+use Rattle.rc_openings.specs.Opening.{begins_with, stands_for, first_difference, told_by, glance, left_behind}
 use Rattle.rc_openings.specs.declared.opening.Glance.{Glance}
 use Rattle.rc_openings.specs.declared.opening.Glance.TheVariants.{Begins, Differs, Unclear}
 use Rattle.rc_openings.proofs.WordsLemmas.{words-blank, front_word, first_piece}
@@ -185,6 +185,27 @@ words-append s [] h = rw (append-nil s, append-nil (filter has_bytes (slice_spli
 words-append s (b ∷ bs) h =
     ap (filter has_bytes) (pieces-append s b bs h) ∙ filter-append has_bytes (slice_split is_blank s) (slice_split is_blank bs)
     ∙ ap (λ ws. words_of s ++ ws) (sym (words-blank b bs h))
+
+drop-front : {X : Type 0} (xs ys : List X) → drop (length xs) (xs ++ ys) ≡ ys
+drop-front [] ys = refl
+drop-front (x ∷ xs) ys = drop-front xs ys
+
+left-there : (front text rest : List ℕ) → left_behind front text ≡ Some rest → text ≡ front ++ rest
+left-there [] text rest h = some_same text rest h
+  where
+    some_same : (s r : List ℕ) → Some s ≡ Some r → s ≡ r
+    some_same s r e = ap (λ o. unwrap_or o []) e
+left-there (a ∷ as') [] rest h = absurd (false≢true (ap is_some h))
+left-there (a ∷ as') (b ∷ bs) rest h = by (nat_eq a b) refl (left-there as' bs rest) h
+  where
+    by : (v : Bool) → nat_eq a b ≡ v → (left_behind as' bs ≡ Some rest → bs ≡ as' ++ rest) → cond v (left_behind as' bs) None ≡ Some rest → b ∷ bs ≡ a ∷ (as' ++ rest)
+    by true e later g = rw (eqb-true a b e) (ap (λ s. b ∷ s) (later g))
+    by false e later g = absurd (false≢true (ap is_some g))
+
+-- the words behind those of a front, where a word ends behind it
+pub words_behind : (front text rest : List ℕ) → left_behind front text ≡ Some rest → ends_word rest ≡ true → words_of rest ≡ drop (length (words_of front)) (words_of text)
+words_behind front text rest h ends =
+    rw (left-there front text rest h, words-append front rest ends) (sym (drop-front (words_of front) (words_of rest)))
 
 begins-front : (ws vs : List (List ℕ)) → begins_with (ws ++ vs) ws ≡ true
 begins-front [] vs = refl

@@ -60,6 +60,12 @@ told_by (Some (a, b)) = if nat_lt 42 a && nat_lt 32 b then Differs else Unclear
 abbrev pub glance : List ℕ → List ℕ → Glance
 glance opening line = if begins_text line opening then Begins else told_by (first_difference opening line)
 
+-- what is left of a text behind another one with which it begins
+abbrev pub left_behind : List ℕ → List ℕ → Option (List ℕ)
+left_behind [] text = Some text
+left_behind (a ∷ as') [] = None
+left_behind (a ∷ as') (b ∷ bs) = if nat_eq a b then left_behind as' bs else None
+
 -- of the rows with which the line begins, this one has the most words
 pub record IsDecisive (rows : List Row) (line : List (List ℕ)) (row : Row) : Type 0 where
   pub member : Contains rows row

@@ -1,5 +1,5 @@
 -- The words of a line: what stands between blanks.
-use Rattle.std.specs.Prelude.{ℕ, Bool, true, false, ◌||◌, nat_eq, List, [], ◌∷◌}
+use Rattle.std.specs.Prelude.{ℕ, Bool, true, false, ◌||◌, nat_eq, List, [], ◌∷◌, drop}
 use Rattle.std.specs.List.{slice_split, filter}
 use Rattle.rc_openings.specs.declared.words.Words.{Words}
 
@@ -39,7 +39,6 @@ first_byte ((b ∷ bs) ∷ ws) = b
 first_byte ([] ∷ ws) = 0
 first_byte [] = 0
 
--- the first byte of the second word
-abbrev pub second_byte : List (List ℕ) → ℕ
-second_byte [] = 0
-second_byte (w ∷ ws) = first_byte ws
+-- the first byte of the word behind so many
+abbrev pub byte_behind : ℕ → List (List ℕ) → ℕ
+byte_behind count ws = first_byte (drop count ws)

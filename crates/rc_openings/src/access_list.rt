@@ -2,7 +2,7 @@
 ghost use Rattle.rc_openings.specs.Groups.{IsTable};
 ghost use Rattle.rc_openings.specs.AccessListOpenings.{access_list};
 
-use crate::table::{Index, Table, before, count, each_start, one, openings, starts};
+use crate::table::{Index, NONE_LONGER, Table, before, count, each_start, one, openings, starts};
 use crate::{AccessListForm, Form, Opening, Verdict};
 
 /// The openings of one word, by its first letter.
@@ -33,8 +33,6 @@ static ONE_WORD: [Opening; ONE_WORD_COUNT] = one_word!(openings);
 
 static ONE_WORD_STARTS: [u8; 59] = one_word!(starts);
 
-static NO_STARTS: [u8; 59] = [0; 59];
-
 pub(crate) fn access_list_table() -> Table
     ensures { IsTable result access_list }
 {
@@ -43,10 +41,7 @@ pub(crate) fn access_list_table() -> Table
             openings: &ONE_WORD,
             starts: &ONE_WORD_STARTS,
         },
-        more_words: Index {
-            openings: &[],
-            starts: &NO_STARTS,
-        },
-        starred: &[],
+        more_words: NONE_LONGER,
+        starred: NONE_LONGER,
     }
 }

@@ -2,7 +2,7 @@
 ghost use Rattle.rc_openings.specs.Groups.{IsTable};
 ghost use Rattle.rc_openings.specs.BgpOpenings.{bgp};
 
-use crate::table::{Index, Table, before, count, each_start, one, openings, starts};
+use crate::table::{Index, Longer, Table, before, count, each_start, one, openings, starts};
 use crate::{BgpForm, Form, Opening, Verdict};
 
 /// The openings of one word, by its first letter.
@@ -105,84 +105,62 @@ static MORE_WORDS: [Opening; MORE_WORDS_COUNT] = more_words!(openings);
 
 static MORE_WORDS_STARTS: [u8; 59] = more_words!(starts);
 
-static STARRED: [Opening; 19] = [
-    Opening {
-        text: b"neighbor * remote-as",
-        verdict: Verdict::Form(Form::Bgp(BgpForm::NeighborRemoteAs)),
-    },
-    Opening {
-        text: b"neighbor * update-source",
-        verdict: Verdict::Form(Form::Bgp(BgpForm::NeighborUpdateSource)),
-    },
-    Opening {
-        text: b"neighbor * ebgp-multihop",
-        verdict: Verdict::Form(Form::Bgp(BgpForm::NeighborEbgpMultihop)),
-    },
-    Opening {
-        text: b"neighbor * next-hop-self",
-        verdict: Verdict::Form(Form::Bgp(BgpForm::NeighborNextHopSelf)),
-    },
-    Opening {
-        text: b"neighbor * shutdown",
-        verdict: Verdict::Form(Form::Bgp(BgpForm::NeighborShutdown)),
-    },
-    Opening {
-        text: b"neighbor * default-originate",
-        verdict: Verdict::Form(Form::Bgp(BgpForm::NeighborDefaultOriginate)),
-    },
-    Opening {
-        text: b"neighbor * activate",
-        verdict: Verdict::Form(Form::Bgp(BgpForm::NeighborActivate)),
-    },
-    Opening {
-        text: b"neighbor * send-community",
-        verdict: Verdict::Form(Form::Bgp(BgpForm::NeighborSendCommunity)),
-    },
-    Opening {
-        text: b"neighbor * route-map",
-        verdict: Verdict::Form(Form::Bgp(BgpForm::NeighborRouteMap)),
-    },
-    Opening {
-        text: b"neighbor * prefix-list",
-        verdict: Verdict::Form(Form::Bgp(BgpForm::NeighborPrefixList)),
-    },
-    Opening {
-        text: b"neighbor * weight",
-        verdict: Verdict::Form(Form::Bgp(BgpForm::NeighborWeight)),
-    },
-    Opening {
-        text: b"neighbor * peer-group",
-        verdict: Verdict::Form(Form::Bgp(BgpForm::NeighborPeerGroup)),
-    },
-    Opening {
-        text: b"neighbor * description",
-        verdict: Verdict::Ignored,
-    },
-    Opening {
-        text: b"neighbor * timers",
-        verdict: Verdict::Ignored,
-    },
-    Opening {
-        text: b"neighbor * password",
-        verdict: Verdict::Ignored,
-    },
-    Opening {
-        text: b"neighbor * version",
-        verdict: Verdict::Ignored,
-    },
-    Opening {
-        text: b"neighbor * soft-reconfiguration",
-        verdict: Verdict::Ignored,
-    },
-    Opening {
-        text: b"neighbor * fall-over",
-        verdict: Verdict::Ignored,
-    },
-    Opening {
-        text: b"neighbor * advertisement-interval",
-        verdict: Verdict::Ignored,
-    },
-];
+/// The openings whose second word is `*`, by the first letter of the third one.
+macro_rules! starred {
+    ($make:ident) => {
+        $make! {
+            b'a' {
+                b"neighbor * activate" => Verdict::Form(Form::Bgp(BgpForm::NeighborActivate)),
+                b"neighbor * advertisement-interval" => Verdict::Ignored,
+            }
+            b'd' {
+                b"neighbor * default-originate" => Verdict::Form(Form::Bgp(BgpForm::NeighborDefaultOriginate)),
+                b"neighbor * description" => Verdict::Ignored,
+            }
+            b'e' {
+                b"neighbor * ebgp-multihop" => Verdict::Form(Form::Bgp(BgpForm::NeighborEbgpMultihop)),
+            }
+            b'f' {
+                b"neighbor * fall-over" => Verdict::Ignored,
+            }
+            b'n' {
+                b"neighbor * next-hop-self" => Verdict::Form(Form::Bgp(BgpForm::NeighborNextHopSelf)),
+            }
+            b'p' {
+                b"neighbor * prefix-list" => Verdict::Form(Form::Bgp(BgpForm::NeighborPrefixList)),
+                b"neighbor * peer-group" => Verdict::Form(Form::Bgp(BgpForm::NeighborPeerGroup)),
+                b"neighbor * password" => Verdict::Ignored,
+            }
+            b'r' {
+                b"neighbor * remote-as" => Verdict::Form(Form::Bgp(BgpForm::NeighborRemoteAs)),
+                b"neighbor * route-map" => Verdict::Form(Form::Bgp(BgpForm::NeighborRouteMap)),
+            }
+            b's' {
+                b"neighbor * shutdown" => Verdict::Form(Form::Bgp(BgpForm::NeighborShutdown)),
+                b"neighbor * send-community" => Verdict::Form(Form::Bgp(BgpForm::NeighborSendCommunity)),
+                b"neighbor * soft-reconfiguration" => Verdict::Ignored,
+            }
+            b't' {
+                b"neighbor * timers" => Verdict::Ignored,
+            }
+            b'u' {
+                b"neighbor * update-source" => Verdict::Form(Form::Bgp(BgpForm::NeighborUpdateSource)),
+            }
+            b'v' {
+                b"neighbor * version" => Verdict::Ignored,
+            }
+            b'w' {
+                b"neighbor * weight" => Verdict::Form(Form::Bgp(BgpForm::NeighborWeight)),
+            }
+        }
+    };
+}
+
+const STARRED_COUNT: usize = starred!(count);
+
+static STARRED: [Opening; STARRED_COUNT] = starred!(openings);
+
+static STARRED_STARTS: [u8; 59] = starred!(starts);
 
 pub(crate) fn bgp_table() -> Table
     ensures { IsTable result bgp }
@@ -192,10 +170,19 @@ pub(crate) fn bgp_table() -> Table
             openings: &ONE_WORD,
             starts: &ONE_WORD_STARTS,
         },
-        more_words: Index {
-            openings: &MORE_WORDS,
-            starts: &MORE_WORDS_STARTS,
+        more_words: Longer {
+            fronts: b"abnrm",
+            index: Index {
+                openings: &MORE_WORDS,
+                starts: &MORE_WORDS_STARTS,
+            },
         },
-        starred: &STARRED,
+        starred: Longer {
+            fronts: b"n",
+            index: Index {
+                openings: &STARRED,
+                starts: &STARRED_STARTS,
+            },
+        },
     }
 }

@@ -1,6 +1,8 @@
 //! The opening that decides a line.
-ghost use Rattle.std.specs.Prelude.{◌≡◌, List, [], ◌∷◌, ◌++◌, length, map, nat_lt};
+ghost use Rattle.std.specs.Prelude.{◌≡◌, true, List, [], ◌∷◌, ◌++◌, length, map, nat_lt};
+ghost use Rattle.std.specs.List.{list_all};
 ghost use Rattle.std.specs.Option.{option_copied, option_map};
+ghost use Rattle.rc_openings.specs.Groups.{has_one_word};
 ghost use Rattle.rc_openings.specs.Words.{words_left, words_of};
 ghost use Rattle.rc_openings.specs.Opening.{begins_with as begins, begins_form as begins_form_of, IsAnswer, Row, row_of};
 
@@ -76,6 +78,18 @@ pub(crate) fn decisive_from<'a>(
         decided = better(decided, opening, text);
     }
     decided
+}
+
+/// The first of some openings with which a line of this text begins: where each has one word, it is the decisive one.
+pub(crate) fn first_fitting<'a>(openings: &'a [Opening], text: &[u8]) -> Option<&'a Opening>
+    ensures { list_all has_one_word (map row_of openings.entry.now) ≡ true → IsAnswer (map row_of openings.entry.now) (words_of text.now) (option_map row_of (option_copied result)) }
+{
+    for opening in openings {
+        if begins_opening(opening, text) {
+            return Some(opening);
+        }
+    }
+    None
 }
 
 /// The opening that is lent.

@@ -2,7 +2,9 @@
 ghost use Rattle.rc_openings.specs.Groups.{IsTable};
 ghost use Rattle.rc_openings.specs.GlobalOpenings.{global};
 
-use crate::table::{Index, Table, before, count, each_start, one, openings, starts};
+use crate::table::{
+    Index, Longer, NONE_LONGER, Table, before, count, each_start, one, openings, starts,
+};
 use crate::{AccessListForm, BgpForm, Form, GeneralForm, Opening, OspfForm, PolicyForm, Verdict};
 
 /// The openings of one word, by its first letter.
@@ -270,10 +272,13 @@ pub(crate) fn global_table() -> Table
             openings: &ONE_WORD,
             starts: &ONE_WORD_STARTS,
         },
-        more_words: Index {
-            openings: &MORE_WORDS,
-            starts: &MORE_WORDS_STARTS,
+        more_words: Longer {
+            fronts: b"inr",
+            index: Index {
+                openings: &MORE_WORDS,
+                starts: &MORE_WORDS_STARTS,
+            },
         },
-        starred: &[],
+        starred: NONE_LONGER,
     }
 }

@@ -1,7 +1,8 @@
 //! An opening, and what it says of a line.
 ghost use Rattle.std.specs.Prelude.{◌≡◌, true, false, [], Some, length, drop};
-ghost use Rattle.rc_openings.specs.Words.{words_of, words_left};
-ghost use Rattle.rc_openings.specs.Opening.{begins_with, told_by, glance, is_form_verdict};
+ghost use Rattle.std.specs.Option.{option_map};
+ghost use Rattle.rc_openings.specs.Words.{words_of, words_left, ends_word as ends};
+ghost use Rattle.rc_openings.specs.Opening.{begins_with, told_by, glance, left_behind, is_form_verdict};
 
 use crate::words::is_blank;
 use crate::{Form, Words};
@@ -83,6 +84,35 @@ fn compared(opening: &[u8], line: &[u8]) -> Glance
     at_end(word)
 }
 
+/// Whether a word ends where this is left of a text.
+fn ends_word(rest: &[u8]) -> bool
+    ensures { result ≡ ends rest.now }
+{
+    match rest {
+        [byte, ..] => is_blank(*byte),
+        [] => true,
+    }
+}
+
+/// What is left of a text behind another one with which it begins.
+fn left_behind<'a>(front: &[u8], text: &'a [u8]) -> Option<&'a [u8]>
+    ensures { option_map (λ rest. rest.now) result ≡ left_behind front.now text.entry.now }
+{
+    let mut token = front;
+    let mut word = text;
+    while let [byte, token_rest @ ..] = token {
+        let [other, word_rest @ ..] = word else {
+            return None;
+        };
+        if *byte != *other {
+            return None;
+        }
+        token = token_rest;
+        word = word_rest;
+    }
+    Some(word)
+}
+
 impl Opening {
     /// Its words.
     pub fn words(&self) -> Words<'static>
@@ -91,8 +121,22 @@ impl Opening {
         Words::new(self.text)
     }
 
-    /// The words of a line behind as many as the opening has.
+    /// The words of a line behind as many as the opening has: mostly its text begins with that of the opening.
     pub fn behind<'a>(&self, line: Words<'a>) -> Words<'a>
+        ensures { words_left result ≡ drop (length (words_of self.now.text.now)) (words_left line.entry) }
+    {
+        let Some(rest) = left_behind(self.text, line.text()) else {
+            return self.behind_words(line);
+        };
+        if ends_word(rest) {
+            Words::new(rest)
+        } else {
+            self.behind_words(line)
+        }
+    }
+
+    /// The same, word by word.
+    fn behind_words<'a>(&self, line: Words<'a>) -> Words<'a>
         ensures { words_left result ≡ drop (length (words_of self.now.text.now)) (words_left line.entry) }
     {
         let mut rest = line;

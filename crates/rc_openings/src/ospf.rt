@@ -2,7 +2,7 @@
 ghost use Rattle.rc_openings.specs.Groups.{IsTable};
 ghost use Rattle.rc_openings.specs.OspfOpenings.{ospf};
 
-use crate::table::{Index, Table, before, count, each_start, one, openings, starts};
+use crate::table::{Index, Longer, Table, before, count, each_start, one, openings, starts};
 use crate::{Form, Opening, OspfForm, Verdict};
 
 /// The openings of one word, by its first letter.
@@ -99,10 +99,22 @@ static MORE_WORDS: [Opening; MORE_WORDS_COUNT] = more_words!(openings);
 
 static MORE_WORDS_STARTS: [u8; 59] = more_words!(starts);
 
-static STARRED: [Opening; 1] = [Opening {
-    text: b"area * stub",
-    verdict: Verdict::Form(Form::Ospf(OspfForm::StubArea)),
-}];
+/// The openings whose second word is `*`, by the first letter of the third one.
+macro_rules! starred {
+    ($make:ident) => {
+        $make! {
+            b's' {
+                b"area * stub" => Verdict::Form(Form::Ospf(OspfForm::StubArea)),
+            }
+        }
+    };
+}
+
+const STARRED_COUNT: usize = starred!(count);
+
+static STARRED: [Opening; STARRED_COUNT] = starred!(openings);
+
+static STARRED_STARTS: [u8; 59] = starred!(starts);
 
 pub(crate) fn ospf_table() -> Table
     ensures { IsTable result ospf }
@@ -112,10 +124,19 @@ pub(crate) fn ospf_table() -> Table
             openings: &ONE_WORD,
             starts: &ONE_WORD_STARTS,
         },
-        more_words: Index {
-            openings: &MORE_WORDS,
-            starts: &MORE_WORDS_STARTS,
+        more_words: Longer {
+            fronts: b"radnp",
+            index: Index {
+                openings: &MORE_WORDS,
+                starts: &MORE_WORDS_STARTS,
+            },
         },
-        starred: &STARRED,
+        starred: Longer {
+            fronts: b"a",
+            index: Index {
+                openings: &STARRED,
+                starts: &STARRED_STARTS,
+            },
+        },
     }
 }

@@ -2,7 +2,9 @@
 ghost use Rattle.rc_openings.specs.Groups.{IsTable};
 ghost use Rattle.rc_openings.specs.RouteMapOpenings.{route_map};
 
-use crate::table::{Index, Table, before, count, each_start, one, openings, starts};
+use crate::table::{
+    Index, Longer, NONE_LONGER, Table, before, count, each_start, one, openings, starts,
+};
 use crate::{Form, MapEntryForm, Opening, Verdict};
 
 /// The openings of one word, by its first letter.
@@ -86,10 +88,13 @@ pub(crate) fn route_map_table() -> Table
             openings: &ONE_WORD,
             starts: &ONE_WORD_STARTS,
         },
-        more_words: Index {
-            openings: &MORE_WORDS,
-            starts: &MORE_WORDS_STARTS,
+        more_words: Longer {
+            fronts: b"sm",
+            index: Index {
+                openings: &MORE_WORDS,
+                starts: &MORE_WORDS_STARTS,
+            },
         },
-        starred: &[],
+        starred: NONE_LONGER,
     }
 }

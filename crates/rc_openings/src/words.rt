@@ -1,7 +1,7 @@
 //! The words of a line.
 ghost use Rattle.std.specs.Prelude.{◌≡◌, ◌≤◌, false, List, [], ◌∷◌, length, drop, MatchOption};
 ghost use Rattle.std.specs.List.{position_or_len};
-ghost use Rattle.rc_openings.specs.Words.{words_of, words_left, first_byte, second_byte, is_blank as blank, is_none_left, starts_blank};
+ghost use Rattle.rc_openings.specs.Words.{words_of, words_left, first_byte, byte_behind, is_blank as blank, is_none_left, starts_blank};
 
 /// A cursor over the words of a text: what stands between blanks, which are space and tab.
 ///
@@ -97,13 +97,10 @@ impl<'a> Words<'a> {
         }
     }
 
-    /// The first byte of the word after the next, or 0 where there is none.
-    pub(crate) fn second_byte(mut self) -> u8
-        ensures { result ≡ second_byte (words_left self.entry) }
+    /// The first byte of the word behind so many, or 0 where there is none.
+    pub(crate) fn byte_behind(self, count: usize) -> u8
+        ensures { result ≡ byte_behind count (words_left self.entry) }
     {
-        match self.next_word() {
-            Some(_) => self.first_byte(),
-            None => 0,
-        }
+        self.skip(count).first_byte()
     }
 }
