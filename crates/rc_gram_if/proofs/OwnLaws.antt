@@ -1,9 +1,6 @@
 -- A command of this grammar is in range, and fits each file.
-use Rattle.std.specs.Prelude.{ℕ, Bool, true, false, List, Result, Ok, Err, IfOk, if◌then◌else◌}
-use Rattle.rc_openings.specs.Reading.{judged, share_a_word}
+use Rattle.std.specs.Prelude.{Result, Ok, Err, IfOk}
 use Rattle.rc_openings.specs.declared.reading.LineError.{LineError}
-use Rattle.rc_openings.specs.declared.reading.LineRefusal.{LineRefusal}
-use Rattle.rc_openings.specs.declared.reading.LineRefusal.TheVariants.{Unknown, Unsupported, BadValue, OutOfPlace}
 use Rattle.rc_config.specs.declared.command.Command.{Command}
 use Rattle.rc_config.specs.declared.command.Command.TheVariants.{Passed, Remark, Hostname, Interface, InterfaceLine, StaticRoute, ListLine, MapOpened, MapLine, OspfOpened, OspfLine, BgpOpened, BgpLine, FamilyOpened, OtherFamilyOpened, FamilyClosed}
 use Rattle.rc_config.specs.declared.router_text.RouterText.{RouterText}
@@ -53,18 +50,3 @@ own-range (Err e) h = h
 pub own-fits : (file : RouterText) (r : Result Command LineError) → IfOk r IsOwn → IfOk r (FitsFile file)
 own-fits file (Ok c) h = fits-of file c h
 own-fits file (Err e) h = h
-
-abbrev unfit : Bool → Result Command LineRefusal
-unfit is_refused = if is_refused then Err Unsupported else Err BadValue
-
-unfit-own : (is_refused : Bool) → IfOk (unfit is_refused) IsOwn
-unfit-own true = tt
-unfit-own false = tt
-
--- what is judged is a command only where the row is that one
-pub judged-own : (refused rest : List (List ℕ)) (said : Result Command LineRefusal) → IfOk said IsOwn → IfOk (judged refused rest said) IsOwn
-judged-own refused rest (Ok c) h = h
-judged-own refused rest (Err Unknown) h = h
-judged-own refused rest (Err Unsupported) h = h
-judged-own refused rest (Err OutOfPlace) h = h
-judged-own refused rest (Err BadValue) h = unfit-own (share_a_word rest refused)

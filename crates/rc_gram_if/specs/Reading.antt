@@ -1,13 +1,14 @@
 -- What a line says where it stands.
-use Rattle.std.specs.Prelude.{ℕ, true, false, List, [], Err}
-use Rattle.rc_openings.specs.Reading.{FormRows, SaysBy, said_by, judged}
+use Rattle.std.specs.Prelude.{ℕ, true, false, List, [], Err, if◌then◌else◌}
+use Rattle.rc_openings.specs.Reading.{FormRows, SaysBy, said_by, judged, share_a_word}
 use Rattle.rc_openings.specs.declared.form.Form.{Form}
 use Rattle.rc_openings.specs.declared.form.Form.TheVariants.{General, Interface}
 use Rattle.rc_openings.specs.declared.form.GeneralForm.{GeneralForm}
 use Rattle.rc_openings.specs.declared.form.GeneralForm.TheVariants as general
 use Rattle.rc_openings.specs.declared.form.InterfaceForm.{InterfaceForm}
 use Rattle.rc_openings.specs.declared.form.InterfaceForm.TheVariants as form
-use Rattle.rc_openings.specs.declared.reading.LineRefusal.TheVariants.{BadValue}
+use Rattle.rc_openings.specs.declared.reading.LineRefusal.{LineRefusal}
+use Rattle.rc_openings.specs.declared.reading.LineRefusal.TheVariants.{BadValue, Unsupported}
 use Rattle.rc_lines.specs.OpenBlock.{block_at}
 use Rattle.rc_config.specs.declared.command.Command.{Command}
 use Rattle.rc_config.specs.declared.command.Command.TheVariants.{Passed}
@@ -54,6 +55,11 @@ abbrev pub refused_in_interface : InterfaceForm → List (List ℕ)
 refused_in_interface form.OspfNetworkType = ospf.refused_types
 refused_in_interface form.OspfDeadInterval = ospf.refused_intervals
 refused_in_interface _ = []
+
+-- why a line that fits no row is refused, by the refused words and those behind its opening
+abbrev pub refusal_of : List (List ℕ) → List (List ℕ) → LineRefusal → LineRefusal
+refusal_of refused behind BadValue = if share_a_word behind refused then Unsupported else BadValue
+refusal_of refused behind refusal = refusal
 
 -- what a line of a form says by its words behind the opening
 abbrev pub general_answer : RouterText → ℕ → GeneralForm → List (List ℕ) → rows.Answer

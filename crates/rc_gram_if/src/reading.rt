@@ -106,7 +106,17 @@ fn refused_in_interface(form: InterfaceForm) -> Words<'static>
     }
 }
 
-/// What a line of a form that stands in no block says by its words behind the opening.
+/// Why a line that fits no row is refused: one of the refused words behind its opening makes it one that isn't modelled.
+fn refusal_of(refusal: LineRefusal, behind: Words, refused: Words) -> LineRefusal
+    ensures { result ≡ reading.refusal_of (words_left refused.entry) (words_left behind.entry) refusal }
+{
+    match judged::<u8>(Err(refusal), behind, refused) {
+        Ok(_) => refusal,
+        Err(other) => other,
+    }
+}
+
+/// What a line of a form that stands in no block says by its words behind the opening. A command is handed on as it is.
 fn general_answer(
     form: GeneralForm,
     behind: Words,
@@ -118,9 +128,13 @@ fn general_answer(
     ensures own { IfOk result IsOwn }
 {
     let said = general_row(form, file, line.number(), behind);
-    match judged(said, behind, refused_in_general(form)) {
+    match said {
         Ok(command) => Ok(command),
-        Err(refusal) => Err(LineError::Refused(refusal)),
+        Err(refusal) => Err(LineError::Refused(refusal_of(
+            refusal,
+            behind,
+            refused_in_general(form),
+        ))),
     }
 }
 
@@ -136,9 +150,13 @@ fn interface_answer(
     ensures own { IfOk result IsOwn }
 {
     let said = row_in(block, form, line.words(), behind);
-    match judged(said, behind, refused_in_interface(form)) {
+    match said {
         Ok(command) => Ok(command),
-        Err(refusal) => Err(LineError::Refused(refusal)),
+        Err(refusal) => Err(LineError::Refused(refusal_of(
+            refusal,
+            behind,
+            refused_in_interface(form),
+        ))),
     }
 }
 

@@ -190,7 +190,9 @@ impl Reading {
         }
     }
 
-    /// Puts what a line of this form says, by its words behind the opening that decides it. Only such a line needs room for a command.
+    /// Puts what a line of this form says, by its words behind the opening that decides it. Only such a line needs room for a command, so
+    /// it is a call of its own.
+    #[inline(never)]
     fn put_form(&mut self, form: Form, behind: Words, line: &Line) -> Result<(), ReadError>
         requires { IsFit self.old.file }
         ensures step { Leaves result self.new (with_answer line.now.number self.old (answer_of self.old.block self.old.file line.now.number (words_of line.now.text) form (words_left behind.entry))) }
