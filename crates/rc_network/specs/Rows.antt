@@ -1,5 +1,5 @@
 -- Worked cases of what is named and not defined, each by computation.
-use Rattle.std.specs.Prelude.{◌≡◌, ℕ, true, false, List, [], ◌∷◌, ◌++◌, fold, Some, None, codes, refl}
+use Rattle.std.specs.Prelude.{◌≡◌, ℕ, true, false, List, [], ◌∷◌, ◌++◌, fold, map, Some, None, codes, refl}
 use Rattle.rc_config.specs.AccessList.{host_address, standard_line}
 use Rattle.rc_config.specs.Bgp.{no_lines}
 use Rattle.rc_config.specs.Settings.{no_settings}
@@ -26,7 +26,8 @@ use Rattle.rc_config.specs.declared.route_map.Mention.{Mention}
 use Rattle.rc_config.specs.declared.router_text.RouterText.{RouterText}
 use Rattle.rc_base.specs.Prefix.{prefix_at}
 use Rattle.rc_network.specs.Build.{Model, first_refusal, under_host}
-use Rattle.rc_network.specs.Undefined.{undefined_line}
+use Rattle.rc_network.specs.Step.{gathered_of}
+use Rattle.rc_network.specs.Undefined.{lower, undefined_line}
 use Rattle.rc_network.specs.declared.refusal.NetCause.TheVariants.{TwiceNamed, Undefined}
 use Rattle.rc_network.specs.declared.refusal.NetRefusal.TheVariants.{InFile}
 
@@ -107,6 +108,22 @@ least_of_maps = refl
 -- the first undefined name and not the first list
 pub first_is_defined : undefined_line (file (prefix_line one ∷ matching 10 PrefixList (one ∷ []) 5 ++ matching 20 PrefixList (two ∷ []) 7)) ≡ Some 7
 first_is_defined = refl
+
+-- the lower of two lines, and the one where there is no other
+pub lower_first : lower (Some 5) (Some 6) ≡ Some 5
+lower_first = refl
+
+pub lower_second : lower (Some 6) (Some 5) ≡ Some 5
+lower_second = refl
+
+pub lower_alone : lower (Some 5) None ≡ Some 5
+lower_alone = refl
+
+pub lower_other : lower None (Some 5) ≡ Some 5
+lower_other = refl
+
+pub lower_none : lower None None ≡ None
+lower_none = refl
 
 -- a route map without `match` lines names nothing
 pub no_match_line : undefined_line (file (command.MapOpened (codes "M") 10 Permit ∷ command.MapLine (codes "M") 10 (Set (Weight 7)) ∷ [])) ≡ None
@@ -247,6 +264,16 @@ naming line = matching 10 PrefixList (one ∷ []) line
 -- of two files the first counts, whatever their lines and host names
 pub first_file : first_refusal (router first (codes "r2") (naming 7) ∷ router second (codes "r1") (naming 5) ∷ []) ≡ Some (InFile first 7 Undefined)
 first_file = refl
+
+-- what is gathered of them stands as they come
+abbrev both : List Model
+both = router first (codes "r2") (naming 7) ∷ router second (codes "r1") (naming 5) ∷ []
+
+pub gathered_as_they_come : map (λ e. e.0) (gathered_of both).routers ≡ codes "r2" ∷ codes "r1" ∷ []
+gathered_as_they_come = refl
+
+pub gathered_first : (gathered_of both).undefined ≡ Some (InFile first 7 Undefined)
+gathered_first = refl
 
 -- a list of another file doesn't count
 pub defined_elsewhere : first_refusal (router first (codes "r1") (prefix_line one ∷ []) ∷ router second (codes "r2") (naming 5) ∷ []) ≡ Some (InFile second 5 Undefined)

@@ -238,16 +238,6 @@ fn least_of_sources(file: &RouterText, lines: &BgpRedistributions) -> Option<u64
     lower(lower(of_connected, of_static), of_ospf)
 }
 
-/// The same of the lines of the BGP process of the file, where there is one.
-fn least_of_bgp(file: &RouterText) -> Option<u64>
-    ensures { result ≡ least_line file.now (option_map_or named_by_bgp file.now.bgp []) }
-{
-    match &file.bgp {
-        Some(process) => least_of_bgp_process(file, process),
-        None => None,
-    }
-}
-
 /// The same of the lines of a BGP process.
 fn least_of_bgp_process(file: &RouterText, process: &BgpProcess) -> Option<u64>
     ensures { result ≡ least_line file.now (named_by_bgp process.now) }
@@ -256,6 +246,16 @@ fn least_of_bgp_process(file: &RouterText, process: &BgpProcess) -> Option<u64>
     let of_groups = least_of_groups(file, &process.peering.groups);
     let of_sources = least_of_sources(file, &process.redistributions);
     lower(lower(of_neighbors, of_groups), of_sources)
+}
+
+/// The same of the lines of the BGP process of the file, where there is one.
+fn least_of_bgp(file: &RouterText) -> Option<u64>
+    ensures { result ≡ least_line file.now (option_map_or named_by_bgp file.now.bgp []) }
+{
+    match &file.bgp {
+        Some(process) => least_of_bgp_process(file, process),
+        None => None,
+    }
 }
 
 /// The same of the lines of a file's processes.
