@@ -26,29 +26,33 @@ fn a_long_path_is_compared_and_dropped(rt: HostRuntime) -> Result<(), Fail> {
     Ok(())
 }
 
-/// Whether a path of so many numbers has these, and is told from one of other numbers and from one that lacks the nearest.
-fn is_told_apart(alloc: Global, numbers: u32) -> Result<bool, AllocError> {
-    let path = long_path(alloc, numbers)?;
-    let shorter = long_path(alloc, numbers - 1)?;
-    let same = shorter.prepend(alloc, numbers - 1)?;
-    let other = shorter.prepend(alloc, numbers)?;
+/// A number that isn't on these paths.
+const ELSEWHERE: u32 = 4_000_000;
+
+/// Whether a path of one number more than so many has these, and is told from one that begins otherwise and from one that lacks the
+/// nearest.
+fn is_told_apart(alloc: Global, behind: u32) -> Result<bool, AllocError> {
+    let shorter = long_path(alloc, behind)?;
+    let path = shorter.prepend(alloc, behind)?;
+    let same = long_path(alloc, behind)?.prepend(alloc, behind)?;
+    let other = shorter.prepend(alloc, ELSEWHERE)?;
     Ok(
         path == same
             && path != other
             && path != shorter
-            && path.first() == Some(numbers - 1)
+            && path.first() == Some(behind)
             && path.holds(0)
-            && path.holds(numbers - 1)
-            && !path.holds(numbers)
-            && other.holds(numbers),
+            && path.holds(behind)
+            && !path.holds(ELSEWHERE)
+            && other.holds(ELSEWHERE),
     )
 }
 
 /// Where a path is cut into segments of 16 numbers.
 #[test]
 fn paths_about_a_segment_are_told_apart(rt: HostRuntime) -> Result<(), Fail> {
-    for numbers in [1, 2, 15, 16, 17, 31, 32, 33, 48, 49] {
-        assert!(rt; is_told_apart(rt.alloc(), numbers)?);
+    for behind in [0, 1, 14, 15, 16, 30, 31, 32, 47, 48] {
+        assert!(rt; is_told_apart(rt.alloc(), behind)?);
     }
     Ok(())
 }
