@@ -29,6 +29,7 @@ use std::alloc::{AllocError, Global};
 use std::collections::{BTreeMap, BTreeSet};
 
 /// The best of some paths, which is taken out of them, with the next hops of further ones.
+#[inline]
 #[tactic(auto, using(crate::proofs::BestLaws::none_placed))]
 fn best_with_further(
     alloc: Global,

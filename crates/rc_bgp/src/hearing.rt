@@ -88,6 +88,7 @@ fn advertised(
 }
 
 /// A path with the metric of the route to its next hop, where that resolves.
+#[inline]
 fn reachable(
     alloc: Global,
     resolver: &mut Resolver<'_>,
@@ -108,6 +109,7 @@ fn reachable(
 }
 
 /// What the receiver makes of an advertised path.
+#[inline]
 pub(crate) fn heard_path(
     alloc: Global,
     net: &Network,
@@ -126,6 +128,7 @@ pub(crate) fn heard_path(
 }
 
 /// What a router with this table hears over a session for a prefix, for which this is the sender's best path.
+#[inline]
 pub(crate) fn path_heard(
     alloc: Global,
     last: &mut LastAsPath,
@@ -148,6 +151,7 @@ pub(crate) fn path_heard(
 }
 
 /// One path more, if there is one.
+#[inline]
 fn push_some(paths: &mut Vec<BgpPath>, path: Option<BgpPath>) -> Result<(), AllocError>
     ensures { OnOk result (paths.new.items ≡ paths.old.items ++ option_to_list path) }
 {

@@ -1,3 +1,4 @@
+mod PlainLaws
 mod ArrivalLaws
 mod RowLaws
 mod AgreeLaws

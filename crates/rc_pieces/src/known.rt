@@ -3,11 +3,12 @@ ghost use Rattle.std.specs.Prelude.{◌≡◌, ◌↔◌, IfOk, IsTrue, slice_ge
 ghost use Rattle.std.specs.Option.{option_copied};
 ghost use Rattle.rc_pieces.specs.Knowing.{nothing_known};
 
+use crate::again::Again;
 use crate::alike::same;
 use crate::listed::Listed;
 use crate::pieces::Pieces;
 use rc_base::{Items, RouterId};
-use rc_route::{Best, BestParts, Route, RouterState};
+use rc_route::{Best, Parts, Route, RouterState};
 use std::alloc::{AllocError, Global};
 use std::collections::VecDeque;
 use std::marker::Model;
@@ -87,24 +88,23 @@ impl Known {
         same(&self.table, &other.table) && same(&self.paths, &other.paths)
     }
 
-    /// The same with its table in one list and its paths in parts. Of the table what nobody else holds is moved, and takes no memory; no path
-    /// is copied or moved.
+    /// The same in parts, for which nothing is copied or moved.
     pub fn into_state(self, alloc: Global) -> Result<RouterState, AllocError>
         ensures { IfOk result (λ state. state ≡ self) }
     {
         let Known { table, paths } = self;
+        let table = in_parts(alloc, table)?;
         let paths = in_parts(alloc, paths)?;
-        let table = table.into_items(alloc)?;
         Ok(RouterState { table, paths })
     }
 }
 
-/// Best paths in parts, for which none is copied or moved.
-fn in_parts(alloc: Global, paths: Pieces<Best>) -> Result<BestParts, AllocError>
-    ensures { IfOk result (λ parts. parts ≡ paths) }
+/// A list in parts, for which nothing is copied or moved.
+fn in_parts<T: Again>(alloc: Global, pieces: Pieces<T>) -> Result<Parts<T>, AllocError>
+    ensures { IfOk result (λ parts. parts ≡ pieces) }
 {
-    let mut parts = BestParts::new(alloc);
-    let mut left = VecDeque::from(paths.into_pieces(alloc)?.into_vec());
+    let mut parts = Parts::new(alloc);
+    let mut left = VecDeque::from(pieces.into_pieces(alloc)?.into_vec());
     while let Some(piece) = left.pop_front() {
         parts.push(piece.into_shared())?;
     }
@@ -118,7 +118,7 @@ pub fn known_at(state: &Knowledge, router: RouterId) -> Option<&Known>
     state.as_slice().get(router.index())
 }
 
-/// A state, each router's table in one list and its paths in parts. What nobody else holds is moved, and takes no memory.
+/// A state, with what each router knows in parts, for which nothing is copied or moved.
 pub fn into_state(alloc: Global, state: Knowledge) -> Result<rc_route::State, AllocError>
     ensures { IfOk result (λ made. made ≡ state) }
 {

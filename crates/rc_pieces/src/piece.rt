@@ -54,18 +54,6 @@ impl<T: HasPrefix> Piece<T> {
         self.items.as_slice()
     }
 
-    /// Its elements, where nobody else holds it; else the piece.
-    pub(crate) fn into_items(self) -> Result<Items<T>, Piece<T>>
-        ensures ok { IfOk result (λ items. items ≡ self) }
-        ensures err { IfErr result (λ piece. piece ≡ self) }
-    {
-        let Piece { first, items } = self;
-        match unshared(items) {
-            Ok(items) => Ok(items),
-            Err(items) => Err(Piece { first, items }),
-        }
-    }
-
     /// Its elements, as lists share them. It takes no memory.
     pub(crate) fn into_shared(self) -> Arc<Items<T>, Global>
         ensures { arc_value result ≡ self }

@@ -1,16 +1,15 @@
 //! A list in pieces.
-ghost use Rattle.std.specs.Prelude.{◌≡◌, ◌↔◌, ◌++◌, [], IfOk, IsTrue, OnOk, length};
+ghost use Rattle.std.specs.Prelude.{◌≡◌, ◌↔◌, [], IfOk, IsTrue, length};
 ghost use Rattle.std.specs.Arc.{arc_value};
 ghost use Rattle.rc_pieces.specs.Pieces.{ArePieces, joined, kept_pieces};
 
-use crate::again::{Again, append_again};
+use crate::again::Again;
 use crate::growing::Growing;
 use crate::listed::Listed;
 use crate::piece::{Piece, share_all, unshared};
 use rc_base::Items;
 use rc_route::HasPrefix;
 use std::alloc::{AllocError, Global};
-use std::collections::VecDeque;
 use std::marker::Model;
 use std::sync::Arc;
 
@@ -136,19 +135,6 @@ impl<T: Again> Pieces<T> {
         })
     }
 
-    /// The list in one. What nobody else holds is moved, and takes no memory.
-    pub fn into_items(self, alloc: Global) -> Result<Items<T>, AllocError>
-        ensures { IfOk result (λ items. items ≡ self) }
-    {
-        let len = self.len;
-        let mut left = VecDeque::from(self.into_pieces(alloc)?.into_vec());
-        let mut items = first_items(alloc, len, &mut left)?;
-        while let Some(piece) = left.pop_front() {
-            append(alloc, &mut items, piece)?;
-        }
-        Ok(items)
-    }
-
     /// Its pieces. Where nobody else holds them they are moved, and take no memory.
     pub(crate) fn into_pieces(self, alloc: Global) -> Result<Items<Piece<T>>, AllocError>
         ensures { IfOk result (λ pieces. joined pieces ≡ self) }
@@ -171,57 +157,5 @@ fn owned<T: Again>(
     match unshared(pieces) {
         Ok(pieces) => Ok(pieces),
         Err(pieces) => share_all(alloc, pieces.as_slice()),
-    }
-}
-
-/// Moves things to the end of a list.
-fn append_moved<T: Again>(items: &mut Items<T>, moved: Items<T>) -> Result<(), AllocError>
-    ensures { OnOk result (items.new ≡ items.old ++ moved) }
-{
-    let mut left = VecDeque::from(moved.into_vec());
-    while let Some(item) = left.pop_front() {
-        items.push(item)?;
-    }
-    Ok(())
-}
-
-/// The elements of a piece. Where nobody else holds it they are moved, and take no memory.
-fn whole<T: Again>(alloc: Global, piece: Piece<T>) -> Result<Items<T>, AllocError>
-    ensures { IfOk result (λ items. items ≡ piece) }
-{
-    match piece.into_items() {
-        Ok(items) => Ok(items),
-        Err(piece) => {
-            let mut items = Items::with_room(alloc, piece.as_slice().len())?;
-            append_again(alloc, &mut items, piece.as_slice())?;
-            Ok(items)
-        }
-    }
-}
-
-/// What a list of some pieces begins with: the elements of the first one, where it is the only one, and else nothing, with room for so many.
-fn first_items<T: Again>(
-    alloc: Global,
-    len: usize,
-    left: &mut VecDeque<Piece<T>>,
-) -> Result<Items<T>, AllocError>
-    ensures { IfOk result (λ items. items ++ joined left.new.items ≡ joined left.old.items) }
-{
-    if left.len() != 1 {
-        return Items::with_room(alloc, len);
-    }
-    match left.pop_front() {
-        None => Items::with_room(alloc, len),
-        Some(piece) => whole(alloc, piece),
-    }
-}
-
-/// Puts the elements of a piece at the end of a list.
-fn append<T: Again>(alloc: Global, items: &mut Items<T>, piece: Piece<T>) -> Result<(), AllocError>
-    ensures { OnOk result (items.new ≡ items.old ++ piece) }
-{
-    match piece.into_items() {
-        Ok(moved) => append_moved(items, moved),
-        Err(piece) => append_again(alloc, items, piece.as_slice()),
     }
 }

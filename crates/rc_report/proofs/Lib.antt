@@ -1,3 +1,4 @@
 mod LineLaws
 mod CubeLaws
+mod PartLaws
 mod StateLaws

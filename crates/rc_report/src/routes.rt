@@ -128,7 +128,8 @@ fn put_route<S: Sink>(
     close_line(out, line)
 }
 
-fn put_table<S: Sink>(
+/// Puts the lines of some routes.
+pub(crate) fn put_table<S: Sink>(
     out: &mut S,
     line: &mut Buffer,
     net: &Network,
@@ -142,7 +143,8 @@ fn put_table<S: Sink>(
     Ok(())
 }
 
-fn put_router<S: Sink>(
+/// Puts the line of a router.
+pub(crate) fn put_router<S: Sink>(
     out: &mut S,
     line: &mut Buffer,
     net: &Network,

@@ -1,14 +1,46 @@
 //! The tables of a state, as lines, and how many routes they have.
-ghost use Rattle.std.specs.Prelude.{◌≡◌, IfOk};
+ghost use Rattle.std.specs.Prelude.{◌≡◌, IfOk, flat_map};
 ghost use Rattle.rc_outside.specs.Put.{IsPut};
-ghost use Rattle.rc_report.specs.StateText.{all_routes, route_count, routes_in, routes_line};
+ghost use Rattle.rc_report.specs.RouteText.{routes_text};
+ghost use Rattle.rc_report.specs.StateText.{all_routes, part_lines, route_count, routes_in, routes_line};
 
-use crate::{Buffer, Part, Puts, SinkFault, put_line, put_routes};
+use crate::routes::{put_router, put_table};
+use crate::{Buffer, Part, Puts, SinkFault, put_line};
 use rc_base::RouterId;
 use rc_config::Network;
 use rc_outside::Sink;
-use rc_route::State;
-use std::alloc::AllocError;
+use rc_route::{RouterState, State, Table};
+use std::alloc::{AllocError, Global};
+use std::sync::Arc;
+
+/// Puts the lines of the routes of some parts.
+fn put_parts<S: Sink>(
+    out: &mut S,
+    line: &mut Buffer,
+    net: &Network,
+    parts: &[Arc<Table, Global>],
+) -> Result<(), SinkFault>
+    ensures { IsPut S.Sink out.old out.new result (flat_map (part_lines net.now) parts.now) }
+{
+    for part in parts {
+        put_table(out, line, net, part.as_slice())?;
+    }
+    Ok(())
+}
+
+/// Puts the line of a router and those of the routes that it knows.
+fn put_known<S: Sink>(
+    out: &mut S,
+    line: &mut Buffer,
+    net: &Network,
+    router: RouterId,
+    known: &RouterState,
+) -> Result<(), SinkFault>
+    ensures { IsPut S.Sink out.old out.new result (routes_text net.now router known.now.table) }
+{
+    put_router(out, line, net, router)?;
+    put_parts(out, line, net, known.table.parts())
+}
 
 /// Puts the routes of the router of an index, where the state has it.
 fn put_routes_at<S: Sink>(
@@ -21,7 +53,7 @@ fn put_routes_at<S: Sink>(
     ensures { IsPut S.Sink out.old out.new result (routes_in net.now state.now index) }
 {
     match state.as_slice().get(index) {
-        Some(known) => put_routes(out, line, net, RouterId::at(index), &known.table),
+        Some(known) => put_known(out, line, net, RouterId::at(index), known),
         None => Ok(()),
     }
 }

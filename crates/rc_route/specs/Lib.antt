@@ -1,5 +1,5 @@
 pub mod Best
-pub mod BestParts
+pub mod Parts
 pub mod Further
 pub mod Hops
 pub mod Kept

@@ -1,13 +1,15 @@
 //! What the routers know after a round.
-ghost use Rattle.std.specs.Prelude.{◌≡◌};
+ghost use Rattle.std.specs.Prelude.{◌≡◌, IfOk};
 
-use crate::{BestParts, Table};
+use crate::joining::joined;
+use crate::{Best, Parts, Route, Table};
 use rc_base::Items;
+use std::alloc::{AllocError, Global};
 
 /// What one router knows: its table, and its best BGP paths with what goes with them, one for each prefix, by address, then length.
 pub struct RouterState {
-    pub table: Table,
-    pub paths: BestParts,
+    pub table: Parts<Route>,
+    pub paths: Parts<Best>,
 }
 
 /// By a function of its own, so that what holds states drops each by one call.
@@ -18,12 +20,13 @@ impl Drop for RouterState {
 }
 
 impl RouterState {
-    /// Its table, taken out of it. It takes no memory.
-    pub fn into_table(self) -> Table
-        ensures { result ≡ self.table }
+    /// Its table in one list. What nobody else holds is moved, and takes no memory where it is in one part; else it errs only where memory
+    /// runs out.
+    pub fn into_table(self, alloc: Global) -> Result<Table, AllocError>
+        ensures { IfOk result (λ table. table ≡ self.table) }
     {
         let RouterState { table, paths: _ } = self;
-        table
+        joined(alloc, table)
     }
 }
 

@@ -1,2 +1,3 @@
 pub mod StartLaws
 pub mod StretchLaws
+pub mod HandLaws

@@ -2,8 +2,11 @@
 ghost use Rattle.std.specs.Prelude.{◌≡◌, ◌++◌, ◌≤◌, ◌<◌, ℕ, List, Ok, IfOk};
 ghost use Rattle.rc_outside.specs.Gate.{passage};
 ghost use Rattle.rc_shares.specs.Stretches.{IsStretch};
+ghost use Rattle.rc_shares.specs.Hands.{IsHand};
 
+use crate::hand::Hand;
 use crate::shared::Shared;
+use crate::taking::{Taking, hands_for};
 use crate::workers::at_once;
 use rc_base::Items;
 use rc_outside::{Gate, Passed};
@@ -117,8 +120,21 @@ impl<'a, W: Each + Sync> Shared for Lists<'a, W> {
     }
 }
 
-/// What is made of each item, in order, by all workers at once, each of whom has passed the gate once, before its share. There is at least
-/// one worker. It errs only where memory runs out.
+/// What is made of all items, in order, where hands made what they took of it, or want of memory.
+fn put_together<W: Each>(
+    alloc: Global,
+    taking: &Taking<'_, W>,
+    hands: Result<Items<Hand<W::Made>>, AllocError>,
+) -> Result<Items<W::Made>, AllocError>
+    requires ready { W.ready taking.now.each.now }
+    requires hands { IfOk hands (IsStretch (λ _hand. IsHand (W.makes taking.now.each.now)) 0 taking.now.hands) }
+    ensures { IfOk result (IsStretch (W.makes taking.now.each.now) 0 (W.count taking.now.each.now)) }
+{
+    taking.in_order(alloc, hands?)
+}
+
+/// What is made of each item, in order, by all workers at once, each of whom has passed the gate once, before its share: who is done with an
+/// item takes the next one. There is at least one worker. It errs only where memory runs out.
 pub fn each_at_once<R: Threads + Sync, W: Each + Sync, G: Gate>(
     rt: &R,
     alloc: Global,
@@ -132,5 +148,12 @@ pub fn each_at_once<R: Threads + Sync, W: Each + Sync, G: Gate>(
     ensures passed { result.0 ≡ passage phase 0 workers }
     ensures made { IfOk result.1 (IsStretch (W.makes work.now) 0 (W.count work.now)) }
 {
-    at_once(rt, alloc, &Lists { each: work }, (), workers, phase, gate)
+    let hands = hands_for(work.items(), work.few(), workers);
+    if hands <= 1 {
+        return at_once(rt, alloc, &Lists { each: work }, (), workers, phase, gate);
+    }
+    let taking = Taking::of(work, hands);
+    let all = Lists { each: &taking };
+    let (passed, made) = at_once(rt, alloc, &all, (), workers, phase, gate);
+    (passed, put_together(alloc, &taking, made))
 }

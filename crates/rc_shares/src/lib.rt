@@ -6,8 +6,10 @@
 #![tactic(auto)]
 
 mod each;
+mod hand;
 mod shared;
 mod starts;
+mod taking;
 mod workers;
 
 pub use each::{Each, each_at_once};
