@@ -101,6 +101,7 @@ fn row_answer(
 }
 
 /// What a line of this form says where it stands, by its words behind the opening that decides it.
+#[inline(never)]
 pub fn read_form(
     form: AccessListForm,
     behind: Words,

@@ -26,6 +26,7 @@ fn refused_words(form: BgpForm) -> Words<'static>
 }
 
 /// What a line of this form says in a block, by its words behind the opening that decides it, and by its number and all its words.
+#[inline(never)]
 pub fn read_form(
     form: BgpForm,
     behind: Words,

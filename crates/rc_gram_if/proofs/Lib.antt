@@ -1,1 +1,2 @@
+mod TypedLaws
 mod OwnLaws

@@ -7,7 +7,7 @@ use Rattle.rc_config.specs.declared.router_text.RouterText.{RouterText}
 use Rattle.rc_config.specs.Lawful.{FitsFile, IsInRange}
 use Rattle.rc_gram_if.specs.Own.{IsOwn}
 
-range-of : (c : Command) → IsOwn c → IsInRange c
+pub range-of : (c : Command) → IsOwn c → IsInRange c
 range-of Passed h = h
 range-of Remark h = h
 range-of (Hostname name line) h = h
@@ -25,7 +25,7 @@ range-of FamilyOpened h = absurd h
 range-of OtherFamilyOpened h = absurd h
 range-of FamilyClosed h = absurd h
 
-fits-of : (file : RouterText) (c : Command) → IsOwn c → FitsFile file c
+pub fits-of : (file : RouterText) (c : Command) → IsOwn c → FitsFile file c
 fits-of file Passed h = tt
 fits-of file Remark h = tt
 fits-of file (Hostname name line) h = tt

@@ -6,3 +6,4 @@ pub mod RouteExamples
 pub mod Own
 pub mod GroupExamples
 pub mod OspfExamples
+pub mod Typed

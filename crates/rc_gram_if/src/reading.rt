@@ -13,7 +13,6 @@ use crate::rows::{
     access_group, bandwidth, hostname, interface, ip_address, refused_in_route, shutdown,
     static_route,
 };
-use rc_base::Name;
 use rc_config::{Command, Context, NetworkType, OpenBlock, RouterText};
 use rc_lines::{Line, kind_of};
 use rc_openings::{
@@ -37,16 +36,20 @@ fn general_row(
     }
 }
 
-/// The row of a form in the block of an interface, by all words of the line and those behind the opening.
-fn interface_row(
+/// The row of a form in the block of an interface, by all words of the line and those behind the opening. In another block a line
+/// fits no row.
+fn row_in(
+    block: &OpenBlock,
     form: InterfaceForm,
-    owner: Name,
     line: Words,
     behind: Words,
 ) -> Result<Command, LineRefusal>
-    ensures row { result ≡ reading.interface_row form owner (words_left line.entry) (words_left behind.entry) }
+    ensures row { result ≡ reading.row_in block.now form (words_left line.entry) (words_left behind.entry) }
     ensures own { IfOk result IsOwn }
 {
+    let OpenBlock::Interface(owner) = *block else {
+        return Err(LineRefusal::BadValue);
+    };
     match form {
         InterfaceForm::IpAddress => ip_address(owner, behind),
         InterfaceForm::Shutdown => shutdown(owner, true, behind),
@@ -64,22 +67,6 @@ fn interface_row(
             sets(owner, network_type(NetworkType::PointToPoint, behind))
         }
         InterfaceForm::OspfArea => sets(owner, area(line)),
-    }
-}
-
-/// The same in any block: in one of no interface a line fits no row.
-fn row_in(
-    block: &OpenBlock,
-    form: InterfaceForm,
-    line: Words,
-    behind: Words,
-) -> Result<Command, LineRefusal>
-    ensures row { result ≡ reading.row_in block.now form (words_left line.entry) (words_left behind.entry) }
-    ensures own { IfOk result IsOwn }
-{
-    match *block {
-        OpenBlock::Interface(owner) => interface_row(form, owner, line, behind),
-        _ => Err(LineRefusal::BadValue),
     }
 }
 
@@ -116,8 +103,9 @@ fn refusal_of(refusal: LineRefusal, behind: Words, refused: Words) -> LineRefusa
     }
 }
 
-/// What a line of a form that stands in no block says by its words behind the opening. A command is handed on as it is.
-fn general_answer(
+/// What a line of a form that stands in no block says, by its words behind the opening that decides it. A command is handed on as it is.
+#[inline(never)]
+pub fn read_general_form(
     form: GeneralForm,
     behind: Words,
     line: &Line,
@@ -125,7 +113,8 @@ fn general_answer(
 ) -> Result<Command, LineError>
     ensures row { Gives result (reading.general_answer file.now line.now.number form (words_left behind.entry)) }
     ensures takes_no_memory { result ≢ Err LineError.Memory }
-    ensures own { IfOk result IsOwn }
+    ensures in_range { IfOk result IsInRange }
+    ensures fits { IfOk result (FitsFile file.now) }
 {
     let said = general_row(form, file, line.number(), behind);
     match said {
@@ -138,17 +127,21 @@ fn general_answer(
     }
 }
 
-/// The same in the block of an interface.
-fn interface_answer(
+/// What a line of this form says in this block, by its words behind the opening that decides it. It fits any file.
+#[inline(never)]
+pub fn read_interface_form(
     form: InterfaceForm,
     behind: Words,
     line: &Line,
     block: &OpenBlock,
+    file: &RouterText,
 ) -> Result<Command, LineError>
     ensures row { Gives result (reading.interface_answer block.now (words_of line.now.text) form (words_left behind.entry)) }
     ensures takes_no_memory { result ≢ Err LineError.Memory }
-    ensures own { IfOk result IsOwn }
+    ensures in_range { IfOk result IsInRange }
+    ensures fits { IfOk result (FitsFile file.now) }
 {
+    let _ = file;
     let said = row_in(block, form, line.words(), behind);
     match said {
         Ok(command) => Ok(command),
@@ -160,49 +153,19 @@ fn interface_answer(
     }
 }
 
-/// What a line of this form says, by its words behind the opening that decides it.
-pub fn read_general_form(
-    form: GeneralForm,
-    behind: Words,
-    line: &Line,
-    context: Context,
-) -> Result<Command, LineError>
-    ensures row { Gives result (reading.general_answer context.entry.file.now line.now.number form (words_left behind.entry)) }
-    ensures takes_no_memory { result ≢ Err LineError.Memory }
-    ensures in_range { IfOk result IsInRange }
-    ensures fits { IfOk result (FitsFile context.entry.file.now) }
-{
-    general_answer(form, behind, line, context.file)
-}
-
-/// What a line of this form says where it stands, by its words behind the opening that decides it.
-pub fn read_interface_form(
-    form: InterfaceForm,
-    behind: Words,
-    line: &Line,
-    context: Context,
-) -> Result<Command, LineError>
-    ensures row { Gives result (reading.interface_answer context.entry.block (words_of line.now.text) form (words_left behind.entry)) }
-    ensures takes_no_memory { result ≢ Err LineError.Memory }
-    ensures in_range { IfOk result IsInRange }
-    ensures fits { IfOk result (FitsFile context.entry.file.now) }
-{
-    let Context { block, file: _ } = context;
-    interface_answer(form, behind, line, &block)
-}
-
 /// What a line says in this block, where its form is one of this grammar. Forms of other grammars are a bad value.
 fn read_in(line: &Line, block: &OpenBlock, file: &RouterText) -> Result<Command, LineError>
     ensures exact { Gives result (reading.says block.now file.now line.now.number (words_of line.now.text)) }
     ensures takes_no_memory { result ≢ Err LineError.Memory }
-    ensures own { IfOk result IsOwn }
+    ensures in_range { IfOk result IsInRange }
+    ensures fits { IfOk result (FitsFile file.now) }
 {
     match kind_of(block).decided(line.words()) {
         Decision::Passed => Ok(Command::Passed),
         Decision::Refused(refusal) => Err(LineError::Refused(refusal)),
-        Decision::Form(Form::General(form), behind) => general_answer(form, behind, line, file),
+        Decision::Form(Form::General(form), behind) => read_general_form(form, behind, line, file),
         Decision::Form(Form::Interface(form), behind) => {
-            interface_answer(form, behind, line, block)
+            read_interface_form(form, behind, line, block, file)
         }
         Decision::Form(_, _) => Err(LineError::Refused(LineRefusal::BadValue)),
     }

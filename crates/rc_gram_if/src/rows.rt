@@ -1,10 +1,12 @@
 //! The rows of each form, by the words behind its opening.
-ghost use Rattle.std.specs.Prelude.{◌≡◌, ◌≤◌, [], IfOk, IfSome};
+ghost use Rattle.std.specs.Prelude.{◌≡◌, ◌≤◌, [], IfOk, IfSome, is_some};
 ghost use Rattle.std.specs.List.{list_all, list_any};
 ghost use Rattle.std.specs.Str.{bytes_eq};
 ghost use Rattle.rc_openings.specs.Words.{words_left};
 ghost use Rattle.rc_gram_if.specs.Own.{IsOwn};
+ghost use Rattle.rc_config.specs.IfType.{type_of};
 ghost use Rattle.rc_gram_if.specs.Rows as rows;
+ghost use Rattle.rc_gram_if.specs.Typed as typed;
 
 use crate::route_options::read_distance;
 use rc_base::{Addr, Name, Prefix};
@@ -13,7 +15,7 @@ use rc_config::{
     type_of_name,
 };
 use rc_openings::{
-    LineRefusal, Words, number_in, prefix_under, word_addr, word_interface, word_mask,
+    LineRefusal, Words, left_behind, number_in, prefix_under, word_addr, word_interface, word_mask,
 };
 
 fn is_host_byte(byte: u8) -> bool
@@ -62,6 +64,49 @@ pub(crate) fn interface(line: u64, mut words: Words) -> Result<Command, LineRefu
     }
 }
 
+fn has_point(text: &[u8]) -> bool
+    ensures { result ≡ typed.has_point text.now }
+{
+    text.iter().any(|b| *b == b'.')
+}
+
+/// Whether a text begins with a digit and has no point.
+fn is_plain_number(text: &[u8]) -> bool
+    ensures { result ≡ typed.is_plain_number text.now }
+{
+    match text {
+        [first, ..] => first.is_ascii_digit() && !has_point(text),
+        [] => false,
+    }
+}
+
+/// Whether a text is a word with such a number behind it.
+fn is_numbered(word: &[u8], text: &[u8]) -> bool
+    ensures { result ≡ typed.is_numbered word.now text.now }
+{
+    match left_behind(word, text) {
+        Some(rest) => is_plain_number(rest),
+        None => false,
+    }
+}
+
+/// Whether a name is plainly that of a main interface of one of the commonest types.
+fn is_plainly_typed(name: &Name) -> bool
+    ensures { result ≡ typed.is_plainly_typed name.now }
+{
+    let text = name.as_bytes();
+    is_numbered(b"GigabitEthernet", text)
+        || is_numbered(b"TenGigabitEthernet", text)
+        || is_numbered(b"FastEthernet", text)
+}
+
+/// Whether an interface of this name is of a type that may have addresses. Of most names one look tells that it is.
+fn is_typed(name: &Name) -> bool
+    ensures { result ≡ is_some (type_of name.now) }
+{
+    is_plainly_typed(name) || type_of_name(name).is_some()
+}
+
 fn address_in(
     owner: Name,
     secondary: bool,
@@ -76,7 +121,7 @@ fn address_in(
         return Err(LineRefusal::BadValue);
     };
     match IfAddr::new(addr, len) {
-        Some(address) if type_of_name(&owner).is_some() => Ok(Command::InterfaceLine {
+        Some(address) if is_typed(&owner) => Ok(Command::InterfaceLine {
             interface: owner,
             line: InterfaceLine::Address { address, secondary },
         }),

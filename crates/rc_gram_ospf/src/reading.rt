@@ -12,6 +12,7 @@ use rc_lines::{Line, kind_of};
 use rc_openings::{Decision, Form, LineError, LineRefusal, OspfForm, Words};
 
 /// What a line of this form says, by its words behind the opening that decides it.
+#[inline(never)]
 pub fn read_form(
     form: OspfForm,
     behind: Words,

@@ -13,6 +13,7 @@ use rc_openings::{Decision, Form, LineError, LineRefusal, MapEntryForm, PolicyFo
 
 /// What a line of this form says, by its words behind the opening that decides it. Memory is taken from where the file's
 /// lists have theirs.
+#[inline(never)]
 pub fn read_list_form(
     form: PolicyForm,
     behind: Words,
@@ -27,6 +28,7 @@ pub fn read_list_form(
 }
 
 /// The same in the block of an entry of a route map.
+#[inline(never)]
 pub fn read_entry_form(
     form: MapEntryForm,
     behind: Words,

@@ -1,4 +1,5 @@
 mod WordsLemmas
+mod CommonLemmas
 mod PartLemmas
 mod GroupLemmas
 mod DecisiveLemmas

@@ -1,6 +1,6 @@
 -- What a glance at the texts of an opening and of a line tells of their words.
 use borrow.Author.Tests.{ltb-true}
-use Rattle.std.proofs.Common.{◌≡◌, ℕ, suc, ◌<◌, arith, Bool, true, false, ◌||◌, ◌&&◌, cond, List, [], ◌∷◌, ◌++◌, append-nil, ap, length, take, drop, Some, None, is_some, unwrap_or, refl, sym, ◌∙◌, subst, add-one}
+use Rattle.std.proofs.Common.{◌≡◌, ℕ, suc, ◌<◌, arith, Bool, true, false, not, ◌||◌, ◌&&◌, cond, ◌⊎◌, inl, inr, List, [], ◌∷◌, ◌++◌, append-nil, ap, length, take, drop, Some, None, is_some, unwrap_or, refl, sym, ◌∙◌, subst, add-one}
 use Rattle.std.specs.Prelude.{nat_eq, nat_lt, codes}
 use Rattle.std.specs.Str.{bytes_eq}
 use Rattle.std.specs.List.{slice_split, filter, onto_first}
@@ -12,34 +12,40 @@ use Rattle.std.proofs.Math.Bool.{and-false}
 use Rattle.std.proofs.lemmas.Bool.{false≢true, eqb-true, ne_eqb, and_parts}
 use Rattle.std.proofs.lemmas.Bool.Decides.{nat_tests}
 use Rattle.rc_openings.specs.Words.{words_of, is_blank, has_bytes, ends_word}
-use Rattle.rc_openings.specs.Opening.{begins_with, stands_for, first_difference, told_by, glance, left_behind}
+use Rattle.rc_openings.specs.Opening.{begins_with, stands_for, first_difference, told_by, glance_behind, left_behind}
 use Rattle.rc_openings.specs.declared.opening.Glance.{Glance}
 use Rattle.rc_openings.specs.declared.opening.Glance.TheVariants.{Begins, Differs, Unclear}
 use Rattle.rc_openings.proofs.WordsLemmas.{words-blank, front_word, first_piece}
-use Rattle.rc_openings.proofs.ApartLemmas.{or_right}
+use Rattle.rc_openings.proofs.ApartLemmas.{or_left, or_right}
 
 -- what the texts tell at a glance, byte by byte
-abbrev pub compared : List ℕ → List ℕ → Glance
-compared [] [] = Begins
-compared [] (b ∷ bs) = cond (is_blank b) Begins Unclear
-compared (a ∷ as') [] = Unclear
-compared (a ∷ as') (b ∷ bs) = cond (nat_eq a b) (compared as' bs) (told_by (Some (a, b)))
+abbrev pub compared : ℕ → List ℕ → List ℕ → Glance
+compared p [] [] = Begins
+compared p [] (b ∷ bs) = cond (is_blank b) Begins Unclear
+compared p (a ∷ as') [] = Unclear
+compared p (a ∷ as') (b ∷ bs) = cond (nat_eq a b) (compared a as' bs) (told_by (Some (p, a, b)))
 
-pub glance_is : (opening line : List ℕ) → compared opening line ≡ glance opening line
-glance_is [] [] = refl
-glance_is [] (b ∷ l) = refl
-glance_is (a ∷ o) [] = refl
-glance_is (a ∷ o) (b ∷ l) = by (nat_eq a b) refl (glance_is o l)
+pub glance_is : (p : ℕ) (opening line : List ℕ) → compared p opening line ≡ glance_behind p opening line
+glance_is p [] [] = refl
+glance_is p [] (b ∷ l) = refl
+glance_is p (a ∷ o) [] = refl
+glance_is p (a ∷ o) (b ∷ l) = by (nat_eq a b) refl (glance_is a o l)
   where
-    by : (v : Bool) → nat_eq a b ≡ v → compared o l ≡ glance o l → cond v (compared o l) (told_by (Some (a, b))) ≡ cond ((nat_eq b a && bytes_eq (take (length o) l) o) && ends_word (drop (length o) l)) Begins (told_by (cond v (first_difference o l) (Some (a, b))))
+    by : (v : Bool) → nat_eq a b ≡ v → compared a o l ≡ glance_behind a o l → cond v (compared a o l) (told_by (Some (p, a, b))) ≡ cond ((nat_eq b a && bytes_eq (take (length o) l) o) && ends_word (drop (length o) l)) Begins (told_by (cond v (first_difference a o l) (Some (p, a, b))))
     by true e h = let other : nat_eq b a ≡ true = grind (arith, nat_tests) in rw other h
     by false e h = let other : nat_eq b a ≡ false = grind (arith, nat_tests) in rw other refl
+
+-- behind a byte of both the line's word ends, and that of the opening goes on
+abbrev ends_in_word : ℕ → List ℕ → List ℕ → Bool
+ends_in_word p [] line = false
+ends_in_word p (a ∷ as') [] = false
+ends_in_word p (a ∷ as') (b ∷ bs) = not (is_blank p) && (nat_lt 42 a && is_blank b)
 
 -- the texts differ within a word
 abbrev parts_within_word : List ℕ → List ℕ → Bool
 parts_within_word [] line = false
 parts_within_word (a ∷ as') [] = false
-parts_within_word (a ∷ as') (b ∷ bs) = cond (nat_eq a b) (parts_within_word as' bs) (nat_lt 42 a && nat_lt 32 b)
+parts_within_word (a ∷ as') (b ∷ bs) = cond (nat_eq a b) (parts_within_word as' bs || ends_in_word a as' bs) (nat_lt 42 a && nat_lt 32 b)
 
 -- a word of one byte, and what stands behind it
 lone_word : (c d : ℕ) (s : List ℕ) → is_blank c ≡ false → is_blank d ≡ true → words_of (c ∷ d ∷ s) ≡ (c ∷ []) ∷ words_of (d ∷ s)
@@ -78,7 +84,7 @@ no_star b h =
 no_blank_other : (c d : ℕ) (o l : List ℕ) → parts_within_word (c ∷ o) (d ∷ l) ≡ true → is_blank d ≡ is_blank c
 no_blank_other c d o l h = by (nat_eq c d) refl h
   where
-    by : (v : Bool) → nat_eq c d ≡ v → cond v (parts_within_word o l) (nat_lt 42 c && nat_lt 32 d) ≡ true → is_blank d ≡ is_blank c
+    by : (v : Bool) → nat_eq c d ≡ v → cond v (parts_within_word o l || ends_in_word c o l) (nat_lt 42 c && nat_lt 32 d) ≡ true → is_blank d ≡ is_blank c
     by true e g = rw (eqb-true c d e) refl
     by false e g = let p = and_parts (nat_lt 42 c) (nat_lt 32 d) g in no_blank d p.1 ∙ sym (no_star c p.0).0
 
@@ -104,6 +110,30 @@ with_byte a o l h was = by (is_blank a) refl
     by true e = rw (words-blank a l e, words-blank a o e) was
     by false e = behind e o l h was
 
+-- behind a byte of a word the line's word ends, and that of the opening goes on
+word_goes_on : (a : ℕ) (o l : List ℕ) → ends_in_word a o l ≡ true → begins_with (words_of (a ∷ l)) (words_of (a ∷ o)) ≡ false
+word_goes_on a [] l h = absurd (false≢true h)
+word_goes_on a (c ∷ o) [] h = absurd (false≢true h)
+word_goes_on a (c ∷ o) (d ∷ l) h =
+    let p = and_parts (not (is_blank a)) (nat_lt 42 c && is_blank d) h in
+    let q = and_parts (nat_lt 42 c) (is_blank d) p.1 in
+    let here : is_blank a ≡ false = not_true (is_blank a) p.0 in
+    rw (joined_word a c o here (no_star c q.0).0, lone_word a d l here q.1) (never (nat_eq a 42) (nat_eq a a) (begins_with (words_of (d ∷ l)) (words_of (drop (position_or_len is_blank o) o))))
+  where
+    not_true : (v : Bool) → not v ≡ true → v ≡ false
+    not_true false e = refl
+    not_true true e = absurd (false≢true e)
+
+    never : (x y z : Bool) → (((x && false) || (y && false)) && z) ≡ false
+    never true true z = refl
+    never true false z = refl
+    never false true z = refl
+    never false false z = refl
+
+either : (x y : Bool) → (x || y) ≡ true → (x ≡ true) ⊎ (y ≡ true)
+either true y h = inl refl
+either false y h = inr h
+
 cannot_begin : (opening line : List ℕ) → parts_within_word opening line ≡ true → begins_with (words_of line) (words_of opening) ≡ false
 cannot_begin [] line h = absurd (false≢true h)
 cannot_begin (a ∷ o) [] h = absurd (false≢true h)
@@ -113,8 +143,11 @@ cannot_begin (a ∷ o) (b ∷ l) h = by (cannot_begin o l) (nat_eq a b) refl h
     first_differ e g = let star = no_star a g.0 in rw (front_word a o star.0, front_word b l (no_blank b g.1), star.1, e) refl
 
     by : (parts_within_word o l ≡ true → begins_with (words_of l) (words_of o) ≡ false)
-        → (v : Bool) → nat_eq a b ≡ v → cond v (parts_within_word o l) (nat_lt 42 a && nat_lt 32 b) ≡ true → begins_with (words_of (b ∷ l)) (words_of (a ∷ o)) ≡ false
-    by later true e g = rw (← (eqb-true a b e)) (with_byte a o l g (later g))
+        → (v : Bool) → nat_eq a b ≡ v → cond v (parts_within_word o l || ends_in_word a o l) (nat_lt 42 a && nat_lt 32 b) ≡ true → begins_with (words_of (b ∷ l)) (words_of (a ∷ o)) ≡ false
+    by later true e g = elim (either (parts_within_word o l) (ends_in_word a o l) g) [
+      | inl there ↦ rw (← (eqb-true a b e)) (with_byte a o l there (later there))
+      | inr ends ↦ rw (← (eqb-true a b e)) (word_goes_on a o l ends)
+    ]
     by later false e g = first_differ e (and_parts (nat_lt 42 a) (nat_lt 32 b) g)
 
 -- what a glance tells, as tests
@@ -136,19 +169,39 @@ differ-test : (v : Bool) → is_difference (cond v Differs Unclear) ≡ v
 differ-test true = refl
 differ-test false = refl
 
-parts-there : (opening line : List ℕ) → is_difference (compared opening line) ≡ true → parts_within_word opening line ≡ true
-parts-there [] [] h = h
-parts-there [] (b ∷ l) h = sym (no_difference (is_blank b)) ∙ h
-parts-there (a ∷ o) [] h = h
-parts-there (a ∷ o) (b ∷ l) h = by (nat_eq a b) (parts-there o l) h
-  where
-    by : (v : Bool) → (is_difference (compared o l) ≡ true → parts_within_word o l ≡ true)
-        → is_difference (cond v (compared o l) (told_by (Some (a, b)))) ≡ true → cond v (parts_within_word o l) (nat_lt 42 a && nat_lt 32 b) ≡ true
-    by true later g = later g
-    by false later g = sym (differ-test (nat_lt 42 a && nat_lt 32 b)) ∙ g
+two_ways : (x y z w : Bool) → (x && (y || z && not w)) ≡ true → ((x && y) || (not w && (x && z))) ≡ true
+two_ways true true z w h = refl
+two_ways true false true false h = refl
+two_ways true false true true h = absurd (false≢true h)
+two_ways true false false w h = absurd (false≢true h)
+two_ways false y z w h = absurd (false≢true h)
 
-pub differs : (opening line : List ℕ) → compared opening line ≡ Differs → begins_with (words_of line) (words_of opening) ≡ false
-differs opening line h = cannot_begin opening line (parts-there opening line (ap is_difference h))
+parts-there : (p : ℕ) (opening line : List ℕ) → is_difference (compared p opening line) ≡ true → (parts_within_word opening line || ends_in_word p opening line) ≡ true
+parts-there p [] [] h = h
+parts-there p [] (b ∷ l) h = sym (no_difference (is_blank b)) ∙ h
+parts-there p (a ∷ o) [] h = h
+parts-there p (a ∷ o) (b ∷ l) h = by (nat_eq a b) (parts-there a o l) h
+  where
+    by : (v : Bool) → (is_difference (compared a o l) ≡ true → (parts_within_word o l || ends_in_word a o l) ≡ true)
+        → is_difference (cond v (compared a o l) (told_by (Some (p, a, b)))) ≡ true
+        → (cond v (parts_within_word o l || ends_in_word a o l) (nat_lt 42 a && nat_lt 32 b) || ends_in_word p (a ∷ o) (b ∷ l)) ≡ true
+    by true later g = or_left (parts_within_word o l || ends_in_word a o l) (ends_in_word p (a ∷ o) (b ∷ l)) (later g)
+    by false later g =
+        two_ways (nat_lt 42 a) (nat_lt 32 b) (is_blank b) (is_blank p) (sym (differ-test (nat_lt 42 a && (nat_lt 32 b || is_blank b && not (is_blank p)))) ∙ g)
+
+no_end_at_front : (o l : List ℕ) → ends_in_word 32 o l ≡ false
+no_end_at_front [] l = refl
+no_end_at_front (a ∷ o) [] = refl
+no_end_at_front (a ∷ o) (b ∷ l) = refl
+
+or_false : (x : Bool) → (x || false) ≡ true → x ≡ true
+or_false true h = refl
+or_false false h = h
+
+pub differs : (opening line : List ℕ) → compared 32 opening line ≡ Differs → begins_with (words_of line) (words_of opening) ≡ false
+differs opening line h =
+    let there = rw (no_end_at_front opening line) at (parts-there 32 opening line (ap is_difference h)) in
+    cannot_begin opening line (or_false (parts_within_word opening line) there)
 
 begin-test : (v : Bool) → is_begin (cond v Begins Unclear) ≡ v
 begin-test true = refl
@@ -158,16 +211,16 @@ no_begin : (v : Bool) → is_begin (cond v Differs Unclear) ≡ false
 no_begin true = refl
 no_begin false = refl
 
-front-there : (opening line : List ℕ) → is_begin (compared opening line) ≡ true → (line ≡ opening ++ drop (length opening) line) × (ends_word (drop (length opening) line) ≡ true)
-front-there [] [] h = (refl, refl)
-front-there [] (b ∷ l) h = (refl, sym (begin-test (is_blank b)) ∙ h)
-front-there (a ∷ o) [] h = absurd (false≢true h)
-front-there (a ∷ o) (b ∷ l) h = by (nat_eq a b) refl (front-there o l) h
+front-there : (p : ℕ) (opening line : List ℕ) → is_begin (compared p opening line) ≡ true → (line ≡ opening ++ drop (length opening) line) × (ends_word (drop (length opening) line) ≡ true)
+front-there p [] [] h = (refl, refl)
+front-there p [] (b ∷ l) h = (refl, sym (begin-test (is_blank b)) ∙ h)
+front-there p (a ∷ o) [] h = absurd (false≢true h)
+front-there p (a ∷ o) (b ∷ l) h = by (nat_eq a b) refl (front-there a o l) h
   where
-    by : (v : Bool) → nat_eq a b ≡ v → (is_begin (compared o l) ≡ true → (l ≡ o ++ drop (length o) l) × (ends_word (drop (length o) l) ≡ true))
-        → is_begin (cond v (compared o l) (told_by (Some (a, b)))) ≡ true → (b ∷ l ≡ a ∷ (o ++ drop (length o) l)) × (ends_word (drop (length o) l) ≡ true)
+    by : (v : Bool) → nat_eq a b ≡ v → (is_begin (compared a o l) ≡ true → (l ≡ o ++ drop (length o) l) × (ends_word (drop (length o) l) ≡ true))
+        → is_begin (cond v (compared a o l) (told_by (Some (p, a, b)))) ≡ true → (b ∷ l ≡ a ∷ (o ++ drop (length o) l)) × (ends_word (drop (length o) l) ≡ true)
     by true e later g = let rest = later g in (rw (eqb-true a b e) (ap (λ s. b ∷ s) rest.0), rest.1)
-    by false e later g = absurd (false≢true (sym (no_begin (nat_lt 42 a && nat_lt 32 b)) ∙ g))
+    by false e later g = absurd (false≢true (sym (no_begin (nat_lt 42 a && (nat_lt 32 b || is_blank b && not (is_blank p)))) ∙ g))
 
 -- the pieces on both sides of a blank
 pieces-append : (s : List ℕ) (b : ℕ) (bs : List ℕ) → is_blank b ≡ true → slice_split is_blank (s ++ b ∷ bs) ≡ slice_split is_blank s ++ slice_split is_blank bs
@@ -213,9 +266,9 @@ begins-front (w ∷ ws) vs =
     let one : stands_for w w ≡ true = or_right (bytes_eq w (codes "*")) (bytes_eq w w) ((bytes_eq-Decides w w).1 refl) in
     rw one (begins-front ws vs)
 
-pub begins : (opening line : List ℕ) → compared opening line ≡ Begins → begins_with (words_of line) (words_of opening) ≡ true
+pub begins : (opening line : List ℕ) → compared 32 opening line ≡ Begins → begins_with (words_of line) (words_of opening) ≡ true
 begins opening line h =
-    let there = front-there opening line (ap is_begin h) in
+    let there = front-there 32 opening line (ap is_begin h) in
     let rest = drop (length opening) line in
     let words : words_of line ≡ words_of opening ++ words_of rest = ap words_of there.0 ∙ words-append opening rest there.1 in
     rw words (begins-front (words_of opening) (words_of rest))

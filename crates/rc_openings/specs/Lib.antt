@@ -16,3 +16,4 @@ pub mod Reading
 pub mod Examples
 pub mod FamilyRows
 pub mod DecisionRows
+pub mod GlanceRows

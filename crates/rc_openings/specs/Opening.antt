@@ -1,5 +1,5 @@
 -- Which opening decides a line.
-use Rattle.std.specs.Prelude.{◌≡◌, ℕ, ◌≤◌, Bool, true, false, ◌||◌, ◌&&◌, List, [], ◌∷◌, ◌++◌, length, take, drop, nat_eq, nat_lt, if◌then◌else◌, codes, map, Contains, Option, Some, None}
+use Rattle.std.specs.Prelude.{◌≡◌, ℕ, zero, suc, ◌≤◌, Bool, true, false, not, ◌||◌, ◌&&◌, List, [], ◌∷◌, ◌++◌, length, take, drop, nat_eq, nat_lt, get_or, if◌then◌else◌, codes, map, Contains, Option, Some, None}
 use Rattle.std.specs.Str.{bytes_eq}
 use Rattle.std.specs.List.{list_any}
 use Rattle.rc_openings.specs.declared.form.Form.{Form as FormKind}
@@ -8,7 +8,7 @@ use Rattle.rc_openings.specs.declared.opening.Glance.TheVariants.{Begins, Differ
 use Rattle.rc_openings.specs.declared.opening.Opening.{Opening}
 use Rattle.rc_openings.specs.declared.opening.Verdict.{Verdict}
 use Rattle.rc_openings.specs.declared.opening.Verdict.TheVariants.{Form, Refused, Ignored}
-use Rattle.rc_openings.specs.Words.{words_of, ends_word}
+use Rattle.rc_openings.specs.Words.{words_of, ends_word, is_blank}
 
 -- the words of an opening, and what it says of a line that begins with them
 pub record Row : Type 0 where
@@ -44,21 +44,36 @@ begins_with (w ∷ ws) (t ∷ ts) = stands_for t w && begins_with ws ts
 abbrev pub begins_text : List ℕ → List ℕ → Bool
 begins_text line front = bytes_eq (take (length front) line) front && ends_word (drop (length front) line)
 
--- the first two bytes at which texts differ; none where one of the texts begins with the other
-abbrev pub first_difference : List ℕ → List ℕ → Option (ℕ × ℕ)
-first_difference [] line = None
-first_difference (a ∷ as') [] = None
-first_difference (a ∷ as') (b ∷ bs) = if nat_eq a b then first_difference as' bs else Some (a, b)
+-- how many bytes texts have in common at their fronts
+abbrev pub common : List ℕ → List ℕ → ℕ
+common [] bs = 0
+common (a ∷ as') [] = 0
+common (a ∷ as') (b ∷ bs) = if nat_eq a b then suc (common as' bs) else 0
 
--- what is told by the first bytes at which the texts of an opening and of a line differ: no byte up to 32 is surely within a word, and
--- none up to `*`, which is 42, surely stands for itself
-abbrev pub told_by : Option (ℕ × ℕ) → Glance
+-- the first two bytes at which texts differ, and the one before them in both; none where one of the texts begins with the other
+abbrev pub first_difference : ℕ → List ℕ → List ℕ → Option (ℕ × ℕ × ℕ)
+first_difference before [] line = None
+first_difference before (a ∷ as') [] = None
+first_difference before (a ∷ as') (b ∷ bs) = if nat_eq a b then first_difference a as' bs else Some (before, a, b)
+
+-- What is told by the first bytes at which the texts of an opening and of a line differ. No byte up to `*`, which is 42, surely stands for
+-- itself. No byte up to 32 is surely within a word; but a blank behind a byte of a word ends a word that the opening's goes on.
+abbrev pub told_by : Option (ℕ × ℕ × ℕ) → Glance
 told_by None = Unclear
-told_by (Some (a, b)) = if nat_lt 42 a && nat_lt 32 b then Differs else Unclear
+told_by (Some (before, a, b)) = if nat_lt 42 a && (nat_lt 32 b || is_blank b && not (is_blank before)) then Differs else Unclear
 
--- what the texts of an opening and of a line tell at a glance
+-- what the texts of an opening and of a line tell at a glance, behind a byte of both
+abbrev pub glance_behind : ℕ → List ℕ → List ℕ → Glance
+glance_behind before opening line = if begins_text line opening then Begins else told_by (first_difference before opening line)
+
+-- the same at their fronts, where a word begins as behind a blank
 abbrev pub glance : List ℕ → List ℕ → Glance
-glance opening line = if begins_text line opening then Begins else told_by (first_difference opening line)
+glance opening line = glance_behind 32 opening line
+
+-- the byte before the one at an index, and where there is none this one
+abbrev pub byte_before : ℕ → List ℕ → ℕ → ℕ
+byte_before before text zero = before
+byte_before before text (suc n) = get_or text n 0
 
 -- what is left of a text behind another one with which it begins
 abbrev pub left_behind : List ℕ → List ℕ → Option (List ℕ)

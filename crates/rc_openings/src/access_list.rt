@@ -1,9 +1,12 @@
 //! The openings of a line under `ip access-list`, behind its sequence number.
+ghost use Rattle.std.specs.Option.{option_copied, option_map};
 ghost use Rattle.rc_openings.specs.Groups.{IsTable};
 ghost use Rattle.rc_openings.specs.AccessListOpenings.{access_list};
+ghost use Rattle.rc_openings.specs.Opening.{IsAnswer, row_of};
+ghost use Rattle.rc_openings.specs.Words.{words_left};
 
 use crate::table::{Index, NONE_LONGER, Table, before, count, each_start, one, openings, starts};
-use crate::{AccessListForm, Form, Opening, Verdict};
+use crate::{AccessListForm, Form, Opening, Verdict, Words};
 
 /// The openings of one word, by its first letter.
 macro_rules! one_word {
@@ -44,4 +47,12 @@ pub(crate) fn access_list_table() -> Table
         more_words: NONE_LONGER,
         starred: NONE_LONGER,
     }
+}
+
+/// The opening that decides a line of an access list: a call of its own, since its table is part of it.
+#[inline(never)]
+pub(crate) fn access_list_opening(line: Words) -> Option<&'static Opening>
+    ensures { IsAnswer access_list (words_left line.entry) (option_map row_of (option_copied result)) }
+{
+    access_list_table().decide(line)
 }

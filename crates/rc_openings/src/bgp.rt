@@ -1,9 +1,12 @@
 //! The openings of a line under `router bgp`.
+ghost use Rattle.std.specs.Option.{option_copied, option_map};
 ghost use Rattle.rc_openings.specs.Groups.{IsTable};
 ghost use Rattle.rc_openings.specs.BgpOpenings.{bgp};
+ghost use Rattle.rc_openings.specs.Opening.{IsAnswer, row_of};
+ghost use Rattle.rc_openings.specs.Words.{words_left};
 
 use crate::table::{Index, Longer, Table, before, count, each_start, one, openings, starts};
-use crate::{BgpForm, Form, Opening, Verdict};
+use crate::{BgpForm, Form, Opening, Verdict, Words};
 
 /// The openings of one word, by its first letter.
 macro_rules! one_word {
@@ -185,4 +188,12 @@ pub(crate) fn bgp_table() -> Table
             },
         },
     }
+}
+
+/// The opening that decides a line of the BGP process: a call of its own, since its table is part of it.
+#[inline(never)]
+pub(crate) fn bgp_opening(line: Words) -> Option<&'static Opening>
+    ensures { IsAnswer bgp (words_left line.entry) (option_map row_of (option_copied result)) }
+{
+    bgp_table().decide(line)
 }

@@ -1,7 +1,7 @@
 //! The blocks of a configuration, and the openings of each.
 ghost use Rattle.std.specs.Prelude.{◌≡◌, ℕ, Bool, true, List, [], ◌∷◌, map, drop};
 ghost use Rattle.std.specs.List.{list_any};
-ghost use Rattle.std.specs.Option.{option_map};
+ghost use Rattle.std.specs.Option.{option_copied, option_map};
 ghost use Rattle.rc_openings.specs.Words.{words_left};
 ghost use Rattle.rc_openings.specs.Opening.{IsAnswer, IsDecisive, Row, begins_with, row_of, decisive_row};
 ghost use Rattle.rc_openings.specs.Apart.{front_has, forms_have, is_own, is_form_of};
@@ -10,14 +10,14 @@ ghost use Rattle.rc_openings.specs.FamilyOpenings.{family_end, other_family};
 ghost use Rattle.rc_openings.specs.declared.block.Block.{Block as BlockKind};
 ghost use Rattle.rc_openings.specs.declared.form.Form.{Form as FormKind};
 
-use crate::access_list::access_list_table;
-use crate::bgp::bgp_table;
-use crate::decide::{begins_form, decisive};
-use crate::family::ipv4_family_table;
-use crate::global::global_table;
-use crate::interface::interface_table;
-use crate::ospf::ospf_table;
-use crate::route_map::route_map_table;
+use crate::access_list::{access_list_opening, access_list_table};
+use crate::bgp::{bgp_opening, bgp_table};
+use crate::decide::{begins_form, copied, decisive_of};
+use crate::family::ipv4_family_opening;
+use crate::global::{global_opening, global_table};
+use crate::interface::{interface_opening, interface_table};
+use crate::ospf::{ospf_opening, ospf_table};
+use crate::route_map::{route_map_opening, route_map_table};
 use crate::{BgpForm, Form, Opening, Verdict, Words};
 
 /// The kind of block that a line stands in.
@@ -82,25 +82,33 @@ impl Block {
         ensures decisive { IsAnswer (rows_of self) (words_left line.entry) (option_map row_of result) }
         ensures computed { option_map row_of result ≡ decisive_row (rows_of self) (words_left line.entry) }
     {
-        self.opening_of(line)
+        copied(self.opening_of(line))
+    }
+
+    /// The same, lent.
+    pub(crate) fn opening_of(self, line: Words) -> Option<&'static Opening>
+        ensures decisive { IsAnswer (rows_of self) (words_left line.entry) (option_map row_of (option_copied result)) }
+        ensures computed { option_map row_of (option_copied result) ≡ decisive_row (rows_of self) (words_left line.entry) }
+    {
+        self.found(line)
     }
 
     /// The opening with which the line begins that has most words.
     #[tactic(auto, unfolding(crate::specs::Words::words_of))]
-    fn opening_of(self, line: Words) -> Option<Opening>
-        ensures { IsAnswer (rows_of self) (words_left line.entry) (option_map row_of result) }
+    fn found(self, line: Words) -> Option<&'static Opening>
+        ensures { IsAnswer (rows_of self) (words_left line.entry) (option_map row_of (option_copied result)) }
     {
         match self {
             Block::Closed => None,
-            Block::Global => global_table().decide(line),
-            Block::Interface => interface_table().decide(line),
-            Block::AccessList => access_list_table().decide(line),
-            Block::RouteMap => route_map_table().decide(line),
-            Block::Ospf => ospf_table().decide(line),
-            Block::Bgp => bgp_table().decide(line),
-            Block::Ipv4Family => ipv4_family_table().decide(line),
-            Block::OtherFamily => decisive(other_family_openings(), line),
-            Block::Ignored => decisive(&ANY_LINE, line),
+            Block::Global => global_opening(line),
+            Block::Interface => interface_opening(line),
+            Block::AccessList => access_list_opening(line),
+            Block::RouteMap => route_map_opening(line),
+            Block::Ospf => ospf_opening(line),
+            Block::Bgp => bgp_opening(line),
+            Block::Ipv4Family => ipv4_family_opening(line),
+            Block::OtherFamily => decisive_of(other_family_openings(), line),
+            Block::Ignored => decisive_of(&ANY_LINE, line),
         }
     }
 }

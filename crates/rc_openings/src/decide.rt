@@ -10,6 +10,7 @@ use crate::opening::Glance;
 use crate::{Opening, Words};
 
 /// Whether a line with these words begins with the words of the opening.
+#[inline(never)]
 fn begins_with(mut line: Words, mut opening: Words) -> bool
     ensures { result ≡ begins (words_left line.entry) (words_left opening.entry) }
 {
@@ -34,7 +35,8 @@ fn is_longer(mut first: Words, mut second: Words) -> bool
     false
 }
 
-/// Whether a line of this text begins with the words of the opening.
+/// Whether a line of this text begins with the words of the opening: a glance tells it of most.
+#[inline(always)]
 fn begins_opening(opening: &Opening, text: &[u8]) -> bool
     ensures { result ≡ begins (words_of text.now) (words_of opening.now.text.now) }
 {
@@ -81,6 +83,7 @@ pub(crate) fn decisive_from<'a>(
 }
 
 /// The first of some openings with which a line of this text begins: where each has one word, it is the decisive one.
+#[inline(always)]
 pub(crate) fn first_fitting<'a>(openings: &'a [Opening], text: &[u8]) -> Option<&'a Opening>
     ensures { list_all has_one_word (map row_of openings.entry.now) ≡ true → IsAnswer (map row_of openings.entry.now) (words_of text.now) (option_map row_of (option_copied result)) }
 {
@@ -102,11 +105,18 @@ pub(crate) fn copied(lent: Option<&Opening>) -> Option<Opening>
     }
 }
 
+/// The same as `decisive`, lent.
+pub(crate) fn decisive_of<'a>(openings: &'a [Opening], line: Words) -> Option<&'a Opening>
+    ensures { IsAnswer (map row_of openings.entry.now) (words_left line.entry) (option_map row_of (option_copied result)) }
+{
+    decisive_from(None, openings, line.text())
+}
+
 /// Of the openings with which the line begins, the one with most words, or `None` exactly where it begins with none.
 pub fn decisive(openings: &[Opening], line: Words) -> Option<Opening>
     ensures { IsAnswer (map row_of openings.now) (words_left line.entry) (option_map row_of result) }
 {
-    copied(decisive_from(None, openings, line.text()))
+    copied(decisive_of(openings, line))
 }
 
 /// Whether the line begins with one of the openings that begin a form.

@@ -118,7 +118,7 @@ impl Block {
     fn decided_by(self, own: Words) -> Decision
         ensures { reading.IsDecision (reading.decision_of self (words_left own.entry)) result }
     {
-        match self.decide(own) {
+        match self.opening_of(own) {
             None => Decision::Refused(unopened(own)),
             Some(opening) => match opening.verdict {
                 Verdict::Ignored => Decision::Passed,

@@ -1,9 +1,12 @@
 //! The openings of a line under `address-family ipv4`: those of the process, but for the forms that stand outside of it.
+ghost use Rattle.std.specs.Option.{option_copied, option_map};
 ghost use Rattle.rc_openings.specs.Groups.{IsTable};
 ghost use Rattle.rc_openings.specs.FamilyOpenings.{ipv4_family};
+ghost use Rattle.rc_openings.specs.Opening.{IsAnswer, row_of};
+ghost use Rattle.rc_openings.specs.Words.{words_left};
 
 use crate::table::{Index, Longer, Table, before, count, each_start, one, openings, starts};
-use crate::{BgpForm, Form, Opening, Verdict};
+use crate::{BgpForm, Form, Opening, Verdict, Words};
 
 /// The openings of one word, by its first letter.
 macro_rules! one_word {
@@ -172,4 +175,12 @@ pub(crate) fn ipv4_family_table() -> Table
             },
         },
     }
+}
+
+/// The opening that decides a line of IPv4's family: a call of its own, since its table is part of it.
+#[inline(never)]
+pub(crate) fn ipv4_family_opening(line: Words) -> Option<&'static Opening>
+    ensures { IsAnswer ipv4_family (words_left line.entry) (option_map row_of (option_copied result)) }
+{
+    ipv4_family_table().decide(line)
 }

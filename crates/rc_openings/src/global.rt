@@ -1,11 +1,16 @@
 //! The openings of a line with no indent.
+ghost use Rattle.std.specs.Option.{option_copied, option_map};
 ghost use Rattle.rc_openings.specs.Groups.{IsTable};
 ghost use Rattle.rc_openings.specs.GlobalOpenings.{global};
+ghost use Rattle.rc_openings.specs.Opening.{IsAnswer, row_of};
+ghost use Rattle.rc_openings.specs.Words.{words_left};
 
 use crate::table::{
     Index, Longer, NONE_LONGER, Table, before, count, each_start, one, openings, starts,
 };
-use crate::{AccessListForm, BgpForm, Form, GeneralForm, Opening, OspfForm, PolicyForm, Verdict};
+use crate::{
+    AccessListForm, BgpForm, Form, GeneralForm, Opening, OspfForm, PolicyForm, Verdict, Words,
+};
 
 /// The openings of one word, by its first letter.
 macro_rules! one_word {
@@ -281,4 +286,12 @@ pub(crate) fn global_table() -> Table
         },
         starred: NONE_LONGER,
     }
+}
+
+/// The opening that decides a line with no indent: a call of its own, since its table is part of it.
+#[inline(never)]
+pub(crate) fn global_opening(line: Words) -> Option<&'static Opening>
+    ensures { IsAnswer global (words_left line.entry) (option_map row_of (option_copied result)) }
+{
+    global_table().decide(line)
 }

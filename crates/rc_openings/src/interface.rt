@@ -1,11 +1,14 @@
 //! The openings of a line under `interface`.
+ghost use Rattle.std.specs.Option.{option_copied, option_map};
 ghost use Rattle.rc_openings.specs.Groups.{IsTable};
 ghost use Rattle.rc_openings.specs.InterfaceOpenings.{interface};
+ghost use Rattle.rc_openings.specs.Opening.{IsAnswer, row_of};
+ghost use Rattle.rc_openings.specs.Words.{words_left};
 
 use crate::table::{
     Index, Longer, NONE_LONGER, Table, before, count, each_start, one, openings, starts,
 };
-use crate::{Form, InterfaceForm, Opening, Verdict};
+use crate::{Form, InterfaceForm, Opening, Verdict, Words};
 
 /// The openings of one word, by its first letter.
 macro_rules! one_word {
@@ -218,4 +221,12 @@ pub(crate) fn interface_table() -> Table
         },
         starred: NONE_LONGER,
     }
+}
+
+/// The opening that decides a line under `interface`: a call of its own, since its table is part of it.
+#[inline(never)]
+pub(crate) fn interface_opening(line: Words) -> Option<&'static Opening>
+    ensures { IsAnswer interface (words_left line.entry) (option_map row_of (option_copied result)) }
+{
+    interface_table().decide(line)
 }

@@ -33,7 +33,7 @@ pub use decision::{Decision, number_in_front, one_decision};
 pub use form::{
     AccessListForm, BgpForm, Form, GeneralForm, InterfaceForm, MapEntryForm, OspfForm, PolicyForm,
 };
-pub use opening::{Opening, Verdict};
+pub use opening::{Opening, Verdict, left_behind};
 pub use reading::{LineError, LineRefusal, judged, unopened};
 pub use values::{
     before_mark, begins_with_letter, number_in, prefix_under, word_addr, word_area, word_interface,

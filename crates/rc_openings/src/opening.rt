@@ -1,8 +1,8 @@
 //! An opening, and what it says of a line.
-ghost use Rattle.std.specs.Prelude.{◌≡◌, true, false, [], Some, length, drop};
+ghost use Rattle.std.specs.Prelude.{◌≡◌, ◌≤◌, true, false, [], Some, length, drop};
 ghost use Rattle.std.specs.Option.{option_map};
 ghost use Rattle.rc_openings.specs.Words.{words_of, words_left, ends_word as ends};
-ghost use Rattle.rc_openings.specs.Opening.{begins_with, told_by, glance, left_behind, is_form_verdict};
+ghost use Rattle.rc_openings.specs.Opening.{begins_with, byte_before, common, told_by, glance, left_behind, is_form_verdict};
 
 use crate::words::is_blank;
 use crate::{Form, Words};
@@ -37,12 +37,12 @@ pub(crate) enum Glance {
     Unclear,
 }
 
-/// What is told where the texts differ at these bytes. No byte up to that of a space is surely within a word, and none up to
-/// `*` surely stands for itself.
-fn at_difference(byte: u8, other: u8) -> Glance
-    ensures { result ≡ told_by (Some (byte, other)) }
+/// What is told where the texts differ at these bytes, behind that one. No byte up to `*` surely stands for itself, and none up to that of a
+/// space is surely within a word; but a blank behind a byte of a word ends a word that the opening's goes on.
+fn at_difference(before: u8, byte: u8, other: u8) -> Glance
+    ensures { result ≡ told_by (Some (before, byte, other)) }
 {
-    if byte > b'*' && other > b' ' {
+    if byte > b'*' && (other > b' ' || is_blank(other) && !is_blank(before)) {
         Glance::Differs
     } else {
         Glance::Unclear
@@ -65,23 +65,44 @@ fn at_end(rest: &[u8]) -> Glance
     }
 }
 
-/// What the texts of an opening and of a line tell at a glance, byte by byte up to the first one at which they differ.
+/// How many bytes texts have in common at their fronts.
+fn common(first: &[u8], second: &[u8]) -> usize
+    ensures count { result ≡ common first.now second.now }
+    ensures first { result ≤ length first.now }
+    ensures second { result ≤ length second.now }
+{
+    let most = first.len().min(second.len());
+    for count in 0..most {
+        if first[count] != second[count] {
+            return count;
+        }
+    }
+    most
+}
+
+/// The byte before the one at an index, and a blank where there is none.
+fn byte_before(text: &[u8], index: usize) -> u8
+    requires { index ≤ length text.now }
+    ensures { result ≡ byte_before 32 text.now index }
+{
+    if index == 0 {
+        return b' ';
+    }
+    text[index - 1]
+}
+
+/// What the texts of an opening and of a line tell at a glance, by the first bytes at which they differ.
 fn compared(opening: &[u8], line: &[u8]) -> Glance
     ensures { result ≡ glance opening.now line.now }
 {
-    let mut token = opening;
-    let mut word = line;
-    while let [byte, token_rest @ ..] = token {
-        let [other, word_rest @ ..] = word else {
-            return Glance::Unclear;
-        };
-        if *byte != *other {
-            return at_difference(*byte, *other);
-        }
-        token = token_rest;
-        word = word_rest;
+    let count = common(opening, line);
+    if count == opening.len() {
+        return at_end(&line[count..]);
     }
-    at_end(word)
+    if count == line.len() {
+        return Glance::Unclear;
+    }
+    at_difference(byte_before(opening, count), opening[count], line[count])
 }
 
 /// Whether a word ends where this is left of a text.
@@ -95,22 +116,15 @@ fn ends_word(rest: &[u8]) -> bool
 }
 
 /// What is left of a text behind another one with which it begins.
-fn left_behind<'a>(front: &[u8], text: &'a [u8]) -> Option<&'a [u8]>
+pub fn left_behind<'a>(front: &[u8], text: &'a [u8]) -> Option<&'a [u8]>
     ensures { option_map (λ rest. rest.now) result ≡ left_behind front.now text.entry.now }
 {
-    let mut token = front;
-    let mut word = text;
-    while let [byte, token_rest @ ..] = token {
-        let [other, word_rest @ ..] = word else {
-            return None;
-        };
-        if *byte != *other {
-            return None;
-        }
-        token = token_rest;
-        word = word_rest;
+    let count = common(front, text);
+    if count == front.len() {
+        Some(&text[count..])
+    } else {
+        None
     }
-    Some(word)
 }
 
 impl Opening {

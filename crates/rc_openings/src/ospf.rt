@@ -1,9 +1,12 @@
 //! The openings of a line under `router ospf`.
+ghost use Rattle.std.specs.Option.{option_copied, option_map};
 ghost use Rattle.rc_openings.specs.Groups.{IsTable};
 ghost use Rattle.rc_openings.specs.OspfOpenings.{ospf};
+ghost use Rattle.rc_openings.specs.Opening.{IsAnswer, row_of};
+ghost use Rattle.rc_openings.specs.Words.{words_left};
 
 use crate::table::{Index, Longer, Table, before, count, each_start, one, openings, starts};
-use crate::{Form, Opening, OspfForm, Verdict};
+use crate::{Form, Opening, OspfForm, Verdict, Words};
 
 /// The openings of one word, by its first letter.
 macro_rules! one_word {
@@ -139,4 +142,12 @@ pub(crate) fn ospf_table() -> Table
             },
         },
     }
+}
+
+/// The opening that decides a line of the OSPF process: a call of its own, since its table is part of it.
+#[inline(never)]
+pub(crate) fn ospf_opening(line: Words) -> Option<&'static Opening>
+    ensures { IsAnswer ospf (words_left line.entry) (option_map row_of (option_copied result)) }
+{
+    ospf_table().decide(line)
 }

@@ -80,7 +80,8 @@ pub fn judged<C>(
     }
 }
 
-/// The refusal of a line that begins with no opening of its block.
+/// The refusal of a line that begins with no opening of its block. Few lines are refused, so what this needs is a call of its own.
+#[inline(never)]
 pub fn unopened(line: Words) -> LineRefusal
     ensures { result ≡ unopened_refusal (words_left line.entry) }
 {

@@ -1,11 +1,14 @@
 //! The openings of a line under `route-map`.
+ghost use Rattle.std.specs.Option.{option_copied, option_map};
 ghost use Rattle.rc_openings.specs.Groups.{IsTable};
 ghost use Rattle.rc_openings.specs.RouteMapOpenings.{route_map};
+ghost use Rattle.rc_openings.specs.Opening.{IsAnswer, row_of};
+ghost use Rattle.rc_openings.specs.Words.{words_left};
 
 use crate::table::{
     Index, Longer, NONE_LONGER, Table, before, count, each_start, one, openings, starts,
 };
-use crate::{Form, MapEntryForm, Opening, Verdict};
+use crate::{Form, MapEntryForm, Opening, Verdict, Words};
 
 /// The openings of one word, by its first letter.
 macro_rules! one_word {
@@ -97,4 +100,12 @@ pub(crate) fn route_map_table() -> Table
         },
         starred: NONE_LONGER,
     }
+}
+
+/// The opening that decides a line of a route map: a call of its own, since its table is part of it.
+#[inline(never)]
+pub(crate) fn route_map_opening(line: Words) -> Option<&'static Opening>
+    ensures { IsAnswer route_map (words_left line.entry) (option_map row_of (option_copied result)) }
+{
+    route_map_table().decide(line)
 }

@@ -9,7 +9,7 @@ ghost use Rattle.rc_openings.specs.Words.{byte_behind, words_left};
 ghost use Rattle.rc_openings.specs.Opening.{IsAnswer, Row, begins_form as begins_form_of, row_of};
 ghost use Rattle.rc_openings.specs.Groups.{AreLonger, IsIndex, IsTable, is_one_of, keyed};
 
-use crate::decide::{begins_form, copied, decisive_from, first_fitting};
+use crate::decide::{begins_form, decisive_from, first_fitting};
 use crate::{Opening, Words};
 
 /// Openings that are written letter by letter, as `b'e' { b"exit" => Verdict::Ignored, }`.
@@ -170,14 +170,16 @@ impl Longer {
 }
 
 impl Table {
-    /// The opening that decides the line, or `None` exactly where it begins with none of them.
-    pub(crate) fn decide(self, line: Words) -> Option<Opening>
-        ensures { (rows : List Row) → IsTable self rows → IsAnswer rows (words_left line.entry) (option_map row_of result) }
+    /// The opening that decides the line, or `None` exactly where it begins with none of them. It is part of its caller, to which the table
+    /// is known: so no table is put together when a line is read.
+    #[inline(always)]
+    pub(crate) fn decide(self, line: Words) -> Option<&'static Opening>
+        ensures { (rows : List Row) → IsTable self rows → IsAnswer rows (words_left line.entry) (option_map row_of (option_copied result)) }
     {
         let front = line.first_byte();
         let one_word = first_fitting(self.one_word.at(front), line.text());
         let starred = self.starred.decide_from(one_word, line, front, 2);
-        copied(self.more_words.decide_from(starred, line, front, 1))
+        self.more_words.decide_from(starred, line, front, 1)
     }
 
     /// Whether the line begins with one of the openings that begin a form.

@@ -6,8 +6,9 @@ use std::fs;
 use std::io::{self, Read};
 use std::rt::Files;
 
-/// The room with which the reading of a file begins: most configurations fit, so they are read at once.
-const ROOM: usize = 16_384;
+/// The room with which the reading of a file begins: a short configuration fits, and a longer one's room doubles as it is read. What is
+/// read into is set to zero first, so more room would cost each short file more than a long one gains.
+const ROOM: usize = 4096;
 
 /// The first bytes that a reader has left, at most `most + 1` of them: no more are read, however many there are.
 fn front_of<F: Read + Drop>(alloc: Global, file: F, most: usize) -> io::Result<Vec<u8>>

@@ -1,5 +1,0 @@
-use Rattle.rc_openings.proofs.ApartLemmas.{answer_is}
-use Rattle.rc_openings.proofs.block.Block.decide.Goals as goal
-
-pub returns-clause-computed : goal.returns-clause-computed
-returns-clause-computed c = answer_is c.args.self _ _ c.opening_of.ensures
