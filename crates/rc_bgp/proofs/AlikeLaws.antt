@@ -20,7 +20,7 @@ use Rattle.rc_route.specs.declared.path.BgpPath.{BgpPath}
 use Rattle.rc_route.specs.declared.route.Route.{Route}
 use Rattle.rc_route.specs.declared.state.RouterState.{RouterState}
 use Rattle.rc_topology.proofs.ListLaws.{all_filter, any_append, filter_agree, found_has}
-use Rattle.rc_bgp.specs.Candidates.{advertised_best, advertised_default, best_at, best_among, best_with_further, best_paths, path_heard, own_at, prefixes_of, prefixes_seen, reachable, sender_prefixes}
+use Rattle.rc_bgp.specs.Candidates.{advertised_best, best_at, best_among, best_with_further, best_paths, path_heard, own_at, prefixes_of, prefixes_seen, reachable, sender_prefixes}
 use Rattle.rc_bgp.specs.Changes.{AreChanges, AreChangesInside, AreUpdated, CoversChange, IsHeardAlike, IsToldAlike, NothingChanged, ReadsAlike, asn_of, changes_of, changes_over, may_hear, may_hear_either, news_over, told_of, updated_paths, changed_at_senders}
 use Rattle.rc_bgp.specs.Maximum.{maximum_of}
 use Rattle.rc_config.specs.declared.bgp.MaximumPaths.{MaximumPaths}
@@ -201,7 +201,7 @@ module _ (net : Network) (old : List RouterState) where
   none_heard table (s ∷ ss) p other none =
       let parts = or_parts (list_any (same_prefix p) (sender_prefixes old s)) (list_any (same_prefix p) (flat_map (sender_prefixes old) ss)) (sym (any_append (same_prefix p) (sender_prefixes old s) (flat_map (sender_prefixes old) ss)) ∙ none) in
       ap (λ o. cons_option o (filter_map (λ t. path_heard net old table t p) ss))
-      (ap (λ b. option_and_then (reachable table) (option_and_then (import net s) (cond b (advertised_default net old s p) (advertised_best net old s p)))) other
+      (ap (λ b. option_and_then (reachable table) (option_and_then (import net s) (cond b (option_or (originated_default net s) (advertised_best net old s p)) (advertised_best net old s p)))) other
       ∙ ap (λ o. option_and_then (reachable table) (option_and_then (import net s) (option_and_then (export net s) o))) (ap (option_map (λ (b : Best). b.path)) (none_best_for (paths_of old s.sender) p parts.0)))
       ∙ none_heard table ss p other parts.1
 

@@ -3,7 +3,7 @@ use Rattle.std.proofs.Common.{refl, ◌≡◌, ap, sym, subst, ◌∙◌, ℕ, z
 use Rattle.std.specs.Prelude.{◌<◌, length, slice_get, slice_index_or}
 use Rattle.std.proofs.lemmas.Option.{slice_get_read}
 use Rattle.std.specs.List.{AllByRecursion, cons_option, filter_map, flat_map, fold, list_any}
-use Rattle.std.specs.Option.{option_map}
+use Rattle.std.specs.Option.{option_map, option_or}
 use Rattle.std.specs.BTreeSet.{insert_key}
 use Rattle.std.proofs.lemmas.List.Elements.{All-from_recursion}
 use Rattle.std.proofs.lemmas.List.Sums.{fold-append}
@@ -31,7 +31,7 @@ use Rattle.rc_bgp.specs.Originating.{by_network, by_networks, metric_for, origin
 use Rattle.rc_bgp.specs.Redistributing.{med_of, redistributed, redistributed_paths, redistributes}
 use Rattle.rc_bgp_session.specs.Passing.{as_sent, as_received, default_path, exported, export, imported, import, is_withheld, mapped_path, originated_default, passes_list, weight_of, with_med}
 use Rattle.rc_bgp.specs.Reaching.{metric_to}
-use Rattle.rc_bgp.specs.Candidates.{advertised, advertised_best, advertised_default, best_among, best_with_further, candidates_at, further, path_heard, own_at, prefixes_of, prefixes_seen, reachable, sender_prefixes, with_further}
+use Rattle.rc_bgp.specs.Candidates.{advertised, advertised_best, best_among, best_with_further, candidates_at, further, path_heard, own_at, prefixes_of, prefixes_seen, reachable, sender_prefixes, with_further}
 use Rattle.rc_bgp_session.specs.declared.session.Session.{Session}
 use Rattle.rc_config.specs.declared.bgp.MaximumPaths.{MaximumPaths}
 use Rattle.rc_bgp.proofs.PartLaws.{Has, ask_has, either_has, map_has, mapped_has, none_has, or_has, some_has, then_has}
@@ -80,7 +80,7 @@ module _ (net : Network) (old : List RouterState) where
   advertised_has : (p : Cidr) (s : Session) → Has prefix_of p (advertised net old s p)
   advertised_has p s = by (same_prefix p default_prefix) refl
     where
-      by : (b : Bool) → same_prefix p default_prefix ≡ b → Has prefix_of p (cond b (advertised_default net old s p) (advertised_best net old s p))
+      by : (b : Bool) → same_prefix p default_prefix ≡ b → Has prefix_of p (cond b (option_or (originated_default net s) (advertised_best net old s p)) (advertised_best net old s p))
       by true is = or_has prefix_of p (originated_default net s) (advertised_best net old s p) (default_has p net s (sym (same_is p default_prefix is))) (best_has p s)
       by false is = best_has p s
 

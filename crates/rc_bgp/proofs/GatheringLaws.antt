@@ -2,7 +2,7 @@
 use Rattle.std.proofs.Common.{refl, ◌≡◌, ap, sym, ◌∙◌, ℕ, ◌+◌, ◌<◌, length, get_or, drop, append_assoc, Bool, true, false, not, cond, ◌&&◌, ◌||◌, List, [], ◌∷◌, ◌++◌, map, filter, append-nil, All, Option, Some, None, option_and_then}
 use Rattle.std.specs.List.{AllByRecursion, cons_option, filter_map, find, flat_map, fold, list_any}
 use Rattle.std.specs.List.Sorted.{IsStrictlySortedBy}
-use Rattle.std.specs.Option.{option_map, option_to_list}
+use Rattle.std.specs.Option.{option_map, option_or, option_to_list}
 use Rattle.std.specs.Ordering.{is_eq}
 use Rattle.std.specs.declared.cmp.Ordering.TheVariants.{Less}
 use Rattle.std.proofs.lemmas.Bool.{or_parts}
@@ -22,10 +22,10 @@ use Rattle.rc_route.specs.declared.best.Best.{Best}
 use Rattle.rc_route.specs.declared.path.BgpPath.{BgpPath}
 use Rattle.rc_route.specs.declared.route.Route.{Route}
 use Rattle.rc_route.specs.declared.state.RouterState.{RouterState}
-use Rattle.rc_bgp.specs.Candidates.{advertised_best, advertised_default, all_best, best_among, best_with_further, candidates_at, own_at, path_heard, prefixes_of, prefixes_seen, reachable, sender_prefixes}
+use Rattle.rc_bgp.specs.Candidates.{advertised_best, all_best, best_among, best_with_further, candidates_at, own_at, path_heard, prefixes_of, prefixes_seen, reachable, sender_prefixes}
 use Rattle.rc_bgp.specs.Gathering.{gathered, heard_of, heard_over, may_go, prefix_of, told_of, with_path, with_paths}
 use Rattle.rc_bgp.specs.RouterStates.{path_at, paths_of}
-use Rattle.rc_bgp_session.specs.Passing.{export, exported, import, imported}
+use Rattle.rc_bgp_session.specs.Passing.{export, exported, import, imported, originated_default}
 use Rattle.rc_bgp_session.specs.declared.session.Session.{Session}
 use Rattle.rc_bgp.proofs.AlikeLaws.{none_best}
 use Rattle.rc_bgp.proofs.BestLaws.{among_has, exported_has, heard_has, imported_has, reachable_has}
@@ -166,7 +166,7 @@ module _ (net : Network) (table : List Route) (s : Session) where
         second (Some b) keeps = told_default b (ap (λ q. same_prefix q default_prefix) (keeps b refl ∙ is) ∙ ap is_eq (same_itself default_prefix))
 
     elsewhere : same_prefix p default_prefix ≡ false → (o : Option BgpPath) → Has prefix_of default_prefix o → whole o ≡ option_to_list (path_heard net old table s p)
-    elsewhere other o has = (λ i. first o has i ++ option_to_list (second found found_is i)) ∙ ap option_to_list (ap (λ c. option_and_then (reachable table) (option_and_then (import net s) (cond c (advertised_default net old s p) (advertised_best net old s p)))) (sym other))
+    elsewhere other o has = (λ i. first o has i ++ option_to_list (second found found_is i)) ∙ ap option_to_list (ap (λ c. option_and_then (reachable table) (option_and_then (import net s) (cond c (option_or (originated_default net s) (advertised_best net old s p)) (advertised_best net old s p)))) (sym other))
       where
         first : (o : Option BgpPath) → Has prefix_of default_prefix o → of_prefix p (option_to_list o) ≡ []
         first None has = refl

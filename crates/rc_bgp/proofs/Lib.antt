@@ -18,6 +18,7 @@ mod OwnLaws
 mod AlikeLaws
 mod InsideLaws
 mod GatheringLaws
+mod HearLaws
 mod TellingLaws
 mod UpLaws
 mod InterfaceLaws

@@ -1,6 +1,6 @@
 -- One element more of a loop that keeps what a function makes.
 use Rattle.std.proofs.Common.{refl, ◌≡◌, ap, sym, ◌∙◌, ℕ, suc, ◌+◌, ◌-◌, ◌<◌, Bool, true, false, cond, List, [], ◌∷◌, ◌++◌, length, get_or, drop, take, drop-cons, add-one, append_assoc, Option, Some, None}
-use Rattle.std.specs.List.{AllByRecursion, cons_option, filter, filter_map}
+use Rattle.std.specs.List.{AllByRecursion, cons_option, filter, filter_map, flat_map}
 use Rattle.std.proofs.lemmas.List.{take_rest}
 use Rattle.std.specs.Option.{option_to_list}
 
@@ -16,6 +16,14 @@ pub one_made : {S P : Type 0} (f : S → Option P) (xs : List S) (i : ℕ) (x : 
 one_made f xs i x all all' done o lt is made pushed kept =
     ap (λ t. t ++ filter_map f (drop (i + 1) xs)) pushed ∙ append_assoc all (option_to_list o) (filter_map f (drop (i + 1) xs))
     ∙ ap (λ t. all ++ t) (in_front o (filter_map f (drop (i + 1) xs)) ∙ ap (λ q. cons_option q (filter_map f (drop (i + 1) xs))) made ∙ ap (filter_map f) (sym (first_left xs i x lt is)))
+    ∙ kept
+
+-- so where it makes a list of each
+pub one_listed : {S P : Type 0} (f : S → List P) (xs : List S) (i : ℕ) (x : S) (all all' done made : List P) → i < length xs → x ≡ get_or xs i x → made ≡ f x → all' ≡ all ++ made
+    → all ++ flat_map f (drop i xs) ≡ done → all' ++ flat_map f (drop (i + 1) xs) ≡ done
+one_listed f xs i x all all' done made lt is made_of pushed kept =
+    ap (λ t. t ++ flat_map f (drop (i + 1) xs)) pushed ∙ append_assoc all made (flat_map f (drop (i + 1) xs))
+    ∙ ap (λ t. all ++ t) (ap (λ ys. ys ++ flat_map f (drop (i + 1) xs)) made_of ∙ ap (flat_map f) (sym (first_left xs i x lt is)))
     ∙ kept
 
 -- what a pattern leaves of a list behind its first element

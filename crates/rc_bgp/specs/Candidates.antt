@@ -31,10 +31,6 @@ best_prefixes paths = map (λ (b : Best). b.path.prefix) paths
 abbrev pub sender_prefixes : List RouterState → Session → List Cidr
 sender_prefixes old s = best_prefixes (paths_of old s.sender)
 
--- the best paths of the senders of some sessions
-abbrev pub senders_paths : List RouterState → List Session → List (List Best)
-senders_paths old sessions = map (λ (s : Session). paths_of old s.sender) sessions
-
 -- the prefixes that may have candidates, by address, then length
 abbrev pub prefixes_seen : List RouterState → List (List BgpPath) → List Session → List Cidr
 prefixes_seen old own sessions = in_order prefix_cmp (default_prefix ∷ (flat_map prefixes_of own ++ flat_map (sender_prefixes old) sessions))
@@ -58,22 +54,29 @@ with_further most paths x = record { path = x; also = further (number_for most x
 abbrev pub best_with_further : MaximumPaths → List BgpPath → Option Best
 best_with_further most paths = option_map (with_further most paths) (best_path paths)
 
+-- what is advertised over a session for a prefix, where this is the sender's best path: the default path of `default-originate` stands in
+-- place of any other for 0.0.0.0/0
+abbrev pub advertised_of : Network → Session → Cidr → Option BgpPath → Option BgpPath
+advertised_of net s p best =
+    if same_prefix p default_prefix then option_or (originated_default net s) (option_and_then (export net s) best)
+    else option_and_then (export net s) best
+
+-- what a router with this table hears over a session for a prefix, where this is the sender's best path
+abbrev pub heard_at : Network → List Route → Session → Cidr → Option BgpPath → Option BgpPath
+heard_at net table s p best = option_and_then (reachable table) (option_and_then (import net s) (advertised_of net s p best))
+
 module _ (net : Network) (old : List RouterState) where
   -- what the sender's best path of a prefix becomes on a session
   abbrev pub advertised_best : Session → Cidr → Option BgpPath
   advertised_best s p = option_and_then (export net s) (best_path_for (paths_of old s.sender) p)
 
-  -- the default path of `default-originate` stands in place of any other for 0.0.0.0/0
-  abbrev pub advertised_default : Session → Cidr → Option BgpPath
-  advertised_default s p = option_or (originated_default net s) (advertised_best s p)
-
   -- what is advertised for a prefix
   abbrev pub advertised : Session → Cidr → Option BgpPath
-  advertised s p = if same_prefix p default_prefix then advertised_default s p else advertised_best s p
+  advertised s p = advertised_of net s p (best_path_for (paths_of old s.sender) p)
 
   -- what a router with this table hears over a session for a prefix
   abbrev pub path_heard : List Route → Session → Cidr → Option BgpPath
-  path_heard table s p = option_and_then (reachable table) (option_and_then (import net s) (advertised s p))
+  path_heard table s p = heard_at net table s p (best_path_for (paths_of old s.sender) p)
 
   -- the candidates for a prefix: what the router originates, then what it hears over each session
   abbrev pub candidates_at : List Route → List (List BgpPath) → List Session → Cidr → List BgpPath

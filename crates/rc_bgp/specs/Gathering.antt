@@ -1,5 +1,5 @@
 -- The candidates of a router, path by path as its senders tell them.
-use Rattle.std.specs.Prelude.{Bool, not, ◌&&◌, ◌||◌, if◌then◌else◌, List, [], ◌∷◌, ◌++◌, Option, Some, None, option_and_then}
+use Rattle.std.specs.Prelude.{Bool, not, ◌&&◌, ◌||◌, if◌then◌else◌, List, [], ◌∷◌, ◌++◌, Option, Some, None}
 use Rattle.std.specs.List.{filter_map, flat_map, fold}
 use Rattle.std.specs.Option.{option_to_list}
 use Rattle.rc_base.specs.Groups.{with_thing}
@@ -10,9 +10,9 @@ use Rattle.rc_route.specs.declared.best.Best.{Best}
 use Rattle.rc_route.specs.declared.path.BgpPath.{BgpPath}
 use Rattle.rc_route.specs.declared.route.Route.{Route}
 use Rattle.rc_route.specs.declared.state.RouterState.{RouterState}
-use Rattle.rc_bgp.specs.Candidates.{path_heard, reachable}
+use Rattle.rc_bgp.specs.Candidates.{path_heard}
+use Rattle.rc_bgp.specs.Listening.{heard}
 use Rattle.rc_bgp.specs.RouterStates.{paths_of}
-use Rattle.rc_bgp_session.specs.Passing.{export, import}
 use Rattle.rc_bgp_session.specs.declared.session.Session.{Session}
 
 abbrev pub prefix_of : BgpPath → Cidr
@@ -35,7 +35,7 @@ may_go s b = (s.is_external || not (is_internal b.path.source)) && not (is_defau
 module _ (net : Network) (table : List Route) where
   -- what a router with this table hears over a session of a best path of the sender
   abbrev pub heard_of : Session → Best → Option BgpPath
-  heard_of s b = option_and_then (reachable table) (option_and_then (import net s) (export net s b.path))
+  heard_of s b = heard net table s b.path
 
   abbrev pub told_of : Session → Best → Option BgpPath
   told_of s b = if may_go s b then heard_of s b else None

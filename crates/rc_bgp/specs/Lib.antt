@@ -12,6 +12,7 @@ pub mod Candidates
 pub mod Telling
 pub mod Gathering
 pub mod Learning
+pub mod Listening
 pub mod Updating
 pub mod Changes
 pub mod SessionRows

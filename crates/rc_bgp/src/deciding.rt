@@ -1,11 +1,12 @@
 //! A router's candidates and best paths.
-ghost use Rattle.std.specs.Prelude.{◌≡◌, ◌↔◌, ◌++◌, All, IfOk, IsTrue, OnOk};
+ghost use Rattle.std.specs.Prelude.{◌≡◌, ◌++◌, All, IfOk, OnOk};
 ghost use Rattle.std.specs.List.{fold, flat_map, filter_map};
 ghost use Rattle.std.specs.Option.{option_to_list};
 ghost use Rattle.std.specs.BTreeSet.{keys, insert_key};
 ghost use Rattle.rc_base.specs.Prefix.{prefix_cmp};
 ghost use Rattle.rc_route.specs.Tables.{IsBestList, IsPathList, IsRouterState};
 ghost use Rattle.rc_bgp.specs.Candidates as spec;
+ghost use Rattle.rc_bgp.specs.Listening.{best_by};
 ghost use Rattle.rc_bgp.specs.Telling.{AreListed, told_inside};
 
 use crate::all_originated::own_paths;
@@ -19,22 +20,20 @@ use crate::router_state::{paths_of, table_of};
 use crate::senders::{Senders, senders_of};
 use crate::up::{received, up_sessions};
 use crate::{ConfiguredSessions, Inside, Session, Sessions};
-use rc_as_path::AsPath;
 use rc_base::{Items, Prefix, RouterId};
 use rc_bgp_decide::best;
 use rc_config::{MaximumPaths, Network};
 use rc_pieces::{Knowledge, Listed};
-use rc_route::{Best, BgpPath};
+use rc_route::{Best, BgpPath, KeptPath};
 use std::alloc::{AllocError, Global};
 use std::collections::{BTreeMap, BTreeSet};
 
 /// The best of some paths, which is taken out of them, with the next hops of further ones.
-#[inline]
 #[tactic(auto, using(crate::proofs::BestLaws::none_placed))]
 fn best_with_further(
     alloc: Global,
     most: MaximumPaths,
-    paths: Vec<BgpPath>,
+    paths: Vec<KeptPath>,
 ) -> Result<Option<Best>, AllocError>
     ensures { IfOk result (λ best. best ≡ spec.best_with_further most paths.items) }
 {
@@ -42,7 +41,7 @@ fn best_with_further(
     let Some(place) = place else {
         return Ok(None);
     };
-    let number = number_for(most, paths[place].source);
+    let number = number_for(most, paths[place].source());
     let also = further(alloc, number, paths.as_slice())?;
     let mut left = paths;
     let path = left.swap_remove(place);
@@ -52,23 +51,18 @@ fn best_with_further(
 /// The best path for a prefix.
 pub(crate) fn best_among(
     alloc: Global,
-    net: &Network,
-    state: &Knowledge,
     most: MaximumPaths,
     resolver: &mut Resolver<'_>,
     own: &[Items<BgpPath>],
-    sessions: &[Session],
     senders: &mut Senders<'_>,
     prefix: &Prefix,
 ) -> Result<Option<Best>, AllocError>
-    requires state { All IsRouterState state.now }
     requires own { All IsPathList own.now }
-    requires senders { senders.old.items ≡ spec.senders_paths state.now sessions.now }
-    ensures value { IfOk result (λ best. best ≡ spec.best_among net.now state.now most resolver.old own.now sessions.now prefix.now) }
+    ensures value { IfOk result (λ best. best ≡ best_by most resolver.old own.now senders.old.items prefix.now) }
     ensures same { OnOk result (resolver.new ≡ resolver.old) }
     ensures same_senders { OnOk result (senders.new.items ≡ senders.old.items) }
 {
-    let paths = candidates_at(alloc, net, state, resolver, own, sessions, senders, prefix)?;
+    let paths = candidates_at(alloc, resolver, own, senders, prefix)?;
     best_with_further(alloc, most, paths)
 }
 
@@ -87,7 +81,7 @@ fn add_prefixes_of_best(set: &mut BTreeSet<Prefix>, paths: &[Best]) -> Result<()
     ensures { OnOk result (keys set.new ≡ fold (insert_key prefix_cmp) (keys set.old) (spec.best_prefixes paths.now)) }
 {
     for best in paths {
-        insert(set, best.path.prefix)?;
+        insert(set, best.path.prefix())?;
     }
     Ok(())
 }
@@ -148,27 +142,19 @@ fn prefixes_seen(
     listed(alloc, set)
 }
 
-/// Whether two AS paths are the same.
-#[tactic(auto, using(crate::proofs::ChangeLaws::as_path_decides))]
-fn is_same_way(path: &AsPath, other: &AsPath) -> bool
-    ensures { IsTrue result ↔ (path.now ≡ other.now) }
-{
-    *path == *other
-}
-
-/// A best path, which shares the AS path of another one where both are the same.
-pub(crate) fn sharing(other: &BgpPath, best: Best) -> Result<Best, AllocError>
+/// A best path, which shares all but the prefix of another path where it is like that one.
+fn sharing(other: &KeptPath, best: Best) -> Result<Best, AllocError>
     ensures { IfOk result (λ made. made ≡ best) }
 {
-    if !is_same_way(&other.as_path, &best.path.as_path) {
+    if !other.is_like(&best.path) {
         return Ok(best);
     }
     let mut made = best;
-    made.path.as_path = other.as_path.share()?;
+    made.path = other.for_prefix(made.path.prefix())?;
     Ok(made)
 }
 
-/// A best path, which shares the AS path of the last of some: paths of one origin mostly stand side by side.
+/// A best path, which shares all but the prefix of the last of some: paths of one origin mostly stand side by side.
 fn sharing_last(paths: &[Best], best: Best) -> Result<Best, AllocError>
     ensures { IfOk result (λ made. made ≡ best) }
 {
@@ -197,7 +183,7 @@ fn push_some(paths: &mut Items<Best>, best: Option<Best>) -> Result<(), AllocErr
 fn best_of_each(
     alloc: Global,
     most: MaximumPaths,
-    rows: BTreeMap<Prefix, Items<BgpPath>>,
+    rows: BTreeMap<Prefix, Items<KeptPath>>,
 ) -> Result<Items<Best>, AllocError>
     ensures { IfOk result (λ paths. paths ≡ filter_map (λ row. spec.best_with_further most row.1) rows.entries) }
 {
@@ -262,7 +248,7 @@ pub(crate) fn best_paths(
 }
 
 /// Puts paths at the end of a list.
-fn append(all: &mut Items<BgpPath>, paths: Vec<BgpPath>) -> Result<(), AllocError>
+fn append(all: &mut Items<KeptPath>, paths: Vec<KeptPath>) -> Result<(), AllocError>
     ensures { OnOk result (all.new ≡ all.old ++ paths.items) }
 {
     for path in paths {
@@ -280,24 +266,15 @@ fn candidates_for(
     own: &[Items<BgpPath>],
     sessions: &[Session],
     prefixes: &[Prefix],
-) -> Result<Items<BgpPath>, AllocError>
+) -> Result<Items<KeptPath>, AllocError>
     requires state { All IsRouterState state.now }
     requires own { All IsPathList own.now }
     ensures { IfOk result (λ all. all ≡ flat_map (spec.candidates_at net.now state.now resolver.old own.now sessions.now) prefixes.now) }
 {
     let mut all = Items::new(alloc);
-    let mut senders = senders_of(alloc, state, sessions)?;
+    let mut senders = senders_of(alloc, net, state, sessions)?;
     for prefix in prefixes {
-        let paths = candidates_at(
-            alloc,
-            net,
-            state,
-            resolver,
-            own,
-            sessions,
-            &mut senders,
-            prefix,
-        )?;
+        let paths = candidates_at(alloc, resolver, own, &mut senders, prefix)?;
         append(&mut all, paths)?;
     }
     Ok(all)
@@ -312,7 +289,7 @@ pub fn candidates(
     sessions: &Sessions,
     router: RouterId,
     previous: &Knowledge,
-) -> Result<Items<BgpPath>, AllocError>
+) -> Result<Items<KeptPath>, AllocError>
     requires { All IsRouterState previous.now }
     ensures { IfOk result (λ all. all ≡ spec.candidates net.now sessions.now router previous.now) }
 {

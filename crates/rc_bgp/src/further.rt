@@ -7,23 +7,23 @@ ghost use Rattle.rc_bgp.specs.Candidates as spec;
 
 use rc_base::{Addr, Items};
 use rc_bgp_decide::multi;
-use rc_route::{BgpPath, FurtherHops};
+use rc_route::{FurtherHops, KeptPath};
 use std::alloc::{AllocError, Global};
 
 /// The next hop of the path at a place.
-fn next_hop_at(paths: &[BgpPath], place: usize) -> Option<Addr>
+fn next_hop_at(paths: &[KeptPath], place: usize) -> Option<Addr>
     ensures { result ≡ option_map (λ (x : Path). x.next_hop) (slice_get paths.now place) }
 {
     match paths.get(place) {
         None => None,
-        Some(path) => Some(path.next_hop),
+        Some(path) => Some(path.next_hop()),
     }
 }
 
 /// The next hops of the paths at some places.
 fn next_hops_at(
     alloc: Global,
-    paths: &[BgpPath],
+    paths: &[KeptPath],
     places: &[usize],
 ) -> Result<Items<Addr>, AllocError>
     ensures { IfOk result (λ hops. hops ≡ next_hops_at paths.now places.now) }
@@ -52,7 +52,11 @@ fn behind_first(places: &[usize]) -> &[usize]
 
 /// The next hops of up to so many paths, but for that of the best one. One path takes no memory and no look at the others.
 #[tactic(auto, using(rc_bgp_decide::proofs::SeveralLaws::none_behind))]
-pub(crate) fn further(alloc: Global, most: u8, paths: &[BgpPath]) -> Result<FurtherHops, AllocError>
+pub(crate) fn further(
+    alloc: Global,
+    most: u8,
+    paths: &[KeptPath],
+) -> Result<FurtherHops, AllocError>
     ensures { IfOk result (λ also. also ≡ spec.further most paths.now) }
 {
     if most <= 1 {

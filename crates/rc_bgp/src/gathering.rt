@@ -9,27 +9,28 @@ ghost use Rattle.rc_bgp.specs.Gathering as spec;
 ghost use Rattle.rc_bgp.specs.RouterStates.{paths_of};
 ghost use Rattle.rc_bgp.specs.Telling.{AreListed};
 
-use crate::hearing::{best_path_for, heard_path, path_heard};
+use crate::hearing::best_path_for;
+use crate::listener::Listener;
 use crate::resolver::Resolver;
 use crate::router_state::paths_of;
 use crate::telling::listed_for;
-use crate::{Inside, Session, export};
+use crate::{Inside, Session};
 use rc_base::{Items, Prefix, PrefixMap};
-use rc_bgp_session::{LastAsPath, is_internal};
+use rc_bgp_session::is_internal;
 use rc_config::Network;
 use rc_pieces::{Knowledge, Listed};
-use rc_route::{Best, BgpPath};
+use rc_route::{Best, BgpPath, KeptPath};
 use std::alloc::{AllocError, Global};
 
 /// Paths under their prefixes, those of one in the order in which they came.
-pub(crate) type PathsByPrefix = PrefixMap<Items<BgpPath>>;
+pub(crate) type PathsByPrefix = PrefixMap<Items<KeptPath>>;
 
 /// One path more, behind those that are known.
 fn with_path(
     alloc: Global,
-    known: Option<Items<BgpPath>>,
-    path: BgpPath,
-) -> Result<Items<BgpPath>, AllocError>
+    known: Option<Items<KeptPath>>,
+    path: KeptPath,
+) -> Result<Items<KeptPath>, AllocError>
     ensures { IfOk result (λ paths. paths ≡ spec.with_path known path) }
 {
     match known {
@@ -47,10 +48,10 @@ fn with_path(
 
 /// Puts a path under its prefix. Until it stands there the prefix has none.
 #[tactic(auto, using(rc_base::proofs::GroupLaws::insert_again))]
-fn add(alloc: Global, rows: &mut PathsByPrefix, path: BgpPath) -> Result<(), AllocError>
+fn add(alloc: Global, rows: &mut PathsByPrefix, path: KeptPath) -> Result<(), AllocError>
     ensures { OnOk result (rows.new ≡ with_thing spec.prefix_of spec.with_path rows.old path) }
 {
-    let prefix = path.prefix;
+    let prefix = path.prefix();
     let known = rows.insert(prefix, Items::new(alloc))?;
     let paths = with_path(alloc, known, path)?;
     rows.insert(prefix, paths)?;
@@ -61,7 +62,7 @@ fn add(alloc: Global, rows: &mut PathsByPrefix, path: BgpPath) -> Result<(), All
 fn add_some(
     alloc: Global,
     rows: &mut PathsByPrefix,
-    path: Option<BgpPath>,
+    path: Option<KeptPath>,
 ) -> Result<(), AllocError>
     ensures { OnOk result (rows.new ≡ spec.with_paths rows.old (option_to_list path)) }
 {
@@ -76,7 +77,7 @@ fn add_copies(alloc: Global, rows: &mut PathsByPrefix, paths: &[BgpPath]) -> Res
     ensures { OnOk result (rows.new ≡ spec.with_paths rows.old paths.now) }
 {
     for path in paths {
-        add(alloc, rows, path.copy()?)?;
+        add(alloc, rows, KeptPath::of(alloc, path.copy()?)?)?;
     }
     Ok(())
 }
@@ -99,75 +100,61 @@ fn add_own(
 fn may_go(session: &Session, best: &Best) -> bool
     ensures { result ≡ spec.may_go session.now best.now }
 {
-    (session.is_external || !is_internal(best.path.source)) && !best.path.prefix.is_default()
-}
-
-/// What a router hears over a session of a best path of the sender.
-fn heard_of(
-    alloc: Global,
-    net: &Network,
-    resolver: &mut Resolver<'_>,
-    session: &Session,
-    best: &Best,
-) -> Result<Option<BgpPath>, AllocError>
-    ensures value { IfOk result (λ made. made ≡ spec.heard_of net.now resolver.old session.now best.now) }
-    ensures same { OnOk result (resolver.new ≡ resolver.old) }
-{
-    let sent = export(alloc, net, session, &best.path)?;
-    match sent {
-        None => Ok(None),
-        Some(path) => heard_path(alloc, net, resolver, session, path),
-    }
+    (session.is_external || !is_internal(best.path.source())) && !best.path.prefix().is_default()
 }
 
 /// Puts what a router hears over a session of a best path of the sender under its prefix.
 fn add_heard(
     alloc: Global,
-    net: &Network,
+    listener: &mut Listener<'_>,
     resolver: &mut Resolver<'_>,
-    session: &Session,
     best: &Best,
     rows: &mut PathsByPrefix,
 ) -> Result<(), AllocError>
-    ensures value { OnOk result (rows.new ≡ spec.with_paths rows.old (option_to_list (spec.heard_of net.now resolver.old session.now best.now))) }
+    ensures value { OnOk result (rows.new ≡ spec.with_paths rows.old (option_to_list (spec.heard_of listener.old.net resolver.old listener.old.session best.now))) }
     ensures same { OnOk result (resolver.new ≡ resolver.old) }
+    ensures same_listener { OnOk result (listener.new ≡ listener.old) }
 {
-    let path = heard_of(alloc, net, resolver, session, best)?;
+    let path = listener.hear(alloc, resolver, &best.path)?;
     add_some(alloc, rows, path)
 }
 
 /// The same, where the sender tells the path. What it doesn't tell costs a look.
 fn add_told(
     alloc: Global,
-    net: &Network,
+    listener: &mut Listener<'_>,
     resolver: &mut Resolver<'_>,
     session: &Session,
     best: &Best,
     rows: &mut PathsByPrefix,
 ) -> Result<(), AllocError>
-    ensures value { OnOk result (rows.new ≡ spec.with_paths rows.old (option_to_list (spec.told_of net.now resolver.old session.now best.now))) }
+    requires { listener.old.session ≡ session.now }
+    ensures value { OnOk result (rows.new ≡ spec.with_paths rows.old (option_to_list (spec.told_of listener.old.net resolver.old session.now best.now))) }
     ensures same { OnOk result (resolver.new ≡ resolver.old) }
+    ensures same_listener { OnOk result (listener.new ≡ listener.old) }
 {
     if !may_go(session, best) {
         return Ok(());
     }
-    add_heard(alloc, net, resolver, session, best, rows)
+    add_heard(alloc, listener, resolver, best, rows)
 }
 
 /// Puts what a router hears over a session of some best paths of the sender under their prefixes.
 fn add_all_told(
     alloc: Global,
-    net: &Network,
+    listener: &mut Listener<'_>,
     resolver: &mut Resolver<'_>,
     session: &Session,
     paths: &[Best],
     rows: &mut PathsByPrefix,
 ) -> Result<(), AllocError>
-    ensures value { OnOk result (rows.new ≡ spec.with_paths rows.old (filter_map (spec.told_of net.now resolver.old session.now) paths.now)) }
+    requires { listener.old.session ≡ session.now }
+    ensures value { OnOk result (rows.new ≡ spec.with_paths rows.old (filter_map (spec.told_of listener.old.net resolver.old session.now) paths.now)) }
     ensures same { OnOk result (resolver.new ≡ resolver.old) }
+    ensures same_listener { OnOk result (listener.new ≡ listener.old) }
 {
     for best in paths {
-        add_told(alloc, net, resolver, session, best, rows)?;
+        add_told(alloc, listener, resolver, session, best, rows)?;
     }
     Ok(())
 }
@@ -175,17 +162,18 @@ fn add_all_told(
 /// Puts what a router hears over a session of a list of best paths of the sender under their prefixes.
 fn add_all_listed(
     alloc: Global,
-    net: &Network,
+    listener: &mut Listener<'_>,
     resolver: &mut Resolver<'_>,
     session: &Session,
     paths: &Listed<'_, Best>,
     rows: &mut PathsByPrefix,
 ) -> Result<(), AllocError>
-    ensures value { OnOk result (rows.new ≡ spec.with_paths rows.old (filter_map (spec.told_of net.now resolver.old session.now) paths.now)) }
+    requires { listener.old.session ≡ session.now }
+    ensures value { OnOk result (rows.new ≡ spec.with_paths rows.old (filter_map (spec.told_of listener.old.net resolver.old session.now) paths.now)) }
     ensures same { OnOk result (resolver.new ≡ resolver.old) }
 {
     for piece in paths.pieces() {
-        add_all_told(alloc, net, resolver, session, piece.as_slice(), rows)?;
+        add_all_told(alloc, listener, resolver, session, piece.as_slice(), rows)?;
     }
     Ok(())
 }
@@ -195,7 +183,7 @@ fn add_all_listed(
 #[tactic(auto, using(crate::proofs::TellingLaws::told_all))]
 fn add_offered(
     alloc: Global,
-    net: &Network,
+    listener: &mut Listener<'_>,
     state: &Knowledge,
     inside: &Inside,
     resolver: &mut Resolver<'_>,
@@ -204,15 +192,16 @@ fn add_offered(
 ) -> Result<(), AllocError>
     requires state { All IsRouterState state.now }
     requires inside { AreListed inside.now state.now }
-    ensures value { OnOk result (rows.new ≡ spec.with_paths rows.old (filter_map (spec.told_of net.now resolver.old session.now) (paths_of state.now session.now.sender))) }
+    requires listener { listener.old.session ≡ session.now }
+    ensures value { OnOk result (rows.new ≡ spec.with_paths rows.old (filter_map (spec.told_of listener.old.net resolver.old session.now) (paths_of state.now session.now.sender))) }
     ensures same { OnOk result (resolver.new ≡ resolver.old) }
 {
     let listed = listed_for(inside, session);
     match listed {
-        Some(listed) => add_all_told(alloc, net, resolver, session, listed, rows),
+        Some(listed) => add_all_told(alloc, listener, resolver, session, listed, rows),
         None => {
             let paths = paths_of(state, session.sender);
-            add_all_listed(alloc, net, resolver, session, &paths, rows)
+            add_all_listed(alloc, listener, resolver, session, &paths, rows)
         }
     }
 }
@@ -236,18 +225,10 @@ fn add_over(
     let prefix = Prefix::default_route();
     let paths = paths_of(state, session.sender);
     let best = best_path_for(&paths, &prefix);
-    let default = path_heard(
-        alloc,
-        &mut LastAsPath::new(),
-        net,
-        state,
-        resolver,
-        session,
-        best,
-        &prefix,
-    )?;
+    let mut listener = Listener::new(net, session);
+    let default = listener.hear_for(alloc, resolver, best, &prefix)?;
     add_some(alloc, rows, default)?;
-    add_offered(alloc, net, state, inside, resolver, session, rows)
+    add_offered(alloc, &mut listener, state, inside, resolver, session, rows)
 }
 
 /// Puts all that a router hears over some sessions under its prefixes.

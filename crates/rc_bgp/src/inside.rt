@@ -22,7 +22,7 @@ fn is_told(paths: &mut Finder<'_, Best>, prefix: &Prefix) -> bool
 {
     let found = paths.at(prefix);
     match found {
-        Some(best) => !is_internal(best.path.source),
+        Some(best) => !is_internal(best.path.source()),
         None => false,
     }
 }

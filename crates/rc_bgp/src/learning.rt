@@ -45,7 +45,7 @@ fn all_hops(alloc: Global, best: &Best) -> Result<Hops, AllocError>
     ensures { IfOk result (λ hops. hops ≡ spec.hops_of_best best.now) }
 {
     let mut set = BTreeSet::new(alloc);
-    insert(&mut set, best.path.next_hop)?;
+    insert(&mut set, best.path.next_hop())?;
     insert_all(&mut set, best.also.as_slice())?;
     gateways(alloc, set)
 }
@@ -58,7 +58,7 @@ fn hops_of_best(alloc: Global, best: &Best) -> Result<Hops, AllocError>
     ensures err { IfErr result (λ error. best.now.also ≢ []) }
 {
     if best.also.is_empty() {
-        return Ok(Hops::one(Hop::Via(best.path.next_hop, None)));
+        return Ok(Hops::one(Hop::Via(best.path.next_hop(), None)));
     }
     let hops = all_hops(alloc, best)?;
     Ok(hops)
@@ -77,10 +77,10 @@ fn route_by(
 {
     let hops = hops_of_best(alloc, best)?;
     Ok(Some(Route {
-        prefix: best.path.prefix,
+        prefix: best.path.prefix(),
         source,
         distance,
-        metric: best.path.med,
+        metric: best.path.med(),
         hops,
     }))
 }
@@ -93,7 +93,7 @@ pub fn learned_route(alloc: Global, best: &Best) -> Result<Option<Route>, AllocE
     ensures value { IfOk result (λ route. route ≡ spec.learned_route best.now) }
     ensures err { IfErr result (λ error. best.now.also ≢ []) }
 {
-    match best.path.source {
+    match best.path.source() {
         PathSource::External => route_by(alloc, best, Source::Ebgp, 20),
         PathSource::Internal => route_by(alloc, best, Source::Ibgp, 200),
         _ => Ok(None),

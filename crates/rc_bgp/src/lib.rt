@@ -9,7 +9,7 @@
 //! The crate goes one way: what a router says of itself and its neighbours (`speaker`, `own_addresses`, `statement`), the sessions that two
 //! such statements make (`pairing`) and those that are up in a state (`up`, by `reaching` and `resolver`); the paths that a router originates
 //! (`originating` by lines `network`, `redistributing`, and `all_originated`), what it knew (`router_state`) and hears of what others knew
-//! (`hearing`, `senders`), for one prefix or, path by path as its senders tell them, for all (`gathering`), its candidates and the best of them
+//! (`listener`; `hearing`, `senders`), for one prefix or, path by path as its senders tell them, for all (`gathering`), its candidates and the best of them
 //! (`deciding`) with as many further next hops as it may use (`maximum`, `further`), and the routes that these give (`learning`).
 //! `round_paths` gives a router's best paths from one round to the next and what changed in them (`changes`), and in what internal peers may be
 //! told of them (`inside`): where a router reads what it read before (`same_inputs`), only the prefixes that its senders may tell it anew
@@ -24,6 +24,7 @@ mod gathering;
 mod hearing;
 mod inside;
 mod learning;
+mod listener;
 mod maximum;
 mod news;
 mod originating;

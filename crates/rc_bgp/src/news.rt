@@ -63,7 +63,7 @@ fn may_hear(own: Option<u32>, paths: &mut Finder<'_, Best>, prefix: &Prefix) -> 
     let found = paths.at(prefix);
     match found {
         None => false,
-        Some(best) => !is_told_back(own, &best.path.as_path),
+        Some(best) => !is_told_back(own, best.path.as_path()),
     }
 }
 

@@ -54,19 +54,9 @@ pub(crate) fn decided(
     let mut changed = Items::new(alloc);
     let mut edits = VecDeque::new(alloc);
     let mut finder = Finder::of(known);
-    let mut senders = senders_of(alloc, state, sessions)?;
+    let mut senders = senders_of(alloc, net, state, sessions)?;
     for prefix in prefixes {
-        let best = best_among(
-            alloc,
-            net,
-            state,
-            most,
-            resolver,
-            own,
-            sessions,
-            &mut senders,
-            prefix,
-        )?;
+        let best = best_among(alloc, most, resolver, own, &mut senders, prefix)?;
         if is_known(finder.at(prefix), &best) {
             continue;
         }

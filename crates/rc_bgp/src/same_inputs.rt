@@ -148,11 +148,11 @@ fn is_told_alike(
     requires now { IsTable now.now }
     ensures { IfOk result (λ is. is ≡ true → IsToldAlike before.now now.now best.now) }
 {
-    if is_originated(best.path.source) {
+    if is_originated(best.path.source()) {
         return Ok(true);
     }
-    let metric = metric_to(alloc, before, best.path.next_hop)?;
-    let other = metric_to(alloc, now, best.path.next_hop)?;
+    let metric = metric_to(alloc, before, best.path.next_hop())?;
+    let other = metric_to(alloc, now, best.path.next_hop())?;
     Ok(is_same_metric(metric, other))
 }
 

@@ -22,7 +22,7 @@ fn add_not_heard_inside(told: &mut Items<Best>, paths: &[Best]) -> Result<(), Al
     ensures { OnOk result (told.new ≡ told.old ++ spec.may_tell paths.now) }
 {
     for best in paths {
-        if !is_internal(best.path.source) {
+        if !is_internal(best.path.source()) {
             told.push(best.copy()?)?;
         }
     }

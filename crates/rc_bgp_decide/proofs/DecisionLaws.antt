@@ -256,3 +256,11 @@ none_from_none {X} of (x ∷ xs) none =
     by_left : (es : List (ℕ × X)) → HasSome es → option_map (λ (e : ℕ × X). e.0) (slice_get es 0) ≡ None → ⊥
     by_left [] some none = some
     by_left (e ∷ es) some none = absurd (cc)
+
+-- one alone is the best
+pub alone_is_best : {X : Type 0} (of : X → Standing) (xs : List X) → length xs ≡ 1 → Some 0 ≡ place_of_best of xs
+alone_is_best {X} of xs one = by (place_of_best of xs) refl
+  where
+    by : (o : Option ℕ) → o ≡ place_of_best of xs → Some 0 ≡ o
+    by None is = absurd (let empty : xs ≡ [] = none_from_none of xs (sym is) in let none : length xs ≡ 0 = ap length empty in omega arith)
+    by (Some i) is = (let below : i < length xs = place_within of xs (Some i) is in ap Some (let least : 0 ≡ i = omega arith in least))

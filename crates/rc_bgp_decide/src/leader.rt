@@ -6,7 +6,7 @@ ghost use Rattle.rc_bgp_decide.specs.Tests.{is_ahead, is_beaten, leader_after, l
 
 use crate::Standing;
 use crate::comparing::{is_better_first, is_better_last};
-use rc_route::BgpPath;
+use rc_route::KeptPath;
 
 /// What has a standing among others.
 pub(crate) trait Stands {
@@ -17,7 +17,7 @@ pub(crate) trait Stands {
         ensures { result ≡ stands self.now };
 }
 
-impl Stands for BgpPath {
+impl Stands for KeptPath {
     ghost stands = { standing };
 
     fn standing(&self) -> Standing {

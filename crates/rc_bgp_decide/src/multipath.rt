@@ -13,7 +13,7 @@ use crate::choice::best;
 use crate::comparing::{is_originated, origin_number, source_rank};
 use crate::turn::Turn;
 use rc_base::Items;
-use rc_route::BgpPath;
+use rc_route::KeptPath;
 use std::alloc::{AllocError, Global};
 use std::collections::BTreeSet;
 
@@ -31,14 +31,14 @@ fn is_equal(x: &Standing, y: &Standing) -> bool
 }
 
 /// Whether two paths have one AS path.
-fn has_same_as_path(x: &BgpPath, y: &BgpPath) -> bool
+fn has_same_as_path(x: &KeptPath, y: &KeptPath) -> bool
     ensures { result ≡ same_as_path x.now y.now }
 {
-    x.as_path == y.as_path
+    *x.as_path() == *y.as_path()
 }
 
 /// Whether a path is another one than the best, equal to it but for the sender, and has its whole AS path.
-fn is_other(place: usize, best: &BgpPath, index: usize, path: &BgpPath) -> bool
+fn is_other(place: usize, best: &KeptPath, index: usize, path: &KeptPath) -> bool
     ensures { result ≡ is_other (place, best.now) (index, path.now) }
 {
     index != place
@@ -47,14 +47,14 @@ fn is_other(place: usize, best: &BgpPath, index: usize, path: &BgpPath) -> bool
 }
 
 /// The turn of a path at a place.
-fn turn_of(place: usize, path: &BgpPath) -> Turn
+fn turn_of(place: usize, path: &KeptPath) -> Turn
     ensures { result ≡ turn (place, path.now) }
 {
     Turn {
-        sender_id: path.sender_id,
-        neighbor: path.neighbor,
+        sender_id: path.sender_id(),
+        neighbor: path.neighbor(),
         place,
-        next_hop: path.next_hop,
+        next_hop: path.next_hop(),
     }
 }
 
@@ -70,9 +70,9 @@ fn insert(set: &mut BTreeSet<Turn>, turn: Turn) -> Result<(), AllocError>
 fn add_other(
     set: &mut BTreeSet<Turn>,
     place: usize,
-    best: &BgpPath,
+    best: &KeptPath,
     index: usize,
-    path: &BgpPath,
+    path: &KeptPath,
 ) -> Result<(), AllocError>
     ensures { OnOk result (keys set.new ≡ with_other (place, best.now) (keys set.old) (index, path.now)) }
 {
@@ -85,9 +85,9 @@ fn add_other(
 /// The turns of the paths that are as good as the best one.
 fn other_turns(
     alloc: Global,
-    paths: &[BgpPath],
+    paths: &[KeptPath],
     place: usize,
-    best: &BgpPath,
+    best: &KeptPath,
 ) -> Result<BTreeSet<Turn>, AllocError>
     ensures { IfOk result (λ set. keys set ≡ in_order turn_cmp (other_turns (place, best.now) (enumerate_from 0 paths.now))) }
 {
@@ -139,13 +139,13 @@ fn chosen_of(
 /// The turns behind that of the best path. What the router originates has none.
 fn turns_behind(
     alloc: Global,
-    paths: &[BgpPath],
+    paths: &[KeptPath],
     place: usize,
-    best: &BgpPath,
+    best: &KeptPath,
 ) -> Result<BTreeSet<Turn>, AllocError>
     ensures { IfOk result (λ set. keys set ≡ turns_behind (place, best.now) (enumerate_from 0 paths.now)) }
 {
-    if is_originated(best.source) {
+    if is_originated(best.source()) {
         return Ok(BTreeSet::new(alloc));
     }
     other_turns(alloc, paths, place, best)
@@ -166,10 +166,10 @@ fn places_of(alloc: Global, turns: &[Turn]) -> Result<Vec<usize>, AllocError>
 #[tactic(auto, using(crate::proofs::MultipathLaws::places_with))]
 fn places_with(
     alloc: Global,
-    paths: &[BgpPath],
+    paths: &[KeptPath],
     most: usize,
     place: usize,
-    best: &BgpPath,
+    best: &KeptPath,
 ) -> Result<Vec<usize>, AllocError>
     requires place { Some place ≡ best_place paths.now }
     requires best { slice_get paths.now place ≡ Some best.now }
@@ -181,7 +181,7 @@ fn places_with(
 }
 
 /// The path at a place.
-fn at_place(paths: &[BgpPath], place: usize) -> Option<&BgpPath>
+fn at_place(paths: &[KeptPath], place: usize) -> Option<&KeptPath>
     ensures { option_copied result ≡ slice_get paths.now place }
 {
     paths.get(place)
@@ -189,7 +189,7 @@ fn at_place(paths: &[BgpPath], place: usize) -> Option<&BgpPath>
 
 /// The places of up to so many paths, the best one's first.
 #[tactic(auto, using(crate::proofs::MultipathLaws::no_places))]
-fn places_among(alloc: Global, paths: &[BgpPath], most: usize) -> Result<Vec<usize>, AllocError>
+fn places_among(alloc: Global, paths: &[KeptPath], most: usize) -> Result<Vec<usize>, AllocError>
     ensures { IfOk result (λ places. places.items ≡ multi_places most paths.now) }
 {
     let found = best(paths);
@@ -209,7 +209,7 @@ fn places_among(alloc: Global, paths: &[BgpPath], most: usize) -> Result<Vec<usi
 /// sent it, those that are as good up to the metric of the route to the next hop (RFC 4271 s.9.1.2.2 a to e) and have its whole AS path,
 /// by BGP identifier of the sender, then by its address, then by place. Of paths over one next hop the first counts. None exactly where
 /// there is no path. It errs only where memory runs out.
-pub fn multi(alloc: Global, paths: &[BgpPath], most: usize) -> Result<Vec<usize>, AllocError>
+pub fn multi(alloc: Global, paths: &[KeptPath], most: usize) -> Result<Vec<usize>, AllocError>
     requires { 1 ≤ most }
     ensures places { IfOk result (λ places. places.items ≡ multi_places most paths.now) }
     ensures best { IfOk result (λ places. slice_get places.items 0 ≡ best_place paths.now) }

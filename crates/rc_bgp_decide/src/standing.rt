@@ -3,7 +3,7 @@ ghost use Rattle.std.specs.Prelude.{◌≡◌};
 ghost use Rattle.rc_bgp_decide.specs.Decision.{standing};
 
 use rc_base::{Addr, Origin};
-use rc_route::{BgpPath, PathSource};
+use rc_route::{BgpPath, KeptPath, PathSource};
 
 /// What the decision reads of a path (RFC 4271 s.9.1.2.2). It can be had before the path is built.
 #[derive(Clone, Copy)]
@@ -32,7 +32,14 @@ pub struct Standing {
 
 impl Standing {
     /// The standing of a path.
-    pub fn of(path: &BgpPath) -> Standing
+    pub fn of(path: &KeptPath) -> Standing
+        ensures { result ≡ standing path.now }
+    {
+        Standing::of_whole(path.like())
+    }
+
+    /// That of a path in one piece: its prefix doesn't count.
+    fn of_whole(path: &BgpPath) -> Standing
         ensures { result ≡ standing path.now }
     {
         Standing {

@@ -1,1 +1,2 @@
+mod PassedLaws
 mod SameLaws

@@ -1,3 +1,4 @@
 pub mod Passing
 pub mod Nets
 pub mod PassingRows
+pub mod Passed

@@ -9,10 +9,10 @@ mod last_as_path;
 mod passing;
 mod policy;
 mod session;
+mod through;
 
 pub use last_as_path::LastAsPath;
-pub use passing::{
-    export, export_with_last, import, is_internal, is_originated, originated_default, taken,
-};
+pub use passing::{export, import, is_internal, is_originated, originated_default, taken};
 pub use policy::mapped_path;
 pub use session::Session;
+pub use through::{asks_no_prefix, passed};

@@ -122,7 +122,6 @@ fn communities_to(neighbor: &Neighbor, path: &BgpPath) -> Result<Communities, Al
 }
 
 /// A path as it is sent with this MED, behind the prefix list and the route map.
-#[inline]
 fn as_sent(
     alloc: Global,
     last: &mut LastAsPath,
@@ -177,7 +176,6 @@ fn exported_by_map(
 }
 
 /// What a sender exports, by its statement about the receiver. Without a route map the path isn't copied before.
-#[inline]
 fn exported(
     alloc: Global,
     last: &mut LastAsPath,
@@ -219,8 +217,7 @@ pub fn export(
 }
 
 /// The same, where the AS path that the sender put together last is at hand: mostly the path goes on with that one.
-#[inline]
-pub fn export_with_last(
+pub(crate) fn export_with_last(
     alloc: Global,
     last: &mut LastAsPath,
     net: &Network,
@@ -306,7 +303,6 @@ fn source_over(session: &Session) -> PathSource
 }
 
 /// A path with what its receiver notes of it.
-#[inline]
 fn as_received(session: &Session, path: BgpPath) -> BgpPath
     ensures { result ≡ spec.as_received session.now path }
 {
@@ -330,7 +326,6 @@ fn weight_of(neighbor: &Neighbor) -> u32
 }
 
 /// What a receiver makes of a path, by its statement about the sender. The path is the receiver's own already.
-#[inline]
 fn imported(
     alloc: Global,
     file: &RouterText,
@@ -358,7 +353,6 @@ fn imported(
 
 /// What the receiver of a session takes of an advertised path that is its own already: what `import` takes of it, without a copy.
 /// It errs only where memory runs out.
-#[inline]
 pub fn taken(
     alloc: Global,
     net: &Network,

@@ -93,7 +93,6 @@ fn mapped_by(
 
 /// What the route map that is named makes of a path: the path as it is where none is named, and `None` exactly where the map
 /// rejects it or isn't there. It errs only where memory runs out.
-#[inline]
 pub fn mapped_path(
     alloc: Global,
     file: &RouterText,

@@ -17,7 +17,7 @@ use rc_config::{
 };
 use rc_pieces::Listed;
 use rc_policy::{Attrs, apply};
-use rc_route::{Best, BgpPath, Route, Source};
+use rc_route::{Best, BgpPath, KeptPath, Route, Source};
 use std::alloc::{AllocError, Global};
 
 /// The greatest metric that is sent: LSInfinity (RFC 2328 appendix B) less one.
@@ -105,7 +105,7 @@ fn type_of(line: &Redistribution) -> MetricType
 }
 
 /// The best path to a prefix.
-fn best_path_for<'a>(paths: &Listed<'a, Best>, prefix: &Prefix) -> Option<&'a BgpPath>
+fn best_path_for<'a>(paths: &Listed<'a, Best>, prefix: &Prefix) -> Option<&'a KeptPath>
     requires { IsBestList paths.now }
     ensures { option_copied result ≡ best_path_for paths.now prefix.now }
 {
@@ -121,7 +121,7 @@ fn ebgp_path_of<'a>(
     source: Source,
     prefix: &Prefix,
     paths: &Listed<'a, Best>,
-) -> Option<&'a BgpPath>
+) -> Option<&'a KeptPath>
     requires { IsBestList paths.now }
     ensures { option_copied result ≡ spec.ebgp_path_of source prefix.now paths.now }
 {
@@ -131,29 +131,34 @@ fn ebgp_path_of<'a>(
     }
 }
 
+/// What the route map of a line sees of a route that a path gave. The path's own prefix doesn't count.
+fn attrs_given(line: &Redistribution, prefix: Prefix, path: &BgpPath) -> Result<Attrs, AllocError>
+    ensures { IfOk result (λ attrs. attrs ≡ spec.attrs_with line.now prefix (Some path.now)) }
+{
+    let communities = path.communities.share()?;
+    let as_path = path.as_path.share()?;
+    Ok(Attrs {
+        prefix,
+        metric: metric_of(line),
+        metric_type: type_of(line),
+        local_preference: path.local_preference,
+        weight: path.weight,
+        origin: path.origin,
+        as_path,
+        communities,
+    })
+}
+
 /// What the route map of a line sees of a route that a path gave, or that begins here.
 fn attrs_with(
     line: &Redistribution,
     prefix: Prefix,
-    path: Option<&BgpPath>,
+    path: Option<&KeptPath>,
 ) -> Result<Attrs, AllocError>
     ensures { IfOk result (λ attrs. attrs ≡ spec.attrs_with line.now prefix (option_copied path.entry)) }
 {
     match path {
-        Some(path) => {
-            let communities = path.communities.share()?;
-            let as_path = path.as_path.share()?;
-            Ok(Attrs {
-                prefix,
-                metric: metric_of(line),
-                metric_type: type_of(line),
-                local_preference: path.local_preference,
-                weight: path.weight,
-                origin: path.origin,
-                as_path,
-                communities,
-            })
-        }
+        Some(path) => attrs_given(line, prefix, path.like()),
         None => Ok(Attrs {
             prefix,
             metric: metric_of(line),

@@ -25,10 +25,8 @@ impl Alike for Route {
 }
 
 impl Alike for Best {
-    #[inline]
-    #[tactic(auto, using(rc_route::proofs::EqualLaws::best_decides))]
     fn is_same(&self, other: &Best) -> bool {
-        *self == *other
+        Best::is_same(self, other)
     }
 }
 

@@ -7,12 +7,10 @@ use Rattle.rc_base.specs.Prefix.{Cidr}
 use Rattle.rc_base.specs.declared.origin.Origin.{Origin}
 use Rattle.rc_base.specs.contracts.origin.OriginPartialEq.TheImpl as origin_impl
 use Rattle.rc_route.proofs.HopLaws.{same_hops-Decides}
-use Rattle.rc_route.specs.declared.best.Best.{Best}
 use Rattle.rc_route.specs.declared.path.BgpPath.{BgpPath}
 use Rattle.rc_route.specs.declared.path.PathSource.{PathSource}
 use Rattle.rc_route.specs.declared.route.Route.{Route}
 use Rattle.rc_route.specs.declared.route.Source.{Source}
-use Rattle.rc_route.specs.contracts.best.BestPartialEq.TheImpl as best_impl
 use Rattle.rc_route.specs.contracts.path.BgpPathPartialEq.TheImpl as path_impl
 use Rattle.rc_route.specs.contracts.path.PathSourcePartialEq.TheImpl as path_source_impl
 use Rattle.rc_route.specs.contracts.route.RoutePartialEq.TheImpl as route_impl
@@ -41,7 +39,3 @@ pub path_decides : (x y : BgpPath) → Decides (path_impl.eq-value.it x y) (x �
 path_decides x y =
     Decides-like _ (λ h. search rules) (λ e. search rules)
     (Decides-and _ _ (prefix-Decides x.prefix y.prefix) (Decides-and _ _ (Decides-eqb x.next_hop y.next_hop) (Decides-and _ _ (Decides-eqb x.med y.med) (Decides-and _ _ (Decides-eqb x.local_preference y.local_preference) (Decides-and _ _ (Decides-eqb x.weight y.weight) (Decides-and _ _ (Decides-eqb x.sender_id y.sender_id) (Decides-and _ _ (Decides-eqb x.neighbor y.neighbor) (Decides-and _ _ (Decides-eqb x.igp_metric y.igp_metric) (Decides-and _ _ (origin-Decides x.origin y.origin) (Decides-and _ _ (path_source-Decides x.source y.source) (Decides-and _ _ (Decides-eqb x.sender y.sender) (Decides-and _ _ (bytes_decides x.communities y.communities) (bytes_decides x.as_path y.as_path)))))))))))))
-
--- the test of two best paths decides whether they are equal
-pub best_decides : (x y : Best) → Decides (best_impl.eq-value.it x y) (x ≡ y)
-best_decides x y = Decides-like _ (λ h. search rules) (λ e. search rules) (Decides-and _ _ (path_decides x.path y.path) (bytes_decides x.also y.also))

@@ -1,5 +1,7 @@
--- The order of the sources of BGP paths.
+-- The order of the sources of BGP paths, and a path for another prefix.
 use Rattle.std.specs.Prelude.{ℕ}
+use Rattle.rc_base.specs.Prefix.{Cidr}
+use Rattle.rc_route.specs.declared.path.BgpPath.{BgpPath}
 use Rattle.rc_route.specs.declared.path.PathSource.{PathSource}
 use Rattle.rc_route.specs.declared.path.PathSource.TheVariants.{Network, Connected, Static, Ospf, External, Internal}
 
@@ -12,3 +14,7 @@ path_source_rank Static = 2
 path_source_rank Ospf = 3
 path_source_rank External = 4
 path_source_rank Internal = 5
+
+-- the same path for another prefix: all its attributes stay (RFC 4271 s.5)
+abbrev pub for_prefix : Cidr → BgpPath → BgpPath
+for_prefix p x = record x { prefix = p }

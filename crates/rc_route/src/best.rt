@@ -1,15 +1,14 @@
 //! The best path of a prefix, and the next hops that go with it.
-ghost use Rattle.std.specs.Prelude.{◌≡◌, IfOk};
+ghost use Rattle.std.specs.Prelude.{◌≡◌, ◌↔◌, IfOk, IsTrue};
 ghost use Rattle.rc_route.specs.Best.{alone};
 
-use crate::{BgpPath, FurtherHops};
+use crate::{FurtherHops, KeptPath};
 use std::alloc::AllocError;
 
 /// What a router chose for a prefix: the best path, which it tells others, and the next hops of further paths over which it sends
 /// packets as well (multipath).
-#[derive(PartialEq, Eq)]
 pub struct Best {
-    pub path: BgpPath,
+    pub path: KeptPath,
     /// Beside the path's own next hop.
     pub also: FurtherHops,
 }
@@ -23,7 +22,7 @@ impl Drop for Best {
 
 impl Best {
     /// A best path without further next hops. It takes no memory.
-    pub fn alone(path: BgpPath) -> Best
+    pub fn alone(path: KeptPath) -> Best
         ensures { result ≡ alone path }
     {
         Best {
@@ -32,33 +31,21 @@ impl Best {
         }
     }
 
-    /// The same again, which shares all lists of this one. It takes no memory, and errs only where as many hold these as can be
+    /// The same again, which shares all of this one but the prefix. It takes no memory, and errs only where as many hold that as can be
     /// counted.
     #[inline]
     pub fn copy(&self) -> Result<Best, AllocError>
         ensures { IfOk result (λ copied. copied ≡ self.now) }
     {
-        // In one piece: a path of its own would be moved in, and a chain of ASes copies these most.
+        let path = self.path.share()?;
         let also = self.also.share()?;
-        let communities = self.path.communities.share()?;
-        let as_path = self.path.as_path.share()?;
-        Ok(Best {
-            path: BgpPath {
-                prefix: self.path.prefix,
-                next_hop: self.path.next_hop,
-                med: self.path.med,
-                local_preference: self.path.local_preference,
-                weight: self.path.weight,
-                sender_id: self.path.sender_id,
-                neighbor: self.path.neighbor,
-                igp_metric: self.path.igp_metric,
-                origin: self.path.origin,
-                source: self.path.source,
-                sender: self.path.sender,
-                communities,
-                as_path,
-            },
-            also,
-        })
+        Ok(Best { path, also })
+    }
+
+    /// Whether two are the same, in all that they hold.
+    pub fn is_same(&self, other: &Best) -> bool
+        ensures { IsTrue result ↔ (self.now ≡ other.now) }
+    {
+        self.path.is_same(&other.path) && self.also == other.also
     }
 }

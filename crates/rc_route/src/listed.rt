@@ -7,7 +7,7 @@ ghost use Rattle.rc_route.specs.declared.best.Best as declared_best;
 ghost use Rattle.rc_route.specs.declared.path.BgpPath as declared_path;
 ghost use Rattle.rc_route.specs.declared.route.Route as declared_route;
 
-use crate::{Best, BgpPath, Route};
+use crate::{Best, BgpPath, KeptPath, Route};
 use rc_base::Prefix;
 
 /// What is there for a prefix.
@@ -39,7 +39,7 @@ impl HasPrefix for Best {
     ghost prefix_of = { λ (b : declared_best.Best). b.path.prefix };
 
     fn prefix(&self) -> Prefix {
-        self.path.prefix
+        self.path.prefix()
     }
 }
 
@@ -64,7 +64,7 @@ pub fn listed_at<'a, T: HasPrefix>(listed: &'a [T], prefix: &Prefix) -> Option<&
 }
 
 /// The best path for a prefix, by bisection.
-pub fn best_path_for<'a>(paths: &'a [Best], prefix: &Prefix) -> Option<&'a BgpPath>
+pub fn best_path_for<'a>(paths: &'a [Best], prefix: &Prefix) -> Option<&'a KeptPath>
     requires { IsBestList paths.now }
     ensures { option_copied result ≡ best_path_for paths.now prefix.now }
 {

@@ -1,8 +1,8 @@
 //! BGP paths.
 
-ghost use Rattle.std.specs.Prelude.{◌≡◌, IfOk};
+ghost use Rattle.std.specs.Prelude.{◌≡◌, ◌↔◌, IfOk, IsTrue};
 ghost use Rattle.std.specs.Ordering.{nat_cmp};
-ghost use Rattle.rc_route.specs.Paths.{path_source_rank};
+ghost use Rattle.rc_route.specs.Paths.{for_prefix, path_source_rank};
 
 use rc_as_path::AsPath;
 use rc_base::{Addr, Communities, Origin, Prefix, RouterId};
@@ -26,10 +26,7 @@ pub enum PathSource {
     Internal,
 }
 
-/// A BGP path with its attributes (RFC 4271 s.5, RFC 1997).
-///
-/// It is kept for each prefix and router: fields of one size stand side by side, so that no room is lost between them, and what is
-/// dear to compare comes last.
+/// A BGP path with its attributes (RFC 4271 s.5, RFC 1997), in one piece: as it is told and heard. What is dear to compare comes last.
 #[derive(PartialEq, Eq)]
 pub struct BgpPath {
     pub prefix: Prefix,
@@ -82,7 +79,6 @@ impl Drop for BgpPath {
 impl BgpPath {
     /// The path again, which shares the AS path and the communities of this one. It takes no memory, and errs only where as many
     /// hold these as can be counted.
-    #[inline]
     pub fn copy(&self) -> Result<BgpPath, AllocError>
         ensures { IfOk result (λ copied. copied ≡ self.now) }
     {
@@ -103,6 +99,25 @@ impl BgpPath {
             communities,
             as_path,
         })
+    }
+
+    /// Whether this path is another one but for the prefix. What mostly differs is asked first.
+
+    pub fn is_like(&self, other: &BgpPath) -> bool
+        ensures { IsTrue result ↔ (for_prefix other.now.prefix self.now ≡ other.now) }
+    {
+        self.next_hop == other.next_hop
+            && self.med == other.med
+            && self.local_preference == other.local_preference
+            && self.weight == other.weight
+            && self.sender_id == other.sender_id
+            && self.neighbor == other.neighbor
+            && self.igp_metric == other.igp_metric
+            && self.origin == other.origin
+            && self.source == other.source
+            && self.sender == other.sender
+            && self.communities == other.communities
+            && self.as_path == other.as_path
     }
 }
 

@@ -3,7 +3,7 @@ ghost use Rattle.std.specs.Prelude.{◌≤◌};
 
 use rc_as_path::AsPath;
 use rc_base::{Addr, Communities, IfId, Items, Origin, Prefix, RouterId};
-use rc_route::{Best, BgpPath, FurtherHops, Hop, Hops, PathSource, Route, Source};
+use rc_route::{Best, BgpPath, FurtherHops, Hop, Hops, KeptPath, PathSource, Route, Source};
 use std::alloc::{AllocError, Global};
 use std::test::Fail;
 
@@ -104,7 +104,7 @@ fn further_at(alloc: Global, changed: usize) -> Result<FurtherHops, AllocError> 
 
 /// A best path whose fields are all 1 but the one that is changed, from 5 to 18.
 fn best_at(alloc: Global, changed: usize) -> Result<Best, Fail> {
-    let path = path_at(alloc, changed)?;
+    let path = KeptPath::of(alloc, path_at(alloc, changed)?)?;
     let also = further_at(alloc, changed)?;
     Ok(Best { path, also })
 }
@@ -120,7 +120,7 @@ fn is_route_copied(alloc: Global, like: &Route, changed: usize) -> Result<bool, 
 fn is_best_copied(alloc: Global, like: &Best, changed: usize) -> Result<bool, Fail> {
     let best = best_at(alloc, changed)?;
     let copied = best.copy()?;
-    Ok(copied == best && (copied == *like) == (changed < 5 || changed == FIELDS))
+    Ok(copied.is_same(&best) && copied.is_same(like) == (changed < 5 || changed == FIELDS))
 }
 
 /// The fields 0 to 4 are those of the route.

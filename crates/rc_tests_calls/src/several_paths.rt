@@ -2,16 +2,16 @@
 use rc_as_path::AsPath;
 use rc_base::{Addr, Communities, Origin, Prefix, RouterId};
 use rc_bgp_decide::multi;
-use rc_route::{BgpPath, PathSource};
+use rc_route::{BgpPath, KeptPath, PathSource};
 use std::alloc::Global;
 use std::test::Fail;
 
 /// A path of 10.9.1.0/24 from a neighbour in AS 65002, with this next hop, which is the sender's address too.
-fn path_over(alloc: Global, next_hop: u32, med: u32) -> Result<BgpPath, Fail> {
+fn path_over(alloc: Global, next_hop: u32, med: u32) -> Result<KeptPath, Fail> {
     let prefix = Prefix::new(Addr::new(0x0a09_0100), 24).ok_or("a prefix")?;
     let communities = Communities::of(Vec::new(alloc))?;
     let as_path = AsPath::empty().prepend(alloc, 65_002)?;
-    Ok(BgpPath {
+    let path = BgpPath {
         prefix,
         next_hop: Addr::new(next_hop),
         med,
@@ -25,11 +25,12 @@ fn path_over(alloc: Global, next_hop: u32, med: u32) -> Result<BgpPath, Fail> {
         sender: RouterId::at(0),
         communities,
         as_path,
-    })
+    };
+    Ok(KeptPath::of(alloc, path)?)
 }
 
 /// Three equal paths, the best of them last, and one of a greater MED.
-fn paths_of(alloc: Global) -> Result<Vec<BgpPath>, Fail> {
+fn paths_of(alloc: Global) -> Result<Vec<KeptPath>, Fail> {
     let mut paths = Vec::new(alloc);
     for (next_hop, med) in [(4, 0), (3, 0), (1, 7), (2, 0)] {
         paths.push(path_over(alloc, next_hop, med)?)?;
@@ -38,7 +39,7 @@ fn paths_of(alloc: Global) -> Result<Vec<BgpPath>, Fail> {
 }
 
 /// Whether just these are the places of up to so many paths.
-fn are_chosen(alloc: Global, paths: &[BgpPath], most: usize, places: &[usize]) -> bool {
+fn are_chosen(alloc: Global, paths: &[KeptPath], most: usize, places: &[usize]) -> bool {
     if most == 0 {
         return false;
     }

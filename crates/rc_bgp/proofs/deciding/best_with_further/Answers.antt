@@ -2,6 +2,7 @@ use Rattle.std.proofs.Common.{◌∙◌, ◌<◌, List, ap, length, subst}
 use Rattle.rc_bgp_decide.specs.Decision.{best_place}
 use Rattle.rc_route.specs.declared.path.BgpPath.{BgpPath}
 use Rattle.rc_bgp.specs.Candidates.{further}
+use Rattle.rc_bgp.specs.Maximum.{number_for}
 use Rattle.rc_bgp.proofs.BestLaws.{best_taken}
 use Rattle.rc_bgp.proofs.deciding.best_with_further.Goals as goal
 
@@ -12,4 +13,4 @@ returns c =
     (c.in-Some.ensures.best ∙ ap best_place c.as_slice.ensures.value)
     c.swap_remove-path.ensures.value
     c.index.ensures
-    (c.in_ok-also.ensures ∙ (λ i. further (c.number_for-number.ensures i) (c.as_slice-2.ensures.value i)))
+    (c.in_ok-also.ensures ∙ (λ i. further (c.number_for-number.ensures i) (c.as_slice-2.ensures.value i)) ∙ ap (λ s. further (number_for c.args.most s) c.args.paths.items) c.source.ensures)

@@ -5,6 +5,7 @@ use Rattle.rc_bgp.proofs.gathering.add_all_told.Given as goal
 
 abbrev pub invariant-loop-best : goal.invariant-loop-best
 invariant-loop-best l = record {
-  kept : with_paths l.rows (filter_map (told_of l.net l.initial.resolver l.session) (drop l.best-index l.paths)) ≡ with_paths l.initial.rows (filter_map (told_of l.net l.initial.resolver l.session) l.paths);
+  kept : with_paths l.rows (filter_map (told_of l.initial.listener.net l.initial.resolver l.session) (drop l.best-index l.paths)) ≡ with_paths l.initial.rows (filter_map (told_of l.initial.listener.net l.initial.resolver l.session) l.paths);
   same : l.resolver ≡ l.initial.resolver;
+  listener : l.listener ≡ l.initial.listener;
 }

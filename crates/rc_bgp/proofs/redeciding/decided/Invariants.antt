@@ -1,6 +1,7 @@
 use Rattle.std.proofs.Common.{◌≡◌, ◌++◌, drop, map}
 use Rattle.rc_route.specs.declared.best.Best.{Best}
-use Rattle.rc_bgp.specs.Candidates.{best_among, senders_paths}
+use Rattle.rc_bgp.specs.Candidates.{best_among}
+use Rattle.rc_bgp.specs.Listening.{tellers}
 use Rattle.rc_bgp.specs.Updating.{AreTaken, edit_of}
 use Rattle.rc_bgp.proofs.redeciding.decided.Given as goal
 
@@ -11,5 +12,5 @@ invariant-loop-prefix l = record {
   edits : l.edits.items ≡ map (edit_of (best_among l.net l.state l.most l.fn.resolver l.own l.sessions)) l.changed;
   same : l.resolver ≡ l.fn.resolver;
   finder : l.finder ≡ l.known;
-  senders : l.senders.items ≡ senders_paths l.state l.sessions;
+  senders : l.senders.items ≡ tellers l.net l.state l.sessions;
 }
