@@ -30,12 +30,12 @@ use std::collections::{BTreeMap, BTreeSet};
 
 /// The best of some paths, which is taken out of them, with the next hops of further ones.
 #[tactic(auto, using(crate::proofs::BestLaws::none_placed))]
-fn best_with_further(
+fn best_taken(
     alloc: Global,
     most: MaximumPaths,
-    paths: Vec<KeptPath>,
+    paths: &mut Vec<KeptPath>,
 ) -> Result<Option<Best>, AllocError>
-    ensures { IfOk result (λ best. best ≡ spec.best_with_further most paths.items) }
+    ensures { IfOk result (λ best. best ≡ spec.best_with_further most paths.old.items) }
 {
     let place = best(paths.as_slice());
     let Some(place) = place else {
@@ -43,9 +43,20 @@ fn best_with_further(
     };
     let number = number_for(most, paths[place].source());
     let also = further(alloc, number, paths.as_slice())?;
-    let mut left = paths;
-    let path = left.swap_remove(place);
+    let path = paths.swap_remove(place);
     Ok(Some(Best { path, also }))
+}
+
+/// The best of some paths, with the next hops of further ones.
+fn best_with_further(
+    alloc: Global,
+    most: MaximumPaths,
+    paths: Vec<KeptPath>,
+) -> Result<Option<Best>, AllocError>
+    ensures { IfOk result (λ best. best ≡ spec.best_with_further most paths.items) }
+{
+    let mut left = paths;
+    best_taken(alloc, most, &mut left)
 }
 
 /// The best path for a prefix.
@@ -56,14 +67,15 @@ pub(crate) fn best_among(
     own: &[Items<BgpPath>],
     senders: &mut Senders<'_>,
     prefix: &Prefix,
+    paths: &mut Vec<KeptPath>,
 ) -> Result<Option<Best>, AllocError>
     requires own { All IsPathList own.now }
     ensures value { IfOk result (λ best. best ≡ best_by most resolver.old own.now senders.old.items prefix.now) }
     ensures same { OnOk result (resolver.new ≡ resolver.old) }
     ensures same_senders { OnOk result (senders.new.items ≡ senders.old.items) }
 {
-    let paths = candidates_at(alloc, resolver, own, senders, prefix)?;
-    best_with_further(alloc, most, paths)
+    candidates_at(alloc, resolver, own, senders, prefix, paths)?;
+    best_taken(alloc, most, paths)
 }
 
 /// Puts the prefixes of paths into a set.
@@ -274,7 +286,8 @@ fn candidates_for(
     let mut all = Items::new(alloc);
     let mut senders = senders_of(alloc, net, state, sessions)?;
     for prefix in prefixes {
-        let paths = candidates_at(alloc, resolver, own, &mut senders, prefix)?;
+        let mut paths = Vec::new(alloc);
+        candidates_at(alloc, resolver, own, &mut senders, prefix, &mut paths)?;
         append(&mut all, paths)?;
     }
     Ok(all)

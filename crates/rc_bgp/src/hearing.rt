@@ -62,39 +62,42 @@ fn push_at(
     }
 }
 
-/// The paths that a router originates for a prefix.
-fn own_at(
+/// Puts the paths that a router originates for a prefix at the end.
+fn add_own_at(
     alloc: Global,
+    made: &mut Vec<KeptPath>,
     own: &[Items<BgpPath>],
     prefix: &Prefix,
-) -> Result<Vec<KeptPath>, AllocError>
+) -> Result<(), AllocError>
     requires { All IsPathList own.now }
-    ensures { IfOk result (λ made. made.items ≡ spec.own_at own.now prefix.now) }
+    ensures { OnOk result (made.new.items ≡ made.old.items ++ spec.own_at own.now prefix.now) }
 {
-    let mut made = Vec::new(alloc);
     for paths in own {
-        push_at(alloc, &mut made, paths.as_slice(), prefix)?;
+        push_at(alloc, made, paths.as_slice(), prefix)?;
     }
-    Ok(made)
+    Ok(())
 }
 
-/// The candidates of a router for a prefix: what it originates, and what it hears of each sender.
+/// Makes a list that of the candidates of a router for a prefix: what it originates, and what it hears of each sender. The list is lent, so
+/// that the candidates for the next prefix stand where these stood.
 pub(crate) fn candidates_at(
     alloc: Global,
     resolver: &mut Resolver<'_>,
     own: &[Items<BgpPath>],
     senders: &mut Senders<'_>,
     prefix: &Prefix,
-) -> Result<Vec<KeptPath>, AllocError>
+    paths: &mut Vec<KeptPath>,
+) -> Result<(), AllocError>
     requires own { All IsPathList own.now }
-    ensures value { IfOk result (λ paths. paths.items ≡ candidates_by resolver.old own.now senders.old.items prefix.now) }
+    ensures value { OnOk result (paths.new.items ≡ candidates_by resolver.old own.now senders.old.items prefix.now) }
     ensures same { OnOk result (resolver.new ≡ resolver.old) }
     ensures same_senders { OnOk result (senders.new.items ≡ senders.old.items) }
 {
-    let mut paths = own_at(alloc, own, prefix)?;
+    paths.clear();
+    add_own_at(alloc, paths, own, prefix)?;
     for index in 0..senders.len() {
         let path = senders[index].heard(alloc, resolver, prefix)?;
-        push_some(&mut paths, path)?;
+        push_some(paths, path)?;
     }
-    Ok(paths)
+    Ok(())
 }

@@ -51,12 +51,21 @@ pub(crate) fn decided(
     requires prefixes { IsStrictlySortedBy prefix_cmp prefixes.now }
     ensures { IfOk result (λ made. AreDecided (λ (b : BestModel). b.path.prefix) (best_among net.now state.now most resolver.old own.now sessions.now) known.now prefixes.now made.0 made.1.items) }
 {
-    let mut changed = Items::new(alloc);
-    let mut edits = VecDeque::new(alloc);
+    let mut changed = Items::with_room(alloc, prefixes.len())?;
+    let mut edits = VecDeque::with_capacity(alloc, prefixes.len())?;
     let mut finder = Finder::of(known);
     let mut senders = senders_of(alloc, net, state, sessions)?;
+    let mut candidates = Vec::new(alloc);
     for prefix in prefixes {
-        let best = best_among(alloc, most, resolver, own, &mut senders, prefix)?;
+        let best = best_among(
+            alloc,
+            most,
+            resolver,
+            own,
+            &mut senders,
+            prefix,
+            &mut candidates,
+        )?;
         if is_known(finder.at(prefix), &best) {
             continue;
         }

@@ -173,7 +173,7 @@ fn edits_of(
     requires changed { IsStrictlySortedBy prefix_cmp changed.now }
     ensures { IfOk result (λ edits. AreMended (spec.own_routes router file.now (known_spec.table_of inputs.now.previous.now router)) paths.now (routes_of inputs.now.internal.now router) known.now changed.now edits.items) }
 {
-    let mut edits = VecDeque::new(alloc);
+    let mut edits = VecDeque::with_capacity(alloc, changed.len())?;
     let mut own = None;
     let mut routes = Finder::of(known);
     let mut best = Finder::of(paths);

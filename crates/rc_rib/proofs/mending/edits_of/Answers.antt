@@ -19,8 +19,8 @@ loop-prefix-init c =
     let own = own_routes c.args.router c.args.file.now (table_of c.args.inputs.now.previous.now c.args.router) in
     let f = mended_at own c.args.paths.now (routes_of c.args.inputs.now.internal.now c.args.router) c.args.known.now in
     record {
-      taken = subst (λ (es : List (Edit Route)). AreTaken prefix_of f c.args.known.now c.args.changed.now (prefixes es ++ c.args.changed.now)) (sym c.new-edits.ensures.items) (none_decided prefix_of f c.args.known.now c.args.changed.now c.requires.changed);
-      values = subst (λ (es : List (Edit Route)). es ≡ map (edit_of f) (prefixes es)) (sym c.new-edits.ensures.items) refl;
+      taken = subst (λ (es : List (Edit Route)). AreTaken prefix_of f c.args.known.now c.args.changed.now (prefixes es ++ c.args.changed.now)) (sym c.in_ok-edits.ensures.items) (none_decided prefix_of f c.args.known.now c.args.changed.now c.requires.changed);
+      values = subst (λ (es : List (Edit Route)). es ≡ map (edit_of f) (prefixes es)) (sym c.in_ok-edits.ensures.items) refl;
       routes = c.of-routes.ensures;
       best = c.of-best.ensures;
       own = tt;

@@ -3,7 +3,7 @@ use Rattle.std.specs.Option.{option_to_list}
 use Rattle.rc_route.specs.Tables.{IsPathList}
 use Rattle.rc_bgp.specs.RouterStates.{path_at}
 use Rattle.rc_bgp.proofs.ListLaws.{one_made}
-use Rattle.rc_bgp.proofs.hearing.own_at.Goals as goal
+use Rattle.rc_bgp.proofs.hearing.add_own_at.Goals as goal
 
 pub push_at-requires : goal.push_at-requires
 push_at-requires c = subst IsPathList (sym c.paths-item.is ∙ sym c.as_slice.ensures) (c.requires c.loop-paths.paths-index c.paths-item.result c.loop-paths-test.true)
