@@ -23,6 +23,7 @@ use rc_walk::trace;
 use rc_words::Request;
 use rc_writing::{NoPlaceLine, RefusedLine, Status, write, write_ended};
 use std::alloc::{AllocError, AllocGlobal, Global};
+use std::mem::forget;
 use std::thread::Threads;
 
 /// Answers which lines of the access lists of a router, or of all, never decide. They are all told before the first one is put.
@@ -145,6 +146,9 @@ fn answer_routes_of<S: Sink>(
 }
 
 /// Answers what is asked of a fixed point.
+///
+/// The state is not dropped behind the last answer: the program ends there, and the system takes back all memory at once, while to drop
+/// 800,000 paths one by one takes as long as to copy them.
 fn answer_fixed<R: Threads + Sync + AllocGlobal, S: Sink, G: Gate>(
     rt: &R,
     request: &Request,
@@ -165,9 +169,15 @@ fn answer_fixed<R: Threads + Sync + AllocGlobal, S: Sink, G: Gate>(
 {
     let alloc = rt.alloc();
     match subject {
-        Subject::AllRouters => answer_all_routes(alloc, request, net, end, &state, out),
+        Subject::AllRouters => {
+            let status = answer_all_routes(alloc, request, net, end, &state, out);
+            forget(state);
+            status
+        }
         Subject::OneRouter(router) => {
-            answer_routes_of(alloc, request, net, end, &state, *router, out)
+            let status = answer_routes_of(alloc, request, net, end, &state, *router, out);
+            forget(state);
+            status
         }
         Subject::Packet(position, header) => {
             answer_walk(alloc, request, net, end, state, *position, header, out)

@@ -1,5 +1,6 @@
 -- The entries of a prepared table: their order, and how they are made layer by layer.
 use Rattle.std.specs.Prelude.{ℕ, Bool, true, false, not, ◌&&◌, List, [], ◌∷◌, map, Option, Some, None}
+use Rattle.rc_base.specs.Prefix.{IsCidr}
 use Rattle.rc_route.specs.Hops.{same_hop}
 use Rattle.rc_route.specs.declared.route.Hop.{Hop}
 use Rattle.rc_route.specs.declared.route.Hop.TheVariants.{Null, Dev, Via}
@@ -11,6 +12,10 @@ use Rattle.rc_fib.specs.Forwarding.{is_resolved, resolve_all, resolved_hops}
 -- a prepared table's entries: one for each prefix, by address, then length
 abbrev pub IsFib : List Entry → Type 0
 IsFib entries = AreInOrder (λ (e : Entry). e.prefix) entries
+
+-- its prefix has no bits beyond its length
+abbrev pub HasCidr : Entry → Type 0
+HasCidr e = IsCidr e.prefix
 
 -- the gateway of a hop that names no interface
 abbrev pub gateway_of : Hop → Option ℕ

@@ -4,7 +4,7 @@ use crate::layers::{resolve_table, resolve_taken};
 use crate::longest::hops_of;
 use crate::resolve::some_interface;
 use rc_base::{Addr, Items, Prefix};
-use rc_route::{Hop, Table};
+use rc_route::{Hop, RouterState, Table};
 use rc_trie::longest_in;
 use std::alloc::{AllocError, Global};
 use std::marker::Model;
@@ -51,14 +51,14 @@ impl Fib {
         Ok(Fib { entries })
     }
 
-    /// Prepares a table that nobody needs any more (RFC 1812 s.5.2.4.3), in about the memory that it took. It errs only where memory
-    /// runs out.
-    pub fn from_table(alloc: Global, table: Table) -> Result<Fib, AllocError>
-        requires { IsTable table }
-        ensures value { IfOk result (λ f. f ≡ spec.resolved table) }
+    /// Prepares the table of what a router knows, which nobody needs any more (RFC 1812 s.5.2.4.3), in about the memory that it took. It
+    /// errs only where memory runs out.
+    pub fn from_state(alloc: Global, known: RouterState) -> Result<Fib, AllocError>
+        requires { IsTable known.table }
+        ensures value { IfOk result (λ f. f ≡ spec.resolved known.table) }
         ensures in_order { IfOk result IsFib }
     {
-        let entries = resolve_taken(alloc, table)?;
+        let entries = resolve_taken(alloc, known)?;
         Ok(Fib { entries })
     }
 

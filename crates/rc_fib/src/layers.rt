@@ -1,7 +1,9 @@
 //! A table resolved layer by layer: each layer looks the gateways up in the one before it.
-ghost use Rattle.std.specs.Prelude.{◌≡◌, ◌↔◌, [], ◌∷◌, ◌++◌, IsTrue, IfOk, OnOk};
+ghost use Rattle.std.specs.Prelude.{◌≡◌, ◌↔◌, [], ◌∷◌, ◌++◌, All, IsTrue, IfOk, OnOk};
+ghost use Rattle.std.specs.Arc.{arc_value};
 ghost use Rattle.std.specs.List.{list_all};
 ghost use Rattle.rc_base.specs.Prefix.{IsCidr};
+ghost use Rattle.rc_route.specs.Parts.{joined_parts};
 ghost use Rattle.rc_route.specs.Tables.{IsTable};
 ghost use Rattle.rc_fib.specs.Entries as layer;
 ghost use Rattle.rc_fib.specs.Entries.{IsFib};
@@ -10,9 +12,11 @@ ghost use Rattle.rc_fib.specs.Forwarding.{resolved, is_resolved};
 use crate::Entry;
 use crate::resolve::{is_resolved, resolve_hops, taken_hops};
 use rc_base::Items;
-use rc_route::{Route, Table};
+use rc_route::{Parts, Route, RouterState, Table};
 use std::alloc::{AllocError, Global};
 use std::collections::VecDeque;
+use std::mem::replace;
+use std::sync::Arc;
 
 /// How many look-ups may follow one another.
 const DEPTH: u8 = 16;
@@ -67,16 +71,57 @@ fn push_taken(made: &mut Items<Entry>, alloc: Global, route: Route) -> Result<()
     made.push(Entry { prefix, hops })
 }
 
-/// The entries of a table, where no other entries are known: they take its hops over.
-fn entries_of(alloc: Global, table: Table) -> Result<Items<Entry>, AllocError>
+/// Puts the entries of routes at the end, where no other entries are known: they take the hops of the routes over.
+fn push_moved(made: &mut Items<Entry>, alloc: Global, routes: Table) -> Result<(), AllocError>
+    requires { All layer.HasCidr made.old }
+    ensures value { OnOk result (made.new ≡ made.old ++ layer.entries_over [] routes) }
+    ensures canonical { OnOk result (All layer.HasCidr made.new) }
+{
+    let mut left = VecDeque::from(routes.into_vec());
+    while let Some(route) = left.pop_front() {
+        push_taken(made, alloc, route)?;
+    }
+    Ok(())
+}
+
+/// Puts the entries of routes at the end that others hold, where no other entries are known.
+fn push_shared(made: &mut Items<Entry>, alloc: Global, routes: &[Route]) -> Result<(), AllocError>
+    requires { All layer.HasCidr made.old }
+    ensures value { OnOk result (made.new ≡ made.old ++ layer.entries_over [] routes.now) }
+    ensures canonical { OnOk result (All layer.HasCidr made.new) }
+{
+    for route in routes {
+        push_over(made, alloc, &[], route)?;
+    }
+    Ok(())
+}
+
+/// Puts the entries of a part of a table at the end, where no other entries are known. What nobody else holds is taken over.
+fn push_part(
+    made: &mut Items<Entry>,
+    alloc: Global,
+    part: Arc<Table, Global>,
+) -> Result<(), AllocError>
+    requires { All layer.HasCidr made.old }
+    ensures value { OnOk result (made.new ≡ made.old ++ layer.entries_over [] (arc_value part)) }
+    ensures canonical { OnOk result (All layer.HasCidr made.new) }
+{
+    match Arc::try_unwrap(part) {
+        Ok(routes) => push_moved(made, alloc, routes),
+        Err(part) => push_shared(made, alloc, part.as_slice()),
+    }
+}
+
+/// The entries of a table in parts, where no other entries are known: they take over what nobody else holds of it.
+fn entries_of(alloc: Global, table: Parts<Route>) -> Result<Items<Entry>, AllocError>
     requires { IsTable table }
     ensures value { IfOk result (λ made. made ≡ layer.entries_over [] table) }
     ensures in_order { IfOk result IsFib }
 {
     let mut made = Items::from_vec(Vec::with_capacity(alloc, table.len())?);
-    let mut left = VecDeque::from(table.into_vec());
-    while let Some(route) = left.pop_front() {
-        push_taken(&mut made, alloc, route)?;
+    let mut left = VecDeque::from(table.into_parts().into_vec());
+    while let Some(part) = left.pop_front() {
+        push_part(&mut made, alloc, part)?;
     }
     Ok(made)
 }
@@ -103,6 +148,18 @@ fn is_plain_table(table: &[Route]) -> bool
     table.iter().all(|route| is_plain(route))
 }
 
+/// Whether each hop of a table in parts says where a packet goes, with no look-up.
+fn are_plain(parts: &[Arc<Table, Global>]) -> bool
+    ensures { result ≡ list_all (λ r. list_all is_resolved r.hops) (joined_parts parts.now) }
+{
+    for part in parts {
+        if !is_plain_table(part.as_slice()) {
+            return false;
+        }
+    }
+    true
+}
+
 /// The entries of a table, all gateways resolved.
 ///
 /// Where no hop needs a look-up, one layer is all; and where a layer changes nothing, no later one does.
@@ -125,14 +182,23 @@ pub(crate) fn resolve_table(alloc: Global, table: &[Route]) -> Result<Items<Entr
     Ok(entries)
 }
 
-/// The same of a table that nobody needs any more. Where no hop needs a look-up, the entries take its hops over.
-pub(crate) fn resolve_taken(alloc: Global, table: Table) -> Result<Items<Entry>, AllocError>
-    requires { IsTable table }
-    ensures value { IfOk result (λ entries. entries ≡ resolved table) }
+/// The table of a router, taken out of what it knows.
+fn table_of(alloc: Global, mut known: RouterState) -> Parts<Route>
+    ensures { result ≡ known.table }
+{
+    replace(&mut known.table, Parts::new(alloc))
+}
+
+/// The same of the table of what a router knows, which nobody needs any more. Where no hop needs a look-up, the entries take over what
+/// nobody else holds of it.
+pub(crate) fn resolve_taken(alloc: Global, known: RouterState) -> Result<Items<Entry>, AllocError>
+    requires { IsTable known.table }
+    ensures value { IfOk result (λ entries. entries ≡ resolved known.table) }
     ensures in_order { IfOk result IsFib }
 {
-    if is_plain_table(table.as_slice()) {
-        return entries_of(alloc, table);
+    if are_plain(known.table.parts()) {
+        return entries_of(alloc, table_of(alloc, known));
     }
+    let table = known.into_table(alloc)?;
     resolve_table(alloc, table.as_slice())
 }

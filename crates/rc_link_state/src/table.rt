@@ -1,5 +1,5 @@
 //! The least walks of a network.
-ghost use Rattle.std.specs.Prelude.{◌≡◌, ◌<◌, ◌≤◌, ◌^◌, false, Some, IfOk, IfSome, IfNone, All, find, map, slice_get};
+ghost use Rattle.std.specs.Prelude.{◌≡◌, ◌==◌, ◌<◌, ◌≤◌, ◌^◌, false, Some, IfOk, IfSome, IfNone, All, find, map, slice_get};
 ghost use Rattle.std.specs.List.{list_any};
 ghost use Rattle.std.specs.List.Sorted.{IsStrictlySortedBy};
 ghost use Rattle.std.specs.Option.{option_copied};
@@ -91,8 +91,16 @@ fn numbers_of(alloc: Global, areas: &[AreaWalks]) -> Result<Items<u32>, AllocErr
     Ok(numbers)
 }
 
+/// The place of a number in a list of one.
+fn place_in_one(only: u32, number: u32) -> Option<usize>
+    ensures found { IfSome result (λ place. (place ≡ 0) × (only ≡ number)) }
+    ensures absent { IfNone result ((only == number) ≡ false) }
+{
+    if only == number { Some(0) } else { None }
+}
+
 /// The place of a number among some that rise, by bisection.
-fn place_of(numbers: &[u32], number: u32) -> Option<usize>
+fn place_by_bisection(numbers: &[u32], number: u32) -> Option<usize>
     requires { IsStrictlySortedBy nat_cmp numbers.now }
     ensures found { IfSome result (λ place. slice_get numbers.now place ≡ Some number) }
     ensures absent { IfNone result (list_any (spec.is_number number) numbers.now ≡ false) }
@@ -100,6 +108,18 @@ fn place_of(numbers: &[u32], number: u32) -> Option<usize>
     match numbers.binary_search(&number) {
         Ok(place) => Some(place),
         Err(_) => None,
+    }
+}
+
+/// The place of a number among some that rise. Most networks have one area, which takes no bisection.
+fn place_of(numbers: &[u32], number: u32) -> Option<usize>
+    requires { IsStrictlySortedBy nat_cmp numbers.now }
+    ensures found { IfSome result (λ place. slice_get numbers.now place ≡ Some number) }
+    ensures absent { IfNone result (list_any (spec.is_number number) numbers.now ≡ false) }
+{
+    match numbers {
+        [only] => place_in_one(*only, number),
+        _ => place_by_bisection(numbers, number),
     }
 }
 

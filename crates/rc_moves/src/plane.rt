@@ -53,7 +53,7 @@ fn fibs_of(alloc: Global, state: State) -> Result<Items<Fib>, AllocError>
     let mut fibs = Vec::with_capacity(alloc, state.len())?;
     let mut left = VecDeque::from(state.into_vec());
     while let Some(known) = left.pop_front() {
-        fibs.push(Fib::from_table(alloc, known.into_table(alloc)?)?)?;
+        fibs.push(Fib::from_state(alloc, known)?)?;
     }
     Ok(Items::from_vec(fibs))
 }

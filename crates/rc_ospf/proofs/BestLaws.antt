@@ -1,10 +1,10 @@
 -- The best of the ways to offers, taken one after another.
-use Rattle.std.proofs.Common.{refl, ◌≡◌, ap, sym, ◌∙◌, subst, ℕ, ◌+◌, ◌<◌, ◌≤◌, min, ◌==◌, Bool, true, false, cond, List, [], ◌∷◌, ◌++◌, length, get_or, Option, Some, None, MatchOption, nat_lt, arith, append_assoc}
+use Rattle.std.proofs.Common.{refl, ◌≡◌, ap, sym, ◌∙◌, subst, ℕ, ◌+◌, ◌<◌, ◌≤◌, min, ◌==◌, Bool, true, false, ◌&&◌, cond, List, [], ◌∷◌, ◌++◌, length, get_or, Option, Some, None, MatchOption, nat_lt, arith, append_assoc}
 use Rattle.std.specs.Prelude.{IfSome, IfOk, Result, Ok, Err}
 use Rattle.std.specs.declared.alloc.AllocError.{AllocError}
 use Rattle.std.specs.List.{cons_option}
 use Rattle.std.specs.List.Sorted.{IsStrictlySortedBy}
-use Rattle.std.specs.Option.{option_map, option_map_or}
+use Rattle.std.specs.Option.{option_map}
 use Rattle.std.specs.Ordering.{nat_cmp}
 use Rattle.std.proofs.lemmas.Bool.Decides.{nat_tests}
 use Rattle.std.proofs.lemmas.Grind.{common_steps}
@@ -16,9 +16,11 @@ use Rattle.rc_route.specs.Ways.{Way, lower, least_cost, hops_at, best_of}
 use Rattle.rc_route.specs.declared.route.Hop.{Hop}
 use Rattle.rc_route.proofs.OrderLaws.{hop_cmp_total, same_by_hop_cmp}
 use Rattle.rc_route.proofs.WayLaws as way_laws
-use Rattle.rc_ospf.specs.BestOffers.{better_of, cheaper, best_from, HasBest}
-use Rattle.rc_ospf.specs.ByPrefix.{path_to_offer, way_to_offer, ways_of, cost_to, hops_for}
+use Rattle.rc_ospf.specs.Areas.{is_offered_by}
+use Rattle.rc_ospf.specs.BestOffers.{better_of, cheaper, best_from, hops_to, HasBest}
+use Rattle.rc_ospf.specs.ByPrefix.{path_to_offer, way_to_offer, ways_of, cost_to}
 use Rattle.rc_ospf.specs.Offered.{Offered}
+use Rattle.rc_link_state.specs.Tables.{hops_of}
 use Rattle.rc_link_state.specs.Walks.{LeastWalks, Reach}
 use Rattle.rc_ospf.specs.Ways.{way_over, cost_of}
 use Rattle.rc_ospf.specs.declared.best.Best.{Best}
@@ -51,6 +53,9 @@ less_if m n is = grind (arith, common_steps, nat_tests, is)
 not_less_if : (m n : ℕ) → nat_lt m n ≡ false → n ≤ m
 not_less_if m n is = grind (arith, common_steps, nat_tests, is)
 
+same_yes : (n : ℕ) → (n == n) ≡ true
+same_yes n = grind (arith, common_steps, nat_tests)
+
 same_if : (m n : ℕ) → (m == n) ≡ true → m ≡ n
 same_if m n is = grind (arith, common_steps, nat_tests, is)
 
@@ -64,7 +69,7 @@ record IsSoFar (reach : Reach) (others : Bool) (r : ℕ) (all : List Offered) (w
   cost : cost_of (best_of nat_cmp ws) ≡ Some b.cost
   none_less : (k : ℕ) → k < b.cost → hops_at nat_cmp k ws ≡ []
   within : b.at < length all
-  alone : b.is_alone ≡ true → (d : Offered) → hops_at nat_cmp b.cost ws ≡ hops_for reach others r b.cost (get_or all b.at d)
+  alone : b.is_alone ≡ true → (d : Offered) → hops_at nat_cmp b.cost ws ≡ hops_to reach (get_or all b.at d)
 
 abbrev Known : Reach → Bool → ℕ → List Offered → List (Way ℕ) → Option Best → Type 0
 Known reach others r all ws best = MatchOption best (ws ≡ []) (IsSoFar reach others r all ws)
@@ -72,8 +77,15 @@ Known reach others r all ws best = MatchOption best (ws ≡ []) (IsSoFar reach o
 module _ (reach : Reach) (others : Bool) (r : ℕ) (all : List Offered) where
   -- one more, to the offer at a place
   module _ (ws : List (Way ℕ)) (o : Offered) (e : LeastWalks) (i : ℕ) (lt : i < length all) (here : (d : Offered) → get_or all i d ≡ o) (found : path_to_offer reach others r o ≡ Some e) where
-    hops_here : (k : ℕ) (d : Offered) → hops_for reach others r k (get_or all i d) ≡ cond (e.cost + o.cost == k) e.hops []
-    hops_here k d = ap (hops_for reach others r k) (here d) ∙ ap (λ p. option_map_or (λ (x : LeastWalks). cond (x.cost + o.cost == k) x.hops []) p []) found
+    reached : reach o.area o.router ≡ Some e
+    reached = by (others && is_offered_by r o) found
+      where
+        by : (b : Bool) → cond b None (reach o.area o.router) ≡ Some e → reach o.area o.router ≡ Some e
+        by true is = absurd (cc is)
+        by false is = is
+
+    hops_here : (d : Offered) → hops_to reach (get_or all i d) ≡ e.hops
+    hops_here d = ap (hops_to reach) (here d) ∙ ap hops_of reached
 
     -- it costs less than all before
     least : cost_of (best_of nat_cmp (ws ++ way_over (e.cost + o.cost) e ∷ [])) ≡ Some (e.cost + o.cost) → ((k : ℕ) → k ≤ e.cost + o.cost → hops_at nat_cmp k ws ≡ [])
@@ -83,7 +95,8 @@ module _ (reach : Reach) (others : Bool) (r : ℕ) (all : List Offered) where
       none_less = λ k less. hops_stay k ws (way_over (e.cost + o.cost) e) (above (e.cost + o.cost) k less) ∙ none k (omega (arith, less));
       within = lt;
       alone = λ _ d. hops_more (e.cost + o.cost) ws (way_over (e.cost + o.cost) e)
-          ∙ ap (λ hs. hs ++ cond (e.cost + o.cost == e.cost + o.cost) e.hops []) (none (e.cost + o.cost) (omega arith)) ∙ sym (hops_here (e.cost + o.cost) d);
+          ∙ ap (λ hs. hs ++ cond (e.cost + o.cost == e.cost + o.cost) e.hops []) (none (e.cost + o.cost) (omega arith))
+          ∙ ap (λ b. cond b e.hops []) (same_yes (e.cost + o.cost)) ∙ sym (hops_here d);
     }
 
     after_none : ws ≡ [] → IsSoFar reach others r all (ws ++ way_over (e.cost + o.cost) e ∷ []) (record { cost = e.cost + o.cost; at = i; is_alone = true })

@@ -2,8 +2,10 @@
 use Rattle.std.specs.Prelude.{◌≡◌, ℕ, ◌+◌, ◌<◌, ◌==◌, nat_lt, Bool, true, false, if◌then◌else◌, List, [], ◌∷◌, length, slice_index_or, Option, Some, None}
 use Rattle.std.specs.Ordering.{nat_cmp}
 use Rattle.rc_route.specs.Ways.{hops_at}
-use Rattle.rc_ospf.specs.ByPrefix.{ways_of, cost_to, hops_for}
+use Rattle.rc_route.specs.declared.route.Hop.{Hop}
+use Rattle.rc_ospf.specs.ByPrefix.{ways_of, cost_to}
 use Rattle.rc_ospf.specs.Offered.{Offered}
+use Rattle.rc_link_state.specs.Tables.{hops_of}
 use Rattle.rc_link_state.specs.Walks.{Reach}
 use Rattle.rc_ospf.specs.declared.best.Best.{Best}
 
@@ -24,7 +26,11 @@ abbrev pub best_from : Reach → Bool → ℕ → Option Best → ℕ → List O
 best_from reach others r best at [] = best
 best_from reach others r best at (o ∷ os) = best_from reach others r (cheaper (cost_to reach others r o) best at) (at + 1) os
 
--- where no other way costs as much, the offer at the place has the hops of all that do
+-- the first hops of the least walks to the router of an offer inside its area
+abbrev pub hops_to : Reach → Offered → List Hop
+hops_to reach o = hops_of (reach o.area o.router)
+
+-- where no other way costs as much, the least walks to the router that offers it have the hops of all that do
 pub record HasBest (reach : Reach) (others : Bool) (r : ℕ) (offers : List Offered) (b : Best) : Type 0 where
   pub within : b.at < length offers
-  pub alone : b.is_alone ≡ true → (d : Offered) → hops_at nat_cmp b.cost (ways_of reach others r offers) ≡ hops_for reach others r b.cost (slice_index_or offers b.at d)
+  pub alone : b.is_alone ≡ true → (d : Offered) → hops_at nat_cmp b.cost (ways_of reach others r offers) ≡ hops_to reach (slice_index_or offers b.at d)

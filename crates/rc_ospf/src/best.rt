@@ -13,7 +13,7 @@ ghost use Rattle.rc_route.specs.Ways.{best_of};
 
 use crate::Offer;
 use crate::ospf_router::Member;
-use crate::way::{cost_to, hops_at, hops_for};
+use crate::way::{cost_to, hops_at, hops_to};
 use rc_route::Hops;
 use std::alloc::{AllocError, Global};
 
@@ -111,7 +111,7 @@ pub(crate) fn best_hops(
     ensures { IfOk result (λ hops. hops ≡ in_order hop_cmp (ways.hops_at nat_cmp best.cost (ways_of (reach_of member.now) others member.now.router offers.now))) }
 {
     if best.is_alone {
-        return hops_for(alloc, member, others, best.cost, &offers[best.at]);
+        return hops_to(alloc, member, &offers[best.at]);
     }
     hops_at(alloc, member, others, best.cost, offers)
 }

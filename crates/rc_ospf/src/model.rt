@@ -6,7 +6,8 @@ ghost use Rattle.rc_base.specs.Prefix.{prefix_cmp, same_prefix};
 ghost use Rattle.rc_ospf.specs.Internal as spec;
 
 use rc_base::{Items, Prefix, RouterId};
-use rc_route::{Hops, Route, Table};
+use rc_pieces::{Listed, Pieces};
+use rc_route::{Hops, Route};
 use rc_topology::Links;
 use std::marker::Model;
 
@@ -64,8 +65,9 @@ impl Boundary {
 pub struct Internal {
     /// The links of the network.
     pub links: Links,
-    /// By router, in the network's order: its routes inside and between areas, by address, then length.
-    pub routes: Items<Table>,
+    /// By router, in the network's order: its routes inside and between areas, by address, then length, in pieces that its tables
+    /// share.
+    pub routes: Items<Pieces<Route>>,
     /// By router: its paths to the others that are AS boundary routers, in the network's order.
     pub boundaries: Items<Items<Boundary>>,
     /// By router: the prefixes that it advertises itself, by address, then length.
@@ -107,14 +109,13 @@ impl Internal {
     }
 
     /// The routes of a router inside and between areas, of which it has none past the end.
-    pub fn routes_of(&self, router: RouterId) -> &[Route]
-        ensures { result.now ≡ spec.routes_of self.now router }
+    pub fn routes_of(&self, router: RouterId) -> Listed<'_, Route>
+        ensures { result ≡ spec.routes_of self.now router }
     {
-        let found = self.routes.as_slice().get(router.index());
-        match found {
-            Some(routes) => routes.as_slice(),
-            None => &[],
-        }
+        let Some(routes) = self.routes.as_slice().get(router.index()) else {
+            return Listed::none();
+        };
+        routes.listed()
     }
 
     /// The paths of a router to the others that are AS boundary routers, of which it has none past the end.

@@ -17,10 +17,10 @@ use crate::destination::Destination;
 use crate::member::StubAreas;
 use crate::ospf_router::Member;
 use crate::router_area::is_in_backbone;
-use crate::shares::with_room;
 use crate::summaries::Summaries;
 use rc_base::{Prefix, RouterId};
-use rc_route::{Route, Source, Table};
+use rc_pieces::{Filling, Pieces};
+use rc_route::{Route, Source};
 use std::alloc::{AllocError, Global};
 
 /// The offers that border routers summarise for a router. In the backbone only those of others count.
@@ -120,15 +120,15 @@ pub(crate) fn routes_of(
     alloc: Global,
     member: &Member,
     destinations: &[Destination],
-) -> Result<Table, AllocError>
+) -> Result<Pieces<Route>, AllocError>
     ensures value { IfOk result (λ routes. routes ≡ filter_map (destination_route (known Kept member.now)) destinations.now) }
     ensures short { IfOk result (All IsShortRoute) }
 {
-    let mut routes = with_room(alloc, destinations.len())?;
+    let mut routes = Filling::new(alloc)?;
     for destination in destinations {
         if let Some(route) = destination_route(alloc, member, destination)? {
-            routes.push(route)?;
+            routes.push(alloc, route)?;
         }
     }
-    Ok(routes)
+    routes.finish(alloc)
 }

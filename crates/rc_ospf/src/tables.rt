@@ -28,7 +28,8 @@ use crate::{Boundary, Internal, OspfInterface, adverts, offers_by_prefix};
 use rc_base::{Addr, Items, Prefix, RouterId};
 use rc_config::Network;
 use rc_ospf_interfaces::ospf_interfaces;
-use rc_route::Table;
+use rc_pieces::Pieces;
+use rc_route::Route;
 use rc_topology::Links;
 use std::alloc::{AllocError, Global};
 use std::thread::Threads;
@@ -62,7 +63,7 @@ struct RoutesTo<'d, 'm, 'w> {
 impl<'d, 'm, 'w> Makes for RoutesTo<'d, 'm, 'w> {
     type Thing = Member<'w>;
 
-    type Made = Table;
+    type Made = Pieces<Route>;
 
     ghost use Rattle.std.specs.Prelude.{All};
     ghost use Rattle.rc_ospf.specs.Members.{table_of};
@@ -73,7 +74,7 @@ impl<'d, 'm, 'w> Makes for RoutesTo<'d, 'm, 'w> {
 
     ghost made = { λ s m t. IsGiven (table_of s.destinations.now) (All IsShortRoute) m t };
 
-    fn make(&self, alloc: Global, member: &Member<'w>) -> Result<Table, AllocError>
+    fn make(&self, alloc: Global, member: &Member<'w>) -> Result<Pieces<Route>, AllocError>
         ensures { IfOk result (IsGiven (table_of self.now.destinations.now) (All IsShortRoute) member.now) }
     {
         routes_of(alloc, member, self.destinations)
@@ -89,7 +90,7 @@ fn tables<R: Threads + Sync>(
     members: &[Member],
     asked: Option<Addr>,
     workers: u32,
-) -> Result<Items<Table>, AllocError>
+) -> Result<Items<Pieces<Route>>, AllocError>
     requires { interfaces.now ≡ interface.ospf_interfaces net.now }
     ensures short { IfOk result (All (All spec.IsShortRoute)) }
     ensures value { IfOk result (λ tables. tables ≡ tables_asked asked (map (spec.internal_routes (map (known Kept) members.now) (adverts_in net.now)) (map (known Kept) members.now))) }

@@ -3,6 +3,7 @@ ghost use Rattle.std.specs.Prelude.{◌≡◌, ◌++◌, ◌<◌, ◌^◌, IfOk,
 ghost use Rattle.std.specs.List.Sorted.{IsStrictlySortedBy};
 ghost use Rattle.std.specs.Ordering.{nat_cmp};
 ghost use Rattle.rc_base.specs.Lists.{in_order};
+ghost use Rattle.rc_ospf.specs.BestOffers.{hops_to};
 ghost use Rattle.rc_ospf.specs.ByPrefix.{cost_to, hops_for, ways_of};
 ghost use Rattle.rc_ospf.specs.Members.{reach_of};
 ghost use Rattle.rc_route.specs.Hops.{hop_cmp};
@@ -34,8 +35,17 @@ pub(crate) fn cost_to(member: &Member, others: bool, offer: &Offer) -> Option<u3
     }
 }
 
+/// The first hops of the least walks to the router of an offer inside its area, in order; none where there are no walks. It errs only
+/// where memory runs out.
+pub(crate) fn hops_to(alloc: Global, member: &Member, offer: &Offer) -> Result<Hops, AllocError>
+    ensures value { IfOk result (λ hops. hops ≡ hops_to (reach_of member.now) offer.now) }
+    ensures in_order { IfOk result (IsStrictlySortedBy hop_cmp) }
+{
+    member.hops_to(alloc, offer.area(), offer.router())
+}
+
 /// The hops of the way to an offer, in order, where it costs so much. It errs only where memory runs out.
-pub(crate) fn hops_for(
+fn hops_for(
     alloc: Global,
     member: &Member,
     others: bool,
@@ -49,7 +59,7 @@ pub(crate) fn hops_for(
     match found {
         Some(found) => {
             if found == cost {
-                return member.hops_to(alloc, offer.area(), offer.router());
+                return hops_to(alloc, member, offer);
             }
             Ok(Hops::none())
         }

@@ -11,7 +11,7 @@ use std::collections::VecDeque;
 use std::marker::Model;
 
 /// How many elements a piece has at most: so many are copied where one of them changes.
-const MOST: usize = 64;
+pub(crate) const MOST: usize = 64;
 
 /// A list in the making, seen as that list, to whose end pieces are put.
 pub(crate) struct Growing<T: HasPrefix> {

@@ -14,7 +14,6 @@ use Rattle.rc_fib.specs.Forwarding.{resolved}
 use Rattle.rc_ospf.specs.Internal.{holding, internal_at, routes_of}
 use Rattle.rc_ospf.specs.Shares.{AreMade}
 use Rattle.rc_ospf.specs.declared.model.Internal.{Internal}
-use Rattle.rc_route.specs.declared.best.Best.{Best}
 use Rattle.rc_route.specs.declared.route.Route.{Route}
 use Rattle.rc_route.specs.declared.state.RouterState.{RouterState}
 use Rattle.rc_rib.specs.Best.{best_routes}

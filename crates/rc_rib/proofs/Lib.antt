@@ -9,5 +9,6 @@ mod StaticLaws
 mod LearnedLaws
 mod PreferenceLaws
 mod MendingLaws
+mod LayingLaws
 mod HeldLaws
 pub mod AtAddressLaws

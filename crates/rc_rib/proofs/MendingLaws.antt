@@ -1,7 +1,7 @@
 -- A table by what changed in best paths is the one made anew.
-use Rattle.std.proofs.Common.{refl, ◌≡◌, ap, sym, ◌∙◌, subst, ◌⊎◌, inl, inr, ℕ, ◌<◌, ◌==◌, length, Bool, true, false, not, ◌&&◌, ◌||◌, cond, List, [], ◌∷◌, ◌++◌, map, filter, All, Option, Some, None, IfSome, option_and_then, arith}
+use Rattle.std.proofs.Common.{refl, ◌≡◌, ap, sym, ◌∙◌, subst, ℕ, ◌<◌, length, Bool, true, false, cond, List, [], ◌∷◌, ◌++◌, map, All, Option, Some, None, IfSome, option_and_then}
 use Rattle.std.specs.Prelude.{slice_get}
-use Rattle.std.specs.List.{AllByRecursion, cons_option, filter_map, list_any}
+use Rattle.std.specs.List.{AllByRecursion, cons_option, list_any}
 use Rattle.std.specs.List.Sorted.{IsStrictlySortedBy}
 use Rattle.std.specs.Option.{option_map_or, option_to_list}
 use Rattle.std.specs.Ordering.{is_eq}
@@ -18,7 +18,6 @@ use Rattle.rc_bgp.specs.Changes.{CoversChange}
 use Rattle.rc_bgp.specs.Candidates.{best_paths}
 use Rattle.rc_bgp.specs.RouterStates.{paths_of, route_at, table_of}
 use Rattle.rc_bgp.specs.Learning.{learned_by, learned_route}
-use Rattle.rc_bgp.specs.Updating.{updated}
 use Rattle.rc_bgp.specs.Sessions.{configured_sessions}
 use Rattle.rc_bgp_session.specs.declared.session.Session.{Session}
 use Rattle.rc_bgp.proofs.ListedLaws.{at_made, at_updated, same_lists, up_updated}
@@ -30,7 +29,7 @@ use Rattle.rc_external.specs.Externals.{externals}
 use Rattle.rc_external.specs.Routes.{external_routes, routes_over}
 use Rattle.rc_external.specs.declared.as_external.ExternalRow.{ExternalRow}
 use Rattle.rc_fib.specs.Forwarding.{resolved}
-use Rattle.rc_ospf.specs.Internal.{boundaries_of, routes_of}
+use Rattle.rc_ospf.specs.Internal.{routes_of}
 use Rattle.rc_ospf.specs.declared.model.Internal.{Internal}
 use Rattle.rc_route.specs.Tables.{IsBestList, IsRouterState, IsTable, best_for}
 use Rattle.rc_route.specs.declared.best.Best.{Best}
@@ -87,12 +86,12 @@ either (Some x) (Some y) = refl
 
 -- ---- two tables as one
 
-at_merged : (xs ys : List Route) → IsTable xs → IsTable ys → (p : Cidr) → route_at (merged xs ys) p ≡ of_both (route_at xs p) (route_at ys p)
+pub at_merged : (xs ys : List Route) → IsTable xs → IsTable ys → (p : Cidr) → route_at (merged xs ys) p ≡ of_both (route_at xs p) (route_at ys p)
 at_merged xs ys up up' p =
     ap (λ t. route_at t p) (two_merged xs ys up up') ∙ best_at (xs ++ ys) p
     ∙ ap preferred (filter-append (λ (x : Route). same_prefix p x.prefix) xs ys ∙ (λ i. table_at p xs up i ++ table_at p ys up' i)) ∙ either (route_at xs p) (route_at ys p)
 
-merged_in_order : (xs ys : List Route) → IsTable xs → IsTable ys → IsTable (merged xs ys)
+pub merged_in_order : (xs ys : List Route) → IsTable xs → IsTable ys → IsTable (merged xs ys)
 merged_in_order xs ys up up' = subst IsTable (sym (two_merged xs ys up up')) (best_is_table (xs ++ ys))
 
 -- ---- what best paths give
@@ -142,7 +141,7 @@ by_paths paths p = by (best_for paths p)
 
 -- ---- what is there for a prefix has it
 
-has_prefix : (xs : List Route) (p : Cidr) (x : Route) → route_at xs p ≡ Some x → x.prefix ≡ p
+pub has_prefix : (xs : List Route) (p : Cidr) (x : Route) → route_at xs p ≡ Some x → x.prefix ≡ p
 has_prefix xs p x e = sym (same_is p x.prefix (found_passes (λ (y : Route). same_prefix p y.prefix) xs x e))
 
 learned_has_prefix : (paths : List Best) (p : Cidr) (x : Route) → learned_at paths p ≡ Some x → x.prefix ≡ p
@@ -152,7 +151,7 @@ learned_has_prefix paths p x e = by (best_for paths p) refl e
     by None is e = absurd (none-some x e)
     by (Some b) is e = learned_prefix b x e ∙ sym (same_is p b.path.prefix (found_passes (λ (y : Best). same_prefix p y.path.prefix) paths b is))
 
-both_have : (P : Route → Type 0) (a b : Option Route) → ((x : Route) → a ≡ Some x → P x) → ((x : Route) → b ≡ Some x → P x) → (x : Route) → of_both a b ≡ Some x → P x
+pub both_have : (P : Route → Type 0) (a b : Option Route) → ((x : Route) → a ≡ Some x → P x) → ((x : Route) → b ≡ Some x → P x) → (x : Route) → of_both a b ≡ Some x → P x
 both_have P None b f g x e = g x e
 both_have P (Some y) None f g x e = f x e
 both_have P (Some y) (Some z) f g x e = by (is_preferred z y) e

@@ -8,6 +8,7 @@ pub mod StaticRows
 pub mod OspfRows
 pub mod Again
 pub mod Merging
+pub mod Laying
 pub mod Mending
 pub mod MendingRows
 pub mod Inputs

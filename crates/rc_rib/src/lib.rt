@@ -10,6 +10,7 @@ mod alone;
 mod connected_routes;
 mod grouping;
 mod inputs;
+mod laying;
 mod learned;
 mod made;
 mod mending;

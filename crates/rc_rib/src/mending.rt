@@ -43,12 +43,10 @@ fn learned_at(
     }
 }
 
-/// The route of just this prefix in a table, again.
-fn copy_at(alloc: Global, table: &[Route], prefix: &Prefix) -> Result<Option<Route>, AllocError>
-    requires { IsTable table.now }
-    ensures { IfOk result (λ route. route ≡ route_at table.now prefix.now) }
+/// A route again, where there is one.
+fn again(alloc: Global, found: Option<&Route>) -> Result<Option<Route>, AllocError>
+    ensures { IfOk result (λ route. route ≡ option_copied found.entry) }
 {
-    let found = listed_at(table, prefix);
     match found {
         None => Ok(None),
         Some(route) => {
@@ -56,6 +54,14 @@ fn copy_at(alloc: Global, table: &[Route], prefix: &Prefix) -> Result<Option<Rou
             Ok(Some(again))
         }
     }
+}
+
+/// The route of just this prefix in a table, again.
+fn copy_at(alloc: Global, table: &[Route], prefix: &Prefix) -> Result<Option<Route>, AllocError>
+    requires { IsTable table.now }
+    ensures { IfOk result (λ route. route ≡ route_at table.now prefix.now) }
+{
+    again(alloc, listed_at(table, prefix))
 }
 
 /// Whether routes of a source are given by best paths.
@@ -92,7 +98,7 @@ fn of_all(
     alloc: Global,
     own: &Option<Table>,
     learned: Option<Route>,
-    inside: &[Route],
+    inside: &Listed<'_, Route>,
     prefix: &Prefix,
 ) -> Result<Option<Route>, AllocError>
     requires own { IfSome own.now IsTable }
@@ -103,7 +109,7 @@ fn of_all(
         None => None,
         Some(own) => copy_at(alloc, own.as_slice(), prefix)?,
     };
-    let by_ospf = copy_at(alloc, inside, prefix)?;
+    let by_ospf = again(alloc, inside.at(prefix))?;
     Ok(of_both(of_both(by_file, learned), by_ospf))
 }
 
@@ -133,7 +139,7 @@ fn route_after(
                     alloc,
                     &*own,
                     learned,
-                    inputs.internal.routes_of(router),
+                    &inputs.internal.routes_of(router),
                     prefix,
                 )
             } else {
@@ -266,7 +272,6 @@ fn table_anew(
     ensures same { IfOk result (λ t. t.1 ≡ true → t.0 ≡ known_spec.table_of inputs.now.previous.now router) }
 {
     let table = table_beside(alloc, inputs, router, file, paths)?;
-    let table = Pieces::of(alloc, table)?;
     let is_same = changed.is_empty() && is_known(inputs, router, &table);
     Ok((table, is_same))
 }

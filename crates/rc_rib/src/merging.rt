@@ -11,7 +11,7 @@ use std::cmp::Ordering;
 use std::collections::VecDeque;
 
 /// Whether a route is preferred to another one of its prefix: by the least administrative distance, then by source.
-fn is_preferred(route: &Route, other: &Route) -> bool
+pub(crate) fn is_preferred(route: &Route, other: &Route) -> bool
     ensures { result ≡ spec.is_preferred route.now other.now }
 {
     route.distance < other.distance

@@ -24,6 +24,7 @@ ghost use Rattle.rc_rib.specs.Static.{active_lines, asks_table, static_routes};
 use crate::active::{active_lines, some_ask_table};
 use crate::connected_routes::connected;
 use crate::grouping::static_routes;
+use crate::laying::{laid_over, laid_under};
 use crate::learned::with_learned;
 use crate::mending::next_table;
 use crate::merging::merged;
@@ -34,7 +35,7 @@ use rc_bgp::{ConfiguredSessions, Renewed, first_paths, renewed_paths, stay_best}
 use rc_config::{Network, RouterText};
 use rc_fib::Fib;
 use rc_ospf::Internal;
-use rc_pieces::{Knowledge, Known, Listed, known_at, same};
+use rc_pieces::{Knowledge, Known, Listed, Pieces, known_at, same};
 use rc_route::{Best, Route, Table};
 use std::alloc::{AllocError, Global};
 
@@ -122,42 +123,33 @@ pub(crate) fn own_from(
     }
 }
 
-/// Routes again.
-fn copied(alloc: Global, routes: &[Route]) -> Result<Table, AllocError>
-    ensures { IfOk result (λ copied. copied ≡ routes.now) }
-{
-    let mut copied = Items::with_room(alloc, routes.len())?;
-    for route in routes {
-        copied.push(route.copy(alloc)?)?;
-    }
-    Ok(copied)
-}
-
-/// A table with the OSPF routes of a router inside and between areas.
+/// A table with the OSPF routes of a router inside and between areas, of which most are shared.
 fn with_internal(
     alloc: Global,
     table: Table,
     internal: &Internal,
     router: RouterId,
-) -> Result<Table, AllocError>
+) -> Result<Pieces<Route>, AllocError>
+    requires table { IsTable table }
+    requires routes { IsTable (routes_of internal.now router) }
     ensures { IfOk result (λ made. made ≡ merging_spec.merged table (routes_of internal.now router)) }
 {
-    let routes = copied(alloc, internal.routes_of(router))?;
-    merged(alloc, table, routes)
+    laid_over(alloc, table, &internal.routes_of(router))
 }
 
 /// A table with the OSPF routes of a router from outside of the AS.
 fn with_outside(
     alloc: Global,
-    table: Table,
+    table: Pieces<Route>,
     inputs: &Inputs<'_>,
     router: RouterId,
-) -> Result<Table, AllocError>
-    requires { AreInputs inputs.now }
+) -> Result<Pieces<Route>, AllocError>
+    requires inputs { AreInputs inputs.now }
+    requires table { IsTable table }
     ensures { IfOk result (λ made. made ≡ merging_spec.merged table (spec.to_others inputs.now.internal.now router (external_routes inputs.now.internal.now inputs.now.externals.now router))) }
 {
     let routes = outside_routes(alloc, inputs.internal, inputs.externals, router)?;
-    merged(alloc, table, routes)
+    laid_under(alloc, table, routes)
 }
 
 /// The next table of a router of this file that has these best paths.
@@ -167,7 +159,7 @@ pub(crate) fn table_beside(
     router: RouterId,
     file: &RouterText,
     paths: &Listed<'_, Best>,
-) -> Result<Table, AllocError>
+) -> Result<Pieces<Route>, AllocError>
     requires inputs { AreInputs inputs.now }
     requires paths { IsBestList paths.now }
     ensures value { IfOk result (λ table. table ≡ spec.table_after router file.now (spec.learned_routes paths.now) (spec.ospf_routes inputs.now.internal.now inputs.now.externals.now router) (table_of inputs.now.previous.now router)) }

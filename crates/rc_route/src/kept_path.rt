@@ -87,7 +87,6 @@ impl KeptPath {
     }
 
     /// Whether two paths are the same.
-
     pub fn is_same(&self, other: &KeptPath) -> bool
         ensures { IsTrue result ↔ (self.now ≡ other.now) }
     {

@@ -102,7 +102,6 @@ impl BgpPath {
     }
 
     /// Whether this path is another one but for the prefix. What mostly differs is asked first.
-
     pub fn is_like(&self, other: &BgpPath) -> bool
         ensures { IsTrue result ↔ (for_prefix other.now.prefix self.now ≡ other.now) }
     {

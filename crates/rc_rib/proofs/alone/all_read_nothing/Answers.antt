@@ -1,4 +1,4 @@
-use Rattle.std.proofs.Common.{◌≡◌, ◌∙◌, subst, ℕ, ◌<◌, List, arith}
+use Rattle.std.proofs.Common.{◌≡◌, ◌∙◌, subst, ◌<◌, List, arith}
 use Rattle.std.proofs.Math.Decide.{dec_lt}
 use Rattle.rc_bgp_session.specs.declared.session.Session.{Session}
 use Rattle.rc_rib.specs.Again.{ReadsNoOthers, ReadsNothing}

@@ -1,4 +1,4 @@
-use Rattle.std.proofs.Common.{◌≡◌, ◌++◌, refl, arith}
+use Rattle.std.proofs.Common.{refl, arith}
 use Rattle.rc_rib.proofs.LearnedLaws.{all_placed, next_learned}
 use Rattle.rc_rib.proofs.learned.place_all.Goals as goal
 

@@ -1,4 +1,4 @@
-use Rattle.std.proofs.Common.{arith, ◌≡◌, ap, sym, ◌∙◌, [], ◌++◌, drop}
+use Rattle.std.proofs.Common.{arith, ◌≡◌, ap, ◌∙◌, [], ◌++◌, drop}
 use Rattle.std.proofs.lemmas.List.{drop_all}
 use Rattle.rc_pieces.specs.Pieces.{joined}
 use Rattle.rc_rib.specs.Merging.{merged}

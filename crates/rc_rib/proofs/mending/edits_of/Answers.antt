@@ -1,4 +1,4 @@
-use Rattle.std.proofs.Common.{◌≡◌, ◌++◌, ◌∷◌, [], List, refl, ◌∙◌, ap, sym, map, subst, arith}
+use Rattle.std.proofs.Common.{◌≡◌, ◌++◌, List, refl, ◌∙◌, ap, sym, map, subst, arith}
 use Rattle.std.proofs.lemmas.List.{map-append}
 use Rattle.rc_base.specs.Prefix.{Cidr}
 use Rattle.rc_bgp.specs.RouterStates.{route_at, table_of}

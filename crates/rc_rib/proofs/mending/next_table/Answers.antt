@@ -1,7 +1,7 @@
 use Rattle.std.proofs.Common.{◌≡◌, ◌∙◌, refl, sym, subst, IfSome}
 use Rattle.std.proofs.lemmas.Result.{IfOk-weaker}
 use Rattle.rc_bgp.specs.RouterStates.{paths_of, table_of}
-use Rattle.rc_route.specs.Tables.{IsRouterState, IsTable}
+use Rattle.rc_route.specs.Tables.{IsTable}
 use Rattle.rc_rib.specs.Inputs.{IsEarlier}
 use Rattle.rc_rib.specs.Next.{candidates, learned_routes, ospf_routes, table_after}
 use Rattle.rc_rib.specs.declared.inputs.Earlier.{Earlier}

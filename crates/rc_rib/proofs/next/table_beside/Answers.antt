@@ -1,19 +1,45 @@
-use Rattle.std.proofs.Common.{◌≡◌, ◌∙◌, ap, List, sym, subst}
+use Rattle.std.proofs.Common.{refl, ◌≡◌, ◌∙◌, ap, ℕ, List, sym, subst}
 use Rattle.std.proofs.lemmas.Result.{IfOk-weaker}
 use Rattle.rc_bgp.specs.RouterStates.{table_of}
 use Rattle.rc_external.specs.Routes.{external_routes}
 use Rattle.rc_fib.specs.Forwarding.{resolved}
 use Rattle.rc_ospf.specs.Internal.{routes_of}
-use Rattle.rc_route.specs.Tables.{IsTable}
+use Rattle.rc_config.specs.declared.router_text.RouterText.{RouterText}
+use Rattle.rc_route.specs.Tables.{IsBestList, IsTable}
+use Rattle.rc_route.specs.declared.best.Best.{Best}
 use Rattle.rc_route.specs.declared.route.Route.{Route}
 use Rattle.rc_rib.specs.Connected.{connected}
+use Rattle.rc_rib.specs.Mending.{own_routes}
 use Rattle.rc_rib.specs.Merging.{merged}
 use Rattle.rc_rib.specs.Next.{candidates, learned_routes, ospf_routes, table_after, to_others}
 use Rattle.rc_rib.specs.Static.{active_lines, static_routes}
 use Rattle.rc_rib.proofs.BestLaws.{best_is_table}
 use Rattle.rc_rib.proofs.ConnectedLaws.{connected_is_table}
+use Rattle.rc_rib.proofs.MendingLaws.{merged_in_order, own_in_order}
 use Rattle.rc_rib.proofs.OrderLaws.{at_in_order, five_merged, learned_in_order, none_is_table, outside_in_order, static_is_table}
 use Rattle.rc_rib.proofs.next.table_beside.Goals as goal
+
+own_and_learned : (r : ℕ) (file : RouterText) (old : List Route) (paths : List Best) → IsBestList paths → IsTable (merged (own_routes r file old) (learned_routes paths))
+own_and_learned r file old paths up = merged_in_order (own_routes r file old) (learned_routes paths) (own_in_order r file old (own_routes r file old) refl) (learned_in_order paths up)
+
+pub with_internal-requires-clause-table : goal.with_internal-requires-clause-table
+with_internal-requires-clause-table c =
+    subst IsTable (sym (c.in_ok-table-2.ensures ∙ ap (λ t. merged t (learned_routes c.args.paths.now)) c.in_ok-table.ensures))
+    (own_and_learned c.args.router c.args.file.now (table_of c.args.inputs.now.previous.now c.args.router) c.args.paths.now c.requires.paths)
+
+pub with_internal-requires-clause-routes : goal.with_internal-requires-clause-routes
+with_internal-requires-clause-routes c = at_in_order IsTable none_is_table c.args.inputs.now.internal.now.routes c.args.router c.requires.inputs.routes
+
+pub with_outside-requires-clause-table : goal.with_outside-requires-clause-table
+with_outside-requires-clause-table c =
+    let r = c.args.router in
+    let old = table_of c.args.inputs.now.previous.now r in
+    let inside = routes_of c.args.inputs.now.internal.now r in
+    let learned = learned_routes c.args.paths.now in
+    let before = c.in_ok-table-2.ensures ∙ ap (λ t. merged t learned) c.in_ok-table.ensures in
+    subst IsTable (sym (c.in_ok-table-3.ensures ∙ ap (λ t. merged t inside) before))
+    (merged_in_order (merged (own_routes r c.args.file.now old) learned) inside (own_and_learned r c.args.file.now old c.args.paths.now c.requires.paths)
+    (at_in_order IsTable none_is_table c.args.inputs.now.internal.now.routes r c.requires.inputs.routes))
 
 pub returns-clause-value : goal.returns-clause-value
 returns-clause-value c =

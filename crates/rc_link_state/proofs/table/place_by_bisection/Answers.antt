@@ -3,7 +3,7 @@ use Rattle.std.specs.Prelude.{MatchResult, slice_get}
 use Rattle.std.specs.List.{list_any}
 use Rattle.rc_link_state.specs.Tables.{is_number}
 use Rattle.rc_link_state.proofs.TableLaws.{bisected}
-use Rattle.rc_link_state.proofs.table.place_of.Goals as goal
+use Rattle.rc_link_state.proofs.table.place_by_bisection.Goals as goal
 
 pub returns-in-Ok-clause-found : goal.returns-in-Ok-clause-found
 returns-in-Ok-clause-found c =
