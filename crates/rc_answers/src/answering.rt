@@ -14,7 +14,7 @@ use crate::{FileFindings, Findings, Subject};
 use rc_base::{Header, Items, Pos, RouterId};
 use rc_config::Network;
 use rc_idle::idle_told;
-use rc_moves::{Plane, Walk};
+use rc_moves::{Plane, Tables, Walk};
 use rc_outside::{Gate, Sink};
 use rc_report::{AllRoutes, FailRow, FailureLines, IdleLines, Nothing, RoutesOf, WalkLines};
 use rc_route::{Outcome, RoundsEnd, State};
@@ -83,8 +83,9 @@ fn first_walk(
     requires state { IsStateOf (length net.now.routers) state }
     ensures { IfOk result (IsFirstWalk (plane_of net.now state) header.now position) }
 {
+    let tables = Tables::of(alloc, state)?;
     let links = Links::of(alloc, net)?;
-    let plane = Plane::of(alloc, net, &links, state)?;
+    let plane = Plane::of(net, &links, tables);
     trace(alloc, &plane, position, header)
 }
 
@@ -147,8 +148,8 @@ fn answer_routes_of<S: Sink>(
 
 /// Answers what is asked of a fixed point.
 ///
-/// The state is not dropped behind the last answer: the program ends there, and the system takes back all memory at once, while to drop
-/// 800,000 paths one by one takes as long as to copy them.
+/// The state is not dropped behind its routes: the program ends there, and the system takes back all memory at once. To drop 800,000 paths
+/// one by one takes a twentieth of the time of the whole answer.
 fn answer_fixed<R: Threads + Sync + AllocGlobal, S: Sink, G: Gate>(
     rt: &R,
     request: &Request,

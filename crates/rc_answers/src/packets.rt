@@ -21,7 +21,7 @@ use rc_base::{Ends, Header, Items, Pos};
 use rc_bdd::SetError;
 use rc_config::Network;
 use rc_cubes::Cubes;
-use rc_moves::{Plane, Walk};
+use rc_moves::{Plane, Tables, Walk};
 use rc_nodes::{May, Nodes, Ref, Seat};
 use rc_outside::{Gate, Sink};
 use rc_reach::{Asked, AskedSet, arrivals, asked_in_table, failures, first_room};
@@ -32,6 +32,7 @@ use rc_walk::{looping, shortest};
 use rc_words::Request;
 use rc_writing::{Status, write_ended};
 use std::alloc::{AllocError, AllocGlobal, Global};
+use std::mem::forget;
 use std::thread::Threads;
 
 /// What stands where packets are asked about at a fixed point.
@@ -289,7 +290,8 @@ fn answer_over<R: Threads + Sync + AllocGlobal, S: Sink, G: Gate>(
     answer_made(rt.alloc(), at, packets, made, out)
 }
 
-/// Answers which packets are asked about, at a fixed point. Its tables become those of the plane.
+/// Answers which packets are asked about, at a fixed point. Its tables become those of the plane, which is not dropped behind them: the
+/// program ends there.
 #[tactic(auto, using(crate::proofs::PutLaws::memory_at_fixed))]
 pub(crate) fn answer_packets<R: Threads + Sync + AllocGlobal, S: Sink, G: Gate>(
     rt: &R,
@@ -309,21 +311,24 @@ pub(crate) fn answer_packets<R: Threads + Sync + AllocGlobal, S: Sink, G: Gate>(
     ensures sink_only { result ≡ Status.Sink → Rose (S.faults out.old) (S.faults out.new) }
     ensures sink_always { S.faults out.old < S.faults out.new → result ≡ Status.Sink }
 {
-    let Ok(links) = Links::of(rt.alloc(), net) else {
-        return Status::Memory;
-    };
     let Ok(routes) = route_count(&state) else {
         return Status::Memory;
     };
     let few = first_room(net, &state, &packets.asked, request.limits.nodes);
-    let Ok(plane) = Plane::of(rt.alloc(), net, &links, state) else {
+    let Ok(tables) = Tables::of(rt.alloc(), state) else {
         return Status::Memory;
     };
+    let Ok(links) = Links::of(rt.alloc(), net) else {
+        return Status::Memory;
+    };
+    let plane = Plane::of(net, &links, tables);
     let at = AtFixed {
         request,
         plane: &plane,
         end,
         routes,
     };
-    answer_over(rt, &at, few, packets, out, gate)
+    let status = answer_over(rt, &at, few, packets, out, gate);
+    forget(plane);
+    status
 }

@@ -11,7 +11,7 @@ ghost use Rattle.rc_failures.specs.Failures.{Arrives, IsAnalysis, IsArrival};
 use crate::packet::Packet;
 use crate::plain::know_plain;
 use rc_config::Network;
-use rc_moves::Plane;
+use rc_moves::{Plane, Tables};
 use rc_outside::OpenGate;
 use rc_rounds::{KnownAt, Outcome, known_at, rounds_of};
 use rc_route::{RoundsEnd, State};
@@ -39,7 +39,8 @@ fn arrives_over(
     requires links { links.now ≡ links_of net.now }
     ensures { IfOk result (λ arrives. Decides arrives (Arrives (plane_of net.now state) packet.now.place packet.now.header packet.now.ends)) }
 {
-    let plane = Plane::of(alloc, net, links, state)?;
+    let tables = Tables::of(alloc, state)?;
+    let plane = Plane::of(net, links, tables);
     let walk = shortest(alloc, &plane, packet.place, &packet.header, packet.ends)?;
     Ok(walk.is_some())
 }

@@ -1,10 +1,10 @@
 -- Layer upon layer of entries comes to the resolved table.
-use Rattle.std.proofs.Common.{refl, subst, All, rules, ◌≡◌, ap, sym, ◌∙◌, ℕ, zero, suc, ◌+◌, ◌-◌, ◌<◌, ◌≤◌, arith, List, [], ◌∷◌, ◌++◌, map, append_assoc, length, get_or, take, Bool, true, false, cond, not, ◌&&◌, ◌||◌, Some, None}
+use Rattle.std.proofs.Common.{refl, subst, All, rules, ◌≡◌, ap, sym, ◌∙◌, ℕ, zero, suc, ◌+◌, ◌-◌, ◌<◌, ◌≤◌, arith, List, [], ◌∷◌, ◌++◌, map, append_assoc, append-nil, length, get_or, take, drop, Bool, true, false, cond, not, ◌&&◌, ◌||◌, Some, None}
 use Rattle.std.specs.Arc.{arc_value}
 use Rattle.std.specs.List.{list_all, flat_map}
 use Rattle.std.specs.declared.alloc.Global.{Global}
 use Rattle.std.specs.declared.sync.Arc.{Arc}
-use Rattle.std.proofs.lemmas.List.{map-append, take_more}
+use Rattle.std.proofs.lemmas.List.{map-append, take_more, drop_more, drop_all}
 use Rattle.std.proofs.lemmas.List.Elements.{All-push}
 use Rattle.std.specs.List.Sorted.{IsStrictlySortedBy}
 use Rattle.rc_base.specs.Prefix.{IsCidr, prefix_cmp}
@@ -141,12 +141,6 @@ entries-more entries next more table i route within at is push =
     push ∙ (λ k. is k ++ entry_over entries (at k) ∷ [])
     ∙ sym (map-append (entry_over entries) (take i table) (get_or table i route ∷ [])) ∙ ap (entries_over entries) (sym (take_more table i route within))
 
--- and the one of what is left of a table
-pub entries-moved : (next more all : List Entry) (route : Route) (left rest : List Route) → all ≡ next ++ entries_over [] left → left ≡ route ∷ rest →
-    more ≡ next ++ entry_over [] route ∷ [] → all ≡ more ++ entries_over [] rest
-entries-moved next more all route left rest is front push =
-    is ∙ ap (λ rs. next ++ entries_over [] rs) front ∙ sym (append_assoc next (entry_over [] route ∷ []) (entries_over [] rest)) ∙ ap (λ es. es ++ entries_over [] rest) (sym push)
-
 -- one entry more behind others
 pub entries-behind : (front next more : List Entry) (table : List Route) (i : ℕ) (route : Route) → i < length table → route ≡ get_or table i route →
     next ≡ front ++ entries_over [] (take i table) → more ≡ next ++ entry_over [] route ∷ [] → more ≡ front ++ entries_over [] (take (i + 1) table)
@@ -155,12 +149,18 @@ entries-behind front next more table i route within at is push =
     ∙ append_assoc front (entries_over [] (take i table)) (entry_over [] (get_or table i route) ∷ [])
     ∙ ap (λ es. front ++ es) (sym (map-append (entry_over []) (take i table) (get_or table i route ∷ [])) ∙ ap (entries_over []) (sym (take_more table i route within)))
 
--- and those of a part
-pub part-moved : (next more all : List Entry) (part : Arc (List Route) Global) (left rest : List (Arc (List Route) Global)) → all ≡ next ++ entries_over [] (joined_parts left) → left ≡ part ∷ rest →
-    more ≡ next ++ entries_over [] (arc_value part) → all ≡ more ++ entries_over [] (joined_parts rest)
-part-moved next more all part left rest is front push =
-    is ∙ ap (λ ps. next ++ entries_over [] (joined_parts ps)) front ∙ ap (λ es. next ++ es) (map-append (entry_over []) (arc_value part) (joined_parts rest))
-    ∙ sym (append_assoc next (entries_over [] (arc_value part)) (entries_over [] (joined_parts rest))) ∙ ap (λ es. es ++ entries_over [] (joined_parts rest)) (sym push)
+-- those of one part more, of the parts that are left
+pub part-more : (next more all : List Entry) (parts : List (Arc (List Route) Global)) (i : ℕ) (part : Arc (List Route) Global) → i < length parts → part ≡ get_or parts i part →
+    all ≡ next ++ entries_over [] (joined_parts (drop i parts)) → more ≡ next ++ entries_over [] (arc_value part) → all ≡ more ++ entries_over [] (joined_parts (drop (i + 1) parts))
+part-more next more all parts i part within at is push =
+    let rest = joined_parts (drop (i + 1) parts) in
+    is ∙ ap (λ ps. next ++ entries_over [] (joined_parts ps)) (drop_more parts i part within ∙ ap (λ (p : Arc (List Route) Global). p ∷ drop (i + 1) parts) (sym at))
+    ∙ ap (λ es. next ++ es) (map-append (entry_over []) (arc_value part) rest)
+    ∙ sym (append_assoc next (entries_over [] (arc_value part)) (entries_over [] rest)) ∙ ap (λ es. es ++ entries_over [] rest) (sym push)
+
+-- and when no part is left
+pub no-part : (next all : List Entry) (parts : List (Arc (List Route) Global)) (i : ℕ) → length parts ≤ i → all ≡ next ++ entries_over [] (joined_parts (drop i parts)) → next ≡ all
+no-part next all parts i past is = sym (is ∙ ap (λ ps. next ++ entries_over [] (joined_parts ps)) (drop_all i parts past) ∙ append-nil next)
 
 pub canonical-more : (next more : List Entry) (e : Entry) → All (λ (e : Entry). IsCidr e.prefix) next → IsCidr e.prefix → more ≡ next ++ e ∷ [] → All (λ (e : Entry). IsCidr e.prefix) more
 canonical-more next more e all is push = subst (All (λ (e : Entry). IsCidr e.prefix)) (sym push) (All-push (λ (e : Entry). IsCidr e.prefix) next e all is)

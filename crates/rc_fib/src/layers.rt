@@ -7,19 +7,35 @@ ghost use Rattle.rc_route.specs.Parts.{joined_parts};
 ghost use Rattle.rc_route.specs.Tables.{IsTable};
 ghost use Rattle.rc_fib.specs.Entries as layer;
 ghost use Rattle.rc_fib.specs.Entries.{IsFib};
-ghost use Rattle.rc_fib.specs.Forwarding.{resolved, is_resolved};
+ghost use Rattle.rc_fib.specs.Forwarding.{resolved, resolve_all, resolved_hops, is_resolved};
 
-use crate::Entry;
-use crate::resolve::{is_resolved, resolve_hops, taken_hops};
+use crate::resolve::{is_resolved, is_settled, resolve_hops};
+use crate::{Entry, SharedHops};
 use rc_base::Items;
-use rc_route::{Parts, Route, RouterState, Table};
+use rc_route::{Hops, Parts, Route, RouterState, Table};
 use std::alloc::{AllocError, Global};
-use std::collections::VecDeque;
-use std::mem::replace;
 use std::sync::Arc;
 
 /// How many look-ups may follow one another.
 const DEPTH: u8 = 16;
+
+/// What the hops of a route resolve to, where other entries give those of its gateways. It shares what the last of the entries that are made
+/// has, where these hops are the same and need no look-up.
+fn hops_behind(
+    alloc: Global,
+    made: &[Entry],
+    entries: &[Entry],
+    hops: &Hops,
+) -> Result<SharedHops, AllocError>
+    requires { IsFib entries.now }
+    ensures { IfOk result (λ shared. shared ≡ resolve_all (resolved_hops entries.now) hops.now) }
+{
+    let last = made.last();
+    match last {
+        Some(last) if is_settled(hops.as_slice()) && last.hops.are(hops) => last.hops.share(),
+        _ => SharedHops::of(alloc, resolve_hops(alloc, entries, hops)?),
+    }
+}
 
 /// Puts a route's entry at the end, where other entries give the hops of its gateways.
 fn push_over(
@@ -34,7 +50,7 @@ fn push_over(
 {
     // For the proof: reading the network tells that the prefix is one.
     let _network = route.prefix.network();
-    let hops = resolve_hops(alloc, entries, &route.hops)?;
+    let hops = hops_behind(alloc, next.as_slice(), entries, &route.hops)?;
     next.push(Entry {
         prefix: route.prefix,
         hops,
@@ -59,33 +75,8 @@ fn entries_over(
     Ok(next)
 }
 
-/// Puts a route's entry at the end, where no other entries are known: it takes the route's hops over.
-fn push_taken(made: &mut Items<Entry>, alloc: Global, route: Route) -> Result<(), AllocError>
-    ensures value { OnOk result (made.new ≡ made.old ++ layer.entry_over [] route ∷ []) }
-    ensures canonical { IsCidr route.prefix }
-{
-    let prefix = route.prefix;
-    // For the proof: reading the network tells that the prefix is one.
-    let _network = prefix.network();
-    let hops = taken_hops(alloc, route.into_hops())?;
-    made.push(Entry { prefix, hops })
-}
-
-/// Puts the entries of routes at the end, where no other entries are known: they take the hops of the routes over.
-fn push_moved(made: &mut Items<Entry>, alloc: Global, routes: Table) -> Result<(), AllocError>
-    requires { All layer.HasCidr made.old }
-    ensures value { OnOk result (made.new ≡ made.old ++ layer.entries_over [] routes) }
-    ensures canonical { OnOk result (All layer.HasCidr made.new) }
-{
-    let mut left = VecDeque::from(routes.into_vec());
-    while let Some(route) = left.pop_front() {
-        push_taken(made, alloc, route)?;
-    }
-    Ok(())
-}
-
-/// Puts the entries of routes at the end that others hold, where no other entries are known.
-fn push_shared(made: &mut Items<Entry>, alloc: Global, routes: &[Route]) -> Result<(), AllocError>
+/// Puts the entries of a part of a table at the end, where no other entries are known.
+fn push_part(made: &mut Items<Entry>, alloc: Global, routes: &[Route]) -> Result<(), AllocError>
     requires { All layer.HasCidr made.old }
     ensures value { OnOk result (made.new ≡ made.old ++ layer.entries_over [] routes.now) }
     ensures canonical { OnOk result (All layer.HasCidr made.new) }
@@ -96,33 +87,30 @@ fn push_shared(made: &mut Items<Entry>, alloc: Global, routes: &[Route]) -> Resu
     Ok(())
 }
 
-/// Puts the entries of a part of a table at the end, where no other entries are known. What nobody else holds is taken over.
-fn push_part(
+/// Puts the entries of the parts of a table at the end, where no other entries are known.
+fn push_parts(
     made: &mut Items<Entry>,
     alloc: Global,
-    part: Arc<Table, Global>,
+    parts: &[Arc<Table, Global>],
 ) -> Result<(), AllocError>
     requires { All layer.HasCidr made.old }
-    ensures value { OnOk result (made.new ≡ made.old ++ layer.entries_over [] (arc_value part)) }
+    ensures value { OnOk result (made.new ≡ made.old ++ layer.entries_over [] (joined_parts parts.now)) }
     ensures canonical { OnOk result (All layer.HasCidr made.new) }
 {
-    match Arc::try_unwrap(part) {
-        Ok(routes) => push_moved(made, alloc, routes),
-        Err(part) => push_shared(made, alloc, part.as_slice()),
+    for part in parts {
+        push_part(made, alloc, part.as_slice())?;
     }
+    Ok(())
 }
 
-/// The entries of a table in parts, where no other entries are known: they take over what nobody else holds of it.
-fn entries_of(alloc: Global, table: Parts<Route>) -> Result<Items<Entry>, AllocError>
-    requires { IsTable table }
-    ensures value { IfOk result (λ made. made ≡ layer.entries_over [] table) }
+/// The entries of a table in parts, where no other entries are known.
+fn entries_of(alloc: Global, table: &Parts<Route>) -> Result<Items<Entry>, AllocError>
+    requires { IsTable table.now }
+    ensures value { IfOk result (λ made. made ≡ layer.entries_over [] table.now) }
     ensures in_order { IfOk result IsFib }
 {
     let mut made = Items::from_vec(Vec::with_capacity(alloc, table.len())?);
-    let mut left = VecDeque::from(table.into_parts().into_vec());
-    while let Some(part) = left.pop_front() {
-        push_part(&mut made, alloc, part)?;
-    }
+    push_parts(&mut made, alloc, table.parts())?;
     Ok(made)
 }
 
@@ -182,22 +170,17 @@ pub(crate) fn resolve_table(alloc: Global, table: &[Route]) -> Result<Items<Entr
     Ok(entries)
 }
 
-/// The table of a router, taken out of what it knows.
-fn table_of(alloc: Global, mut known: RouterState) -> Parts<Route>
-    ensures { result ≡ known.table }
-{
-    replace(&mut known.table, Parts::new(alloc))
-}
-
-/// The same of the table of what a router knows, which nobody needs any more. Where no hop needs a look-up, the entries take over what
-/// nobody else holds of it.
+/// The same of the table of what a router knows, which nobody needs any more. Where no hop needs a look-up, the entries are made part by
+/// part, with no list of all routes between.
+///
+/// What it knows is dropped behind them and not part by part, so that what it took becomes one place, which the next table fits in.
 pub(crate) fn resolve_taken(alloc: Global, known: RouterState) -> Result<Items<Entry>, AllocError>
     requires { IsTable known.table }
     ensures value { IfOk result (λ entries. entries ≡ resolved known.table) }
     ensures in_order { IfOk result IsFib }
 {
     if are_plain(known.table.parts()) {
-        return entries_of(alloc, table_of(alloc, known));
+        return entries_of(alloc, &known.table);
     }
     let table = known.into_table(alloc)?;
     resolve_table(alloc, table.as_slice())

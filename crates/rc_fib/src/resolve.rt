@@ -80,7 +80,7 @@ fn resolve(alloc: Global, entries: &[Entry], hops: &[Hop]) -> Result<Hops, Alloc
 }
 
 /// Whether hops resolve to themselves: each says where a packet goes, and none stands there twice. Of three or more it isn't told.
-fn is_settled(hops: &[Hop]) -> bool
+pub(crate) fn is_settled(hops: &[Hop]) -> bool
     ensures { result ≡ true → layer.is_settled hops.now ≡ true }
 {
     match hops {
@@ -106,16 +106,6 @@ pub(crate) fn resolve_hops(
         return hops.copy(alloc);
     }
     resolve(alloc, entries, hops.as_slice())
-}
-
-/// The same where no entries are known, taken from the route where they are its own as they stand.
-pub(crate) fn taken_hops(alloc: Global, hops: Hops) -> Result<Hops, AllocError>
-    ensures { IfOk result (λ found. found ≡ spec.resolve_all (spec.resolved_hops []) hops) }
-{
-    if is_settled(hops.as_slice()) {
-        return Ok(hops);
-    }
-    resolve(alloc, &[], hops.as_slice())
 }
 
 /// Whether a hop says where a packet goes: nowhere, or over an interface.

@@ -26,9 +26,17 @@ pub record DataPlane : Type 0 where
   pub links : Topology
   pub fibs : List (List Entry)
 
+-- a network with its links and with these tables
+abbrev pub plane_with : Network → List (List Entry) → DataPlane
+plane_with net fibs = record { network = net; links = links_of net; fibs = fibs }
+
+-- each router's table in a state, with its hops resolved
+abbrev pub tables_of : List RouterState → List (List Entry)
+tables_of = map (λ (s : RouterState). resolved s.table)
+
 -- what forwards packets, of a network in a state
 abbrev pub plane_of : Network → List RouterState → DataPlane
-plane_of net state = record { network = net; links = links_of net; fibs = map (λ (s : RouterState). resolved s.table) state }
+plane_of net state = plane_with net (tables_of state)
 
 -- each hop of each table says where a packet goes: nowhere, or over an interface
 abbrev pub HasResolvedHops : List (List Entry) → Type 0

@@ -13,6 +13,6 @@ mod steps;
 mod walk;
 
 pub use laws::{positions_are_told_apart, walks_are_short};
-pub use plane::Plane;
+pub use plane::{Plane, Tables};
 pub use steps::{Steps, step};
 pub use walk::{Move, Stop, Walk};

@@ -16,32 +16,28 @@ use std::alloc::{AllocError, Global};
 use std::collections::VecDeque;
 use std::marker::Model;
 
-/// A network, its links, and each router's table prepared for look-ups.
-pub struct Plane<'a> {
-    network: &'a Network,
-    links: &'a Links,
+/// Each router's table in a state, prepared for look-ups.
+pub struct Tables {
     fibs: Items<Fib>,
 }
 
-/// By a function of its own, so that what holds a plane drops its tables by one call.
-impl<'a> Drop for Plane<'a> {
+/// By a function of its own, so that what holds tables drops them by one call.
+impl Drop for Tables {
     fn drop(self) {
-        let Plane {
-            network: _,
-            links: _,
-            fibs: _,
-        } = self;
+        let Tables { fibs: _ } = self;
     }
 }
 
-impl<'a> Model for Plane<'a> {
-    ghost use Rattle.rc_moves.specs.Moves.{DataPlane, ArePrepared};
+impl Model for Tables {
+    ghost use Rattle.std.specs.Prelude.{List};
+    ghost use Rattle.rc_fib.specs.declared.entry.Entry.{Entry};
+    ghost use Rattle.rc_moves.specs.Moves.{ArePrepared};
 
-    ghost Value = { DataPlane };
+    ghost Value = { List (List Entry) };
 
-    ghost view = { λ p. record { network = p.network.now; links = p.links.now; fibs = p.fibs } };
+    ghost view = { λ t. t.fibs };
 
-    ghost invariant = { λ p. ArePrepared p.fibs };
+    ghost invariant = { λ t. ArePrepared t.fibs };
 }
 
 /// The tables of a state, prepared for look-ups.
@@ -58,26 +54,58 @@ fn fibs_of(alloc: Global, state: State) -> Result<Items<Fib>, AllocError>
     Ok(Items::from_vec(fibs))
 }
 
-impl<'a> Plane<'a> {
-    ghost use Rattle.rc_moves.specs.Moves.{ArePrepared, plane_of, fib_of};
+impl Tables {
+    ghost use Rattle.rc_moves.specs.Moves.{tables_of};
 
-    /// A network in a state, whose tables it takes over, with the network's links. It errs only where memory runs out.
-    pub fn of(
-        alloc: Global,
-        net: &'a Network,
-        links: &'a Links,
-        state: State,
-    ) -> Result<Plane<'a>, AllocError>
-        requires state { All IsRouterState state }
-        requires links { links.now ≡ links_of net.now }
-        ensures { IfOk result (λ plane. plane ≡ plane_of net.now state) }
+    /// The tables of a state, which takes their place. It errs only where memory runs out.
+    pub fn of(alloc: Global, state: State) -> Result<Tables, AllocError>
+        requires { All IsRouterState state }
+        ensures { IfOk result (λ tables. tables ≡ tables_of state) }
     {
         let fibs = fibs_of(alloc, state)?;
-        Ok(Plane {
+        Ok(Tables { fibs })
+    }
+}
+
+/// A network, its links, and each router's table prepared for look-ups.
+pub struct Plane<'a> {
+    network: &'a Network,
+    links: &'a Links,
+    tables: Tables,
+}
+
+/// By a function of its own, so that what holds a plane drops it by one call.
+impl<'a> Drop for Plane<'a> {
+    fn drop(self) {
+        let Plane {
+            network: _,
+            links: _,
+            tables: _,
+        } = self;
+    }
+}
+
+impl<'a> Model for Plane<'a> {
+    ghost use Rattle.rc_moves.specs.Moves.{DataPlane};
+
+    ghost Value = { DataPlane };
+
+    ghost view = { λ p. record { network = p.network.now; links = p.links.now; fibs = p.tables } };
+}
+
+impl<'a> Plane<'a> {
+    ghost use Rattle.rc_moves.specs.Moves.{ArePrepared, plane_with, fib_of};
+
+    /// A network with its links and with these tables, which it takes over.
+    pub fn of(net: &'a Network, links: &'a Links, tables: Tables) -> Plane<'a>
+        requires { links.now ≡ links_of net.now }
+        ensures { result ≡ plane_with net.now tables }
+    {
+        Plane {
             network: net,
             links,
-            fibs,
-        })
+            tables,
+        }
     }
 
     /// The network.
@@ -99,14 +127,14 @@ impl<'a> Plane<'a> {
         ensures value { result.now ≡ self.now.fibs }
         ensures prepared { ArePrepared self.now.fibs }
     {
-        self.fibs.as_slice()
+        self.tables.fibs.as_slice()
     }
 
     /// The prepared table of a router, or `None` exactly where the network has none of this index.
     pub fn fib(&self, router: RouterId) -> Option<&Fib>
         ensures { option_copied result ≡ slice_get self.now.fibs router }
     {
-        self.fibs.as_slice().get(router.index())
+        self.tables.fibs.as_slice().get(router.index())
     }
 
     /// The hops of an address by the table of a router.

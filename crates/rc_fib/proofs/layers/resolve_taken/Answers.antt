@@ -11,4 +11,4 @@ pub returns-then-are_plain-clause-value : goal.returns-then-are_plain-clause-val
 returns-then-are_plain-clause-value c =
     let table = c.args.known.table in
     let plain = ap (list_all (λ (r : Route). list_all is_resolved r.hops)) (sym c.parts.ensures) ∙ sym c.are_plain.ensures ∙ c.if-are_plain.true in
-    IfOk-weaker _ _ (λ entries. entries ≡ resolved table) (λ made is. plain_table table made (is ∙ ap (entries_over []) c.table_of.ensures) plain) c.entries_of.ensures.value
+    IfOk-weaker _ _ (λ entries. entries ≡ resolved table) (λ made is. plain_table table made is plain) c.entries_of.ensures.value

@@ -2,7 +2,7 @@ use Rattle.std.proofs.Common.{ap, ◌∙◌, ◌++◌, []}
 use Rattle.std.proofs.lemmas.List.{take_all}
 use Rattle.rc_fib.specs.Entries.{entries_over}
 use Rattle.rc_fib.proofs.LayerLaws.{canonical-more, entries-behind, none_in_order}
-use Rattle.rc_fib.proofs.layers.push_shared.Goals as goal
+use Rattle.rc_fib.proofs.layers.push_part.Goals as goal
 
 pub push_over-requires : goal.push_over-requires
 push_over-requires c = none_in_order

@@ -1,6 +1,6 @@
 use Rattle.std.proofs.Common.{◌≡◌, ◌++◌, [], All, take}
 use Rattle.rc_fib.specs.Entries.{entries_over, HasCidr}
-use Rattle.rc_fib.proofs.layers.push_shared.Given as goal
+use Rattle.rc_fib.proofs.layers.push_part.Given as goal
 
 -- the routes so far have their entries
 abbrev pub invariant-loop-route : goal.invariant-loop-route
