@@ -149,7 +149,7 @@ fn answer_routes_of<S: Sink>(
 /// Answers what is asked of a fixed point.
 ///
 /// The state is not dropped behind its routes: the program ends there, and the system takes back all memory at once. To drop 800,000 paths
-/// one by one takes a twentieth of the time of the whole answer.
+/// one by one took a twentieth of the time of the whole answer by one worker, and a seventh by four.
 fn answer_fixed<R: Threads + Sync + AllocGlobal, S: Sink, G: Gate>(
     rt: &R,
     request: &Request,

@@ -315,7 +315,7 @@ pub(crate) fn answer_packets<R: Threads + Sync + AllocGlobal, S: Sink, G: Gate>(
         return Status::Memory;
     };
     let few = first_room(net, &state, &packets.asked, request.limits.nodes);
-    let Ok(tables) = Tables::of(rt.alloc(), state) else {
+    let Ok(tables) = Tables::by_workers(rt, rt.alloc(), state, request.limits.workers) else {
         return Status::Memory;
     };
     let Ok(links) = Links::of(rt.alloc(), net) else {

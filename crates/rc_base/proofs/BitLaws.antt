@@ -26,6 +26,16 @@ other_one n k i ne = ap (λ m. m == 1) (bit_at_or n (2 ^ k) i ∙ ap (max (bit_a
     least : (x : ℕ) → max x 0 ≡ x
     least x = omega arith
 
+-- ---- what a bit is, by the table
+
+pub bit-by-fields : (h : Header) (v : ℕ) → bit_in fields h v ≡ bit h v
+unfolding bit
+bit-by-fields h v = refl
+
+pub set-by-fields : (h : Header) (v : ℕ) → set_in fields h v ≡ set_bit h v
+unfolding set_bit
+set-by-fields h v = refl
+
 -- ---- fields apart
 
 abbrev pub are_distinct : List Field → Bool

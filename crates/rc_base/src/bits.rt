@@ -5,7 +5,6 @@ ghost use Rattle.rc_base.specs.Header as spec;
 use crate::{Field, Header};
 
 /// Whether a bit of a header is 1, by its number: field behind field, each field's most significant bit first.
-#[tactic(auto, unfolding(crate::specs::Header::bit))]
 pub fn header_bit(header: &Header, number: u8) -> bool
     requires { number < spec.bit_count }
     ensures { result ≡ spec.bit header.now number }
@@ -22,7 +21,6 @@ pub fn header_bit(header: &Header, number: u8) -> bool
 }
 
 /// The header with a bit set to 1, by its number.
-#[tactic(auto, unfolding(crate::specs::Header::set_bit))]
 pub fn with_header_bit(header: &Header, number: u8) -> Header
     requires { number < spec.bit_count }
     ensures { result ≡ spec.set_bit header.now number }

@@ -22,3 +22,4 @@ mod HearLaws
 mod TellingLaws
 mod UpLaws
 mod InterfaceLaws
+mod PairLaws

@@ -1,5 +1,5 @@
 -- What each router says in BGP: its AS, its identifier (RFC 4271 s.4.2), its own addresses and those from which it speaks.
-use Rattle.std.specs.Prelude.{ℕ, max, not, ◌||◌, if◌then◌else◌, List, [], map, length, Option, Some, None, unwrap_or, option_and_then, slice_get}
+use Rattle.std.specs.Prelude.{ℕ, Bool, false, max, not, ◌||◌, if◌then◌else◌, List, [], map, length, Option, Some, None, is_some, unwrap_or, option_and_then, slice_get}
 use Rattle.std.specs.List.{filter, filter_map, flat_map, find, fold, range_with_len}
 use Rattle.std.specs.Option.{option_map, option_map_or, option_or}
 use Rattle.std.specs.Ordering.{nat_cmp}
@@ -103,6 +103,10 @@ speakers net = map (speaker_at net) (router_ids net)
 -- the statement of a file about an address
 abbrev pub statement_in : List OwnAddr → ℕ → RouterText → Option Statement
 statement_in own a file = option_and_then (λ (process : BgpProcess). option_and_then (statement_of file.interfaces own) (with_number address_of a process.neighbors)) file.bgp
+
+-- the router of a speaker has a process
+abbrev pub has_process : Network → Speaker → Bool
+has_process net s = option_map_or (λ (file : RouterText). is_some file.bgp) (router_at net s.router) false
 
 -- the statement of a speaker about an address
 abbrev pub statement_about : Network → Speaker → ℕ → Option Statement

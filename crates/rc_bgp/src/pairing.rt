@@ -4,7 +4,7 @@ ghost use Rattle.rc_bgp.specs.Sessions as spec;
 
 use crate::Session;
 use crate::speaker::{OwnAddr, Speaker, speakers};
-use crate::statement::{Statement, statement_about};
+use crate::statement::{Statement, has_process, statement_about};
 use rc_base::{Addr, Items};
 use rc_config::Network;
 use rc_topology::Links;
@@ -137,8 +137,8 @@ fn add_sessions_from(
     Ok(())
 }
 
-/// The sessions to a receiver.
-fn sessions_to(
+/// The sessions to a receiver, of all senders.
+fn sessions_from_all(
     alloc: Global,
     links: &Links,
     net: &Network,
@@ -152,6 +152,22 @@ fn sessions_to(
         add_sessions_from(links, net, to, from, &mut all)?;
     }
     Ok(all)
+}
+
+/// The sessions to a receiver. Where it has no process there are none, whoever sends.
+fn sessions_to(
+    alloc: Global,
+    links: &Links,
+    net: &Network,
+    senders: &[Speaker],
+    to: &Speaker,
+) -> Result<Items<Session>, AllocError>
+    ensures { IfOk result (λ all. all ≡ spec.sessions_to links.now net.now senders.now to.now) }
+{
+    if !has_process(net, to) {
+        return Ok(Items::new(alloc));
+    }
+    sessions_from_all(alloc, links, net, senders, to)
 }
 
 /// The sessions among speakers, for each those to it.

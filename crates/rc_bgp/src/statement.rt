@@ -100,6 +100,17 @@ fn statement_in(file: &RouterText, own: &[OwnAddr], addr: Addr) -> Option<Statem
     }
 }
 
+/// Whether the router of a speaker has a process.
+pub(crate) fn has_process(net: &Network, speaker: &Speaker) -> bool
+    ensures { result ≡ spec.has_process net.now speaker.now }
+{
+    let found = net.router_at(speaker.router);
+    match found {
+        None => false,
+        Some(file) => file.bgp.is_some(),
+    }
+}
+
 /// The statement of a speaker about an address.
 pub(crate) fn statement_about(net: &Network, speaker: &Speaker, addr: Addr) -> Option<Statement>
     ensures { result ≡ spec.statement_about net.now speaker.now addr }

@@ -7,7 +7,7 @@ use Rattle.std.specs.Map.{keys_of}
 use Rattle.std.specs.Option.{option_map, option_map_or, option_or}
 use Rattle.std.proofs.lemmas.Bool.{eqb-true}
 use Rattle.indexmap.specs.IndexSet.{insert_key}
-use Rattle.indexmap.proofs.SetLemmas.{keys_insert_entry}
+use Rattle.rc_config.proofs.NamedLaws.{keys_with_value}
 use Rattle.rc_base.specs.Name.{same_name}
 use Rattle.rc_commands.specs.LastLine as said
 use Rattle.rc_commands.specs.BgpLines as said_of_bgp
@@ -190,9 +190,9 @@ neighbors-step address p l = refl
 
 -- ---- peer groups
 groups-step : (p : BgpProcess) (l : BgpLine) → keys_of (bgp.with_line p l).peering.groups ≡ option_map_or (insert_key same_name (keys_of p.peering.groups)) (said_of_bgp.group_said l) (keys_of p.peering.groups)
-groups-step p (bgp_line.Setting (whom.Group name) s) = keys_insert_entry same_name p.peering.groups name _
-groups-step p (bgp_line.Active (whom.Group name) is_active) = keys_insert_entry same_name p.peering.groups name _
-groups-step p (bgp_line.GroupDeclared name) = keys_insert_entry same_name p.peering.groups name _
+groups-step p (bgp_line.Setting (whom.Group name) s) = keys_with_value p.peering.groups name _
+groups-step p (bgp_line.Active (whom.Group name) is_active) = keys_with_value p.peering.groups name _
+groups-step p (bgp_line.GroupDeclared name) = keys_with_value p.peering.groups name _
 groups-step p (bgp_line.Setting (whom.Address a) s) = refl
 groups-step p (bgp_line.Active (whom.Address a) is_active) = refl
 groups-step p l = refl

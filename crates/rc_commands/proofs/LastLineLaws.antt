@@ -6,7 +6,7 @@ use Rattle.std.specs.Option.{option_map, option_map_or, option_or}
 use Rattle.std.proofs.lemmas.Bool.{eqb-true}
 use Rattle.std.specs.Map.{keys_of}
 use Rattle.indexmap.specs.IndexSet.{insert_key}
-use Rattle.indexmap.proofs.SetLemmas.{keys_insert_entry}
+use Rattle.rc_config.proofs.NamedLaws.{keys_with_value}
 use Rattle.rc_base.specs.Name.{same_name}
 use Rattle.rc_commands.specs.LastLine as said
 use Rattle.rc_commands.specs.LastLine.{model_of, LastLineCounts}
@@ -66,26 +66,26 @@ abbrev one_more : List (List ℕ) → Option (List ℕ) → List (List ℕ)
 one_more names o = option_map_or (insert_key same_name names) o names
 
 interface_names-step : (r : RouterText) (c : Command) → keys_of (after r c).interfaces ≡ one_more (keys_of r.interfaces) (said.interface_of c)
-interface_names-step r (command.Interface n line) = keys_insert_entry same_name r.interfaces n _
-interface_names-step r (command.InterfaceLine n line) = keys_insert_entry same_name r.interfaces n _
+interface_names-step r (command.Interface n line) = keys_with_value r.interfaces n _
+interface_names-step r (command.InterfaceLine n line) = keys_with_value r.interfaces n _
 interface_names-step r c = refl
 
 access_list_names-step : (r : RouterText) (c : Command) → keys_of (after r c).lists.access_lists ≡ one_more (keys_of r.lists.access_lists) (said.access_list_of c)
-access_list_names-step r (command.ListLine n (list_line.AccessListOpened kind)) = keys_insert_entry same_name r.lists.access_lists n _
-access_list_names-step r (command.ListLine n (list_line.AccessListLine kind line)) = keys_insert_entry same_name r.lists.access_lists n _
+access_list_names-step r (command.ListLine n (list_line.AccessListOpened kind)) = keys_with_value r.lists.access_lists n _
+access_list_names-step r (command.ListLine n (list_line.AccessListLine kind line)) = keys_with_value r.lists.access_lists n _
 access_list_names-step r c = refl
 
 prefix_list_names-step : (r : RouterText) (c : Command) → keys_of (after r c).lists.prefix_lists ≡ one_more (keys_of r.lists.prefix_lists) (said.prefix_list_of c)
-prefix_list_names-step r (command.ListLine n (list_line.PrefixLine line)) = keys_insert_entry same_name r.lists.prefix_lists n _
+prefix_list_names-step r (command.ListLine n (list_line.PrefixLine line)) = keys_with_value r.lists.prefix_lists n _
 prefix_list_names-step r c = refl
 
 community_list_names-step : (r : RouterText) (c : Command) → keys_of (after r c).lists.community_lists ≡ one_more (keys_of r.lists.community_lists) (said.community_list_of c)
-community_list_names-step r (command.ListLine n (list_line.CommunityLine line)) = keys_insert_entry same_name r.lists.community_lists n _
+community_list_names-step r (command.ListLine n (list_line.CommunityLine line)) = keys_with_value r.lists.community_lists n _
 community_list_names-step r c = refl
 
 route_map_names-step : (r : RouterText) (c : Command) → keys_of (after r c).route_maps ≡ one_more (keys_of r.route_maps) (said.route_map_of c)
-route_map_names-step r (command.MapOpened n k action) = keys_insert_entry same_name r.route_maps n _
-route_map_names-step r (command.MapLine n k line) = keys_insert_entry same_name r.route_maps n _
+route_map_names-step r (command.MapOpened n k action) = keys_with_value r.route_maps n _
+route_map_names-step r (command.MapLine n k line) = keys_with_value r.route_maps n _
 route_map_names-step r c = refl
 
 -- ---- interfaces

@@ -123,7 +123,7 @@ fn opened_at(blocks: &mut Named<Interface>, name: Name) -> Result<usize, AllocEr
     }
     let last = blocks.len();
     let block = Interface::new(blocks.allocator());
-    blocks.insert(name, block)?;
+    blocks.push(name, block)?;
     Ok(last)
 }
 

@@ -1,11 +1,10 @@
 -- Values under names, as a list of names and values in the order of first mention.
-use Rattle.std.specs.Prelude.{ℕ, List, Option}
-use Rattle.std.specs.List.{position}
+use Rattle.std.specs.Prelude.{◌≡◌, ℕ, List, [], ◌∷◌, Option, if◌then◌else◌}
+use Rattle.std.specs.List.{position, IsDistinct}
 use Rattle.std.specs.List.Sorted.{IsStrictlySortedBy}
 use Rattle.std.specs.Ordering.{nat_cmp}
 use Rattle.std.specs.Cmp.Lexicographic.{slice_cmp}
 use Rattle.std.specs.Map.{keys_of, lookup}
-use Rattle.indexmap.specs.IndexMap.{insert_entry}
 use Rattle.rc_base.specs.Name.{same_name}
 
 -- the value under a name
@@ -18,7 +17,13 @@ index_of entries name = position (same_name name) (keys_of entries)
 
 -- the entries with a value under a name: a name that is there keeps its index, and a new one goes last
 abbrev pub with_value : {V : Type 0} → List (List ℕ × V) → List ℕ → V → List (List ℕ × V)
-with_value entries name value = insert_entry same_name entries name value
+with_value [] name value = (name, value) ∷ []
+with_value (e ∷ entries) name value = if same_name name e.0 then (e.0, value) ∷ entries else e ∷ with_value entries name value
+
+-- each name stands once in the entries and has its index, and no other name has one
+pub record AreIndexed {V : Type 0} (places : List (List ℕ × ℕ)) (entries : List (List ℕ × V)) : Type 0 where
+  pub distinct : IsDistinct same_name (keys_of entries)
+  pub at : (name : List ℕ) → lookup (same_name name) places ≡ index_of entries name
 
 -- the names rise in byte order
 abbrev pub AreNamesInOrder : {V : Type 0} → List (List ℕ × V) → Type 0

@@ -1,7 +1,7 @@
 //! The model that the lines of a configuration make: a file's host name, interfaces, static routes, access lists, routing
 //! policy, OSPF process and BGP process, and the network of all files.
 //!
-//! It stands on the names and addresses of rc_base, and on the map of indexmap. The layer above knows a file's model as
+//! It stands on the names and addresses of rc_base. The layer above knows a file's model as
 //! what `after` makes of its commands one by one, a map as its list of names and values in the order of first mention,
 //! things by number as their list, and a router or an interface by its index in such a list. The calls that put a command
 //! into a model are those of rc_commands, so that all that only reads a network needn't wait for them.

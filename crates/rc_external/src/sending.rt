@@ -59,7 +59,8 @@ fn add_of_routes(
     Ok(())
 }
 
-/// Puts what a router sends of the routes of its table at the end, a piece of it after another.
+/// Puts what a router sends of the routes of its table at the end, a piece of it after another. A process that redistributes nothing sends
+/// none of them, so its table isn't read.
 fn add_redistributed(
     alloc: Global,
     all: &mut Items<External>,
@@ -72,6 +73,9 @@ fn add_redistributed(
     requires { IsBestList paths.now }
     ensures { OnOk result (all.new ≡ all.old ++ filter_map (spec.redistributed router file.now process.now paths.now) table.now) }
 {
+    if process.redistributions.is_empty() {
+        return Ok(());
+    }
     let pieces = table.pieces();
     for piece in pieces {
         add_of_routes(alloc, all, router, file, process, paths, piece.as_slice())?;

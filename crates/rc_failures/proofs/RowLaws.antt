@@ -6,7 +6,7 @@ use Rattle.rc_config.specs.Cuts.{with_cut}
 use Rattle.rc_config.specs.Lawful.{IsLawful}
 use Rattle.rc_config.specs.declared.network.Network.{Network}
 use Rattle.rc_config.specs.declared.network.Pair.{Pair}
-use Rattle.rc_ospf.specs.Shares.{AreMade}
+use Rattle.rc_shares.specs.Making.{AreMade}
 use Rattle.rc_outside.specs.Shares.{share_start}
 use Rattle.rc_report.specs.declared.failures.FailRow.{FailRow}
 use Rattle.rc_shares.proofs.StartLaws.{start-first, start-last}

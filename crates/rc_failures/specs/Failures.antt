@@ -9,7 +9,7 @@ use Rattle.rc_base.specs.declared.position.Pos.{Pos}
 use Rattle.rc_config.specs.Cuts.{with_cut}
 use Rattle.rc_config.specs.declared.network.Network.{Network}
 use Rattle.rc_config.specs.declared.network.Pair.{Pair}
-use Rattle.rc_ospf.specs.Shares.{AreMade}
+use Rattle.rc_shares.specs.Making.{AreMade}
 use Rattle.rc_report.specs.declared.failures.FailRow.{FailRow}
 use Rattle.rc_rounds.specs.Rounds.{IsOutcome}
 use Rattle.rc_route.specs.Outcomes.{end_of}

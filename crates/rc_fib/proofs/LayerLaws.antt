@@ -134,33 +134,26 @@ in_order_over entries next table sorted is canonical = record {
   canonical = canonical;
 }
 
--- one entry more
-pub entries-more : (entries next more : List Entry) (table : List Route) (i : ℕ) (route : Route) → i < length table → route ≡ get_or table i route →
-    next ≡ entries_over entries (take i table) → more ≡ next ++ entry_over entries route ∷ [] → more ≡ entries_over entries (take (i + 1) table)
-entries-more entries next more table i route within at is push =
-    push ∙ (λ k. is k ++ entry_over entries (at k) ∷ [])
-    ∙ sym (map-append (entry_over entries) (take i table) (get_or table i route ∷ [])) ∙ ap (entries_over entries) (sym (take_more table i route within))
-
 -- one entry more behind others
-pub entries-behind : (front next more : List Entry) (table : List Route) (i : ℕ) (route : Route) → i < length table → route ≡ get_or table i route →
-    next ≡ front ++ entries_over [] (take i table) → more ≡ next ++ entry_over [] route ∷ [] → more ≡ front ++ entries_over [] (take (i + 1) table)
-entries-behind front next more table i route within at is push =
-    push ∙ (λ k. is k ++ entry_over [] (at k) ∷ [])
-    ∙ append_assoc front (entries_over [] (take i table)) (entry_over [] (get_or table i route) ∷ [])
-    ∙ ap (λ es. front ++ es) (sym (map-append (entry_over []) (take i table) (get_or table i route ∷ [])) ∙ ap (entries_over []) (sym (take_more table i route within)))
+pub entries-behind : (entries front next more : List Entry) (table : List Route) (i : ℕ) (route : Route) → i < length table → route ≡ get_or table i route →
+    next ≡ front ++ entries_over entries (take i table) → more ≡ next ++ entry_over entries route ∷ [] → more ≡ front ++ entries_over entries (take (i + 1) table)
+entries-behind entries front next more table i route within at is push =
+    push ∙ (λ k. is k ++ entry_over entries (at k) ∷ [])
+    ∙ append_assoc front (entries_over entries (take i table)) (entry_over entries (get_or table i route) ∷ [])
+    ∙ ap (λ es. front ++ es) (sym (map-append (entry_over entries) (take i table) (get_or table i route ∷ [])) ∙ ap (entries_over entries) (sym (take_more table i route within)))
 
 -- those of one part more, of the parts that are left
-pub part-more : (next more all : List Entry) (parts : List (Arc (List Route) Global)) (i : ℕ) (part : Arc (List Route) Global) → i < length parts → part ≡ get_or parts i part →
-    all ≡ next ++ entries_over [] (joined_parts (drop i parts)) → more ≡ next ++ entries_over [] (arc_value part) → all ≡ more ++ entries_over [] (joined_parts (drop (i + 1) parts))
-part-more next more all parts i part within at is push =
+pub part-more : (entries next more all : List Entry) (parts : List (Arc (List Route) Global)) (i : ℕ) (part : Arc (List Route) Global) → i < length parts → part ≡ get_or parts i part →
+    all ≡ next ++ entries_over entries (joined_parts (drop i parts)) → more ≡ next ++ entries_over entries (arc_value part) → all ≡ more ++ entries_over entries (joined_parts (drop (i + 1) parts))
+part-more entries next more all parts i part within at is push =
     let rest = joined_parts (drop (i + 1) parts) in
-    is ∙ ap (λ ps. next ++ entries_over [] (joined_parts ps)) (drop_more parts i part within ∙ ap (λ (p : Arc (List Route) Global). p ∷ drop (i + 1) parts) (sym at))
-    ∙ ap (λ es. next ++ es) (map-append (entry_over []) (arc_value part) rest)
-    ∙ sym (append_assoc next (entries_over [] (arc_value part)) (entries_over [] rest)) ∙ ap (λ es. es ++ entries_over [] rest) (sym push)
+    is ∙ ap (λ ps. next ++ entries_over entries (joined_parts ps)) (drop_more parts i part within ∙ ap (λ (p : Arc (List Route) Global). p ∷ drop (i + 1) parts) (sym at))
+    ∙ ap (λ es. next ++ es) (map-append (entry_over entries) (arc_value part) rest)
+    ∙ sym (append_assoc next (entries_over entries (arc_value part)) (entries_over entries rest)) ∙ ap (λ es. es ++ entries_over entries rest) (sym push)
 
 -- and when no part is left
-pub no-part : (next all : List Entry) (parts : List (Arc (List Route) Global)) (i : ℕ) → length parts ≤ i → all ≡ next ++ entries_over [] (joined_parts (drop i parts)) → next ≡ all
-no-part next all parts i past is = sym (is ∙ ap (λ ps. next ++ entries_over [] (joined_parts ps)) (drop_all i parts past) ∙ append-nil next)
+pub no-part : (entries next all : List Entry) (parts : List (Arc (List Route) Global)) (i : ℕ) → length parts ≤ i → all ≡ next ++ entries_over entries (joined_parts (drop i parts)) → next ≡ all
+no-part entries next all parts i past is = sym (is ∙ ap (λ ps. next ++ entries_over entries (joined_parts ps)) (drop_all i parts past) ∙ append-nil next)
 
 pub canonical-more : (next more : List Entry) (e : Entry) → All (λ (e : Entry). IsCidr e.prefix) next → IsCidr e.prefix → more ≡ next ++ e ∷ [] → All (λ (e : Entry). IsCidr e.prefix) more
 canonical-more next more e all is push = subst (All (λ (e : Entry). IsCidr e.prefix)) (sym push) (All-push (λ (e : Entry). IsCidr e.prefix) next e all is)

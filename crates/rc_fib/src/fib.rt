@@ -1,10 +1,10 @@
 //! Tables prepared for look-ups.
 use crate::Entry;
-use crate::layers::{resolve_table, resolve_taken};
+use crate::layers::resolve_table;
 use crate::longest::hops_of;
 use crate::resolve::some_interface;
 use rc_base::{Addr, Items, Prefix};
-use rc_route::{Hop, RouterState, Table};
+use rc_route::{Hop, Parts, Route};
 use rc_trie::longest_in;
 use std::alloc::{AllocError, Global};
 use std::marker::Model;
@@ -42,23 +42,12 @@ impl Fib {
     ghost use Rattle.rc_fib.specs.Forwarding as spec;
 
     /// Prepares a table (RFC 1812 s.5.2.4.3). It errs only where memory runs out.
-    pub fn of(alloc: Global, table: &Table) -> Result<Fib, AllocError>
+    pub fn of(alloc: Global, table: &Parts<Route>) -> Result<Fib, AllocError>
         requires { IsTable table.now }
         ensures value { IfOk result (λ f. f ≡ spec.resolved table.now) }
         ensures in_order { IfOk result IsFib }
     {
-        let entries = resolve_table(alloc, table.as_slice())?;
-        Ok(Fib { entries })
-    }
-
-    /// Prepares the table of what a router knows, which nobody needs any more (RFC 1812 s.5.2.4.3), in about the memory that it took. It
-    /// errs only where memory runs out.
-    pub fn from_state(alloc: Global, known: RouterState) -> Result<Fib, AllocError>
-        requires { IsTable known.table }
-        ensures value { IfOk result (λ f. f ≡ spec.resolved known.table) }
-        ensures in_order { IfOk result IsFib }
-    {
-        let entries = resolve_taken(alloc, known)?;
+        let entries = resolve_table(alloc, table)?;
         Ok(Fib { entries })
     }
 

@@ -1,5 +1,5 @@
 //! A table resolved layer by layer: each layer looks the gateways up in the one before it.
-ghost use Rattle.std.specs.Prelude.{◌≡◌, ◌↔◌, [], ◌∷◌, ◌++◌, All, IsTrue, IfOk, OnOk};
+ghost use Rattle.std.specs.Prelude.{◌≡◌, ◌↔◌, ◌∷◌, [], ◌++◌, All, IsTrue, IfOk, OnOk};
 ghost use Rattle.std.specs.Arc.{arc_value};
 ghost use Rattle.std.specs.List.{list_all};
 ghost use Rattle.rc_base.specs.Prefix.{IsCidr};
@@ -12,7 +12,7 @@ ghost use Rattle.rc_fib.specs.Forwarding.{resolved, resolve_all, resolved_hops, 
 use crate::resolve::{is_resolved, is_settled, resolve_hops};
 use crate::{Entry, SharedHops};
 use rc_base::Items;
-use rc_route::{Hops, Parts, Route, RouterState, Table};
+use rc_route::{Hops, Parts, Route, Table};
 use std::alloc::{AllocError, Global};
 use std::sync::Arc;
 
@@ -57,11 +57,48 @@ fn push_over(
     })
 }
 
-/// The entries of a table, where other entries give the hops of the gateways.
+/// Puts the entries of a part of a table at the end, where other entries give the hops of the gateways.
+fn push_part(
+    made: &mut Items<Entry>,
+    alloc: Global,
+    entries: &[Entry],
+    routes: &[Route],
+) -> Result<(), AllocError>
+    requires entries { IsFib entries.now }
+    requires canonical { All layer.HasCidr made.old }
+    ensures value { OnOk result (made.new ≡ made.old ++ layer.entries_over entries.now routes.now) }
+    ensures canonical { OnOk result (All layer.HasCidr made.new) }
+{
+    for route in routes {
+        push_over(made, alloc, entries, route)?;
+    }
+    Ok(())
+}
+
+/// Puts the entries of the parts of a table at the end, where other entries give the hops of the gateways.
+fn push_parts(
+    made: &mut Items<Entry>,
+    alloc: Global,
+    entries: &[Entry],
+    parts: &[Arc<Table, Global>],
+) -> Result<(), AllocError>
+    requires entries { IsFib entries.now }
+    requires canonical { All layer.HasCidr made.old }
+    ensures value { OnOk result (made.new ≡ made.old ++ layer.entries_over entries.now (joined_parts parts.now)) }
+    ensures canonical { OnOk result (All layer.HasCidr made.new) }
+{
+    for part in parts {
+        push_part(made, alloc, entries, part.as_slice())?;
+    }
+    Ok(())
+}
+
+/// The entries of a table, where other entries give the hops of the gateways. They are made part by part, with no list of all routes
+/// between.
 fn entries_over(
     alloc: Global,
     entries: &[Entry],
-    table: &[Route],
+    table: &Parts<Route>,
 ) -> Result<Items<Entry>, AllocError>
     requires table { IsTable table.now }
     requires entries { IsFib entries.now }
@@ -69,49 +106,8 @@ fn entries_over(
     ensures in_order { IfOk result IsFib }
 {
     let mut next = Items::from_vec(Vec::with_capacity(alloc, table.len())?);
-    for route in table {
-        push_over(&mut next, alloc, entries, route)?;
-    }
+    push_parts(&mut next, alloc, entries, table.parts())?;
     Ok(next)
-}
-
-/// Puts the entries of a part of a table at the end, where no other entries are known.
-fn push_part(made: &mut Items<Entry>, alloc: Global, routes: &[Route]) -> Result<(), AllocError>
-    requires { All layer.HasCidr made.old }
-    ensures value { OnOk result (made.new ≡ made.old ++ layer.entries_over [] routes.now) }
-    ensures canonical { OnOk result (All layer.HasCidr made.new) }
-{
-    for route in routes {
-        push_over(made, alloc, &[], route)?;
-    }
-    Ok(())
-}
-
-/// Puts the entries of the parts of a table at the end, where no other entries are known.
-fn push_parts(
-    made: &mut Items<Entry>,
-    alloc: Global,
-    parts: &[Arc<Table, Global>],
-) -> Result<(), AllocError>
-    requires { All layer.HasCidr made.old }
-    ensures value { OnOk result (made.new ≡ made.old ++ layer.entries_over [] (joined_parts parts.now)) }
-    ensures canonical { OnOk result (All layer.HasCidr made.new) }
-{
-    for part in parts {
-        push_part(made, alloc, part.as_slice())?;
-    }
-    Ok(())
-}
-
-/// The entries of a table in parts, where no other entries are known.
-fn entries_of(alloc: Global, table: &Parts<Route>) -> Result<Items<Entry>, AllocError>
-    requires { IsTable table.now }
-    ensures value { IfOk result (λ made. made ≡ layer.entries_over [] table.now) }
-    ensures in_order { IfOk result IsFib }
-{
-    let mut made = Items::from_vec(Vec::with_capacity(alloc, table.len())?);
-    push_parts(&mut made, alloc, table.parts())?;
-    Ok(made)
 }
 
 /// Whether two layers are equal.
@@ -129,19 +125,19 @@ fn is_plain(route: &Route) -> bool
     route.hops.as_slice().iter().all(|hop| is_resolved(hop))
 }
 
-/// Whether each hop of a table says where a packet goes, with no look-up.
-fn is_plain_table(table: &[Route]) -> bool
-    ensures { result ≡ list_all (λ r. list_all is_resolved r.hops) table.now }
+/// Whether each hop of a part of a table says where a packet goes, with no look-up.
+fn is_plain_part(routes: &[Route]) -> bool
+    ensures { result ≡ list_all (λ r. list_all is_resolved r.hops) routes.now }
 {
-    table.iter().all(|route| is_plain(route))
+    routes.iter().all(|route| is_plain(route))
 }
 
-/// Whether each hop of a table in parts says where a packet goes, with no look-up.
-fn are_plain(parts: &[Arc<Table, Global>]) -> bool
+/// Whether each hop of a table says where a packet goes, with no look-up.
+fn is_plain_table(parts: &[Arc<Table, Global>]) -> bool
     ensures { result ≡ list_all (λ r. list_all is_resolved r.hops) (joined_parts parts.now) }
 {
     for part in parts {
-        if !is_plain_table(part.as_slice()) {
+        if !is_plain_part(part.as_slice()) {
             return false;
         }
     }
@@ -151,12 +147,12 @@ fn are_plain(parts: &[Arc<Table, Global>]) -> bool
 /// The entries of a table, all gateways resolved.
 ///
 /// Where no hop needs a look-up, one layer is all; and where a layer changes nothing, no later one does.
-pub(crate) fn resolve_table(alloc: Global, table: &[Route]) -> Result<Items<Entry>, AllocError>
+pub(crate) fn resolve_table(alloc: Global, table: &Parts<Route>) -> Result<Items<Entry>, AllocError>
     requires { IsTable table.now }
     ensures value { IfOk result (λ entries. entries ≡ resolved table.now) }
     ensures in_order { IfOk result IsFib }
 {
-    if is_plain_table(table) {
+    if is_plain_table(table.parts()) {
         return entries_over(alloc, &[], table);
     }
     let mut entries = Items::new(alloc);
@@ -168,20 +164,4 @@ pub(crate) fn resolve_table(alloc: Global, table: &[Route]) -> Result<Items<Entr
         entries = next;
     }
     Ok(entries)
-}
-
-/// The same of the table of what a router knows, which nobody needs any more. Where no hop needs a look-up, the entries are made part by
-/// part, with no list of all routes between.
-///
-/// What it knows is dropped behind them and not part by part, so that what it took becomes one place, which the next table fits in.
-pub(crate) fn resolve_taken(alloc: Global, known: RouterState) -> Result<Items<Entry>, AllocError>
-    requires { IsTable known.table }
-    ensures value { IfOk result (λ entries. entries ≡ resolved known.table) }
-    ensures in_order { IfOk result IsFib }
-{
-    if are_plain(known.table.parts()) {
-        return entries_of(alloc, &known.table);
-    }
-    let table = known.into_table(alloc)?;
-    resolve_table(alloc, table.as_slice())
 }

@@ -17,7 +17,7 @@ use std::collections::BTreeSet;
 use std::thread::Threads;
 
 /// Columns of so many routers, or fewer, are left to one worker: to start a thread takes longer.
-const FEW: usize = 31;
+const FEW: usize = 63;
 
 /// To which routers the least walks are wanted.
 #[derive(Clone, Copy)]

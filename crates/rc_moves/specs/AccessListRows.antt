@@ -11,8 +11,8 @@ use Rattle.rc_fib.specs.Forwarding.{hops_within}
 use Rattle.rc_filter.specs.Verdict.{matches, same_bits}
 use Rattle.rc_route.specs.declared.route.Hop.TheVariants.{Null, Dev}
 use Rattle.rc_topology.specs.Ports.{links_of}
-use Rattle.rc_moves.specs.declared.walk.Move.TheVariants.{Next, End}
-use Rattle.rc_moves.specs.Examples.{ip, to, port, with_address, shut, gi0, gi1, lo0, network, deny, host, empty, with_lists, connected, static, via, plane}
+use Rattle.rc_moves.specs.declared.walk.Move.TheVariants.{End}
+use Rattle.rc_moves.specs.Examples.{ip, to, port, with_address, shut, gi0, gi1, lo0, network, deny, host, empty, with_lists, connected, static, plane}
 use Rattle.rc_moves.specs.Moves.{DataPlane, moves}
 
 -- ---- a router alone

@@ -139,9 +139,7 @@ impl Gathered {
         if let Some(refusal) = undefined {
             return Err(BuildError::Refused(refusal));
         }
-        let Ok(()) = routers.sort_names() else {
-            return Err(BuildError::Memory);
-        };
+        routers.sort_names();
         let Ok(network) = Network::of(alloc, routers) else {
             return Err(BuildError::Memory);
         };

@@ -8,7 +8,6 @@ mod MemberLaws
 mod TableLaws
 mod SortedLaws
 pub mod OneAnswer
-mod ShareLaws
 mod SummaryLaws
 mod WantedLaws
 pub mod HoldingLaws

@@ -17,7 +17,7 @@ use Rattle.rc_ospf.specs.ByPrefix.{destination_of, destination_route}
 use Rattle.rc_ospf.specs.Members.{known, reach_of, is_border_at, table_of}
 use Rattle.rc_ospf.specs.Offered.{Offered}
 use Rattle.rc_ospf.specs.Routes.{internal_route_over, internal_route_to}
-use Rattle.rc_ospf.specs.Shares.{AreMade}
+use Rattle.rc_shares.specs.Making.{AreMade}
 use Rattle.rc_ospf.specs.Wanted.{has_inside, lacks_inside, nothing, Suffice, IsDestination, IsTarget}
 use Rattle.rc_ospf.specs.Ways.{best_way, way_over, way_to}
 use Rattle.rc_ospf.specs.declared.boundary.Target.{Target}

@@ -22,4 +22,3 @@ pub mod BoundaryRows
 pub mod Ends
 pub mod Stays
 pub mod Asked
-pub mod Shares

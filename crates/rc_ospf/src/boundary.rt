@@ -10,7 +10,7 @@ ghost use Rattle.rc_ospf.specs.BoundaryForms.{path_of_target};
 ghost use Rattle.rc_ospf.specs.Members.{reach_of, known, is_border_at};
 ghost use Rattle.rc_ospf.specs.ByPrefix.{ways_of};
 ghost use Rattle.rc_ospf.specs.RouterAreas.{open_areas};
-ghost use Rattle.rc_ospf.specs.Shares.{AreMade};
+ghost use Rattle.rc_shares.specs.Making.{AreMade};
 ghost use Rattle.rc_ospf.specs.Wanted.{IsTarget};
 ghost use Rattle.rc_ospf.specs.declared.member.StubAreas.TheVariants.{LeftOut};
 ghost use Rattle.rc_route.specs.Ways.{best_of};
@@ -20,11 +20,12 @@ use crate::member::StubAreas;
 use crate::ospf_router::Member;
 use crate::router_area::{is_in_backbone, router_areas};
 use crate::routes::summary_offers;
-use crate::shares::{Makes, made_by};
+use crate::shares::FEW;
 use crate::summaries::{Summaries, has_border, summaries_wanted};
 use crate::{Boundary, Offer, RouterArea};
 use rc_base::{Items, RouterId};
 use rc_config::{Network, OspfProcess, Redistribution, RouterText};
+use rc_shares::{Makes, made_at_once};
 use std::alloc::{AllocError, Global};
 use std::thread::Threads;
 
@@ -210,7 +211,7 @@ pub(crate) fn targets<R: Threads + Sync>(
         members,
         has_border: has_border(members, StubAreas::LeftOut),
     };
-    made_by(rt, alloc, &bounded, routers.as_slice(), workers)
+    made_at_once(rt, alloc, &bounded, routers.as_slice(), FEW, workers)
 }
 
 /// The path over the best ways to some offers of a router; where only those of others count, over the best to these.

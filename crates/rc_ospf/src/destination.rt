@@ -3,16 +3,17 @@ ghost use Rattle.std.specs.Prelude.{◌≡◌, ◌++◌, ◌∷◌, [], IfOk, On
 ghost use Rattle.std.specs.List.{list_any};
 ghost use Rattle.rc_ospf.specs.Members.{known, is_border_at};
 ghost use Rattle.rc_ospf.specs.Routes as spec;
-ghost use Rattle.rc_ospf.specs.Shares.{AreMade};
+ghost use Rattle.rc_shares.specs.Making.{AreMade};
 ghost use Rattle.rc_ospf.specs.Wanted.{IsDestination};
 ghost use Rattle.rc_ospf.specs.declared.member.StubAreas.TheVariants.{Kept};
 
 use crate::member::StubAreas;
 use crate::ospf_router::Member;
-use crate::shares::{Makes, made_by};
+use crate::shares::FEW_LIGHT;
 use crate::summaries::{Summaries, has_border, summaries_wanted};
 use crate::{Offer, Row};
 use rc_base::{Addr, Items, Prefix};
+use rc_shares::{Makes, made_at_once};
 use std::alloc::{AllocError, Global};
 use std::collections::VecDeque;
 use std::thread::Threads;
@@ -191,5 +192,5 @@ pub(crate) fn destinations<R: Threads + Sync>(
         members,
         has_border: has_border(members, StubAreas::Kept),
     };
-    made_by(rt, alloc, &summarising, rows.as_slice(), workers)
+    made_at_once(rt, alloc, &summarising, rows.as_slice(), FEW_LIGHT, workers)
 }

@@ -1,5 +1,5 @@
 //! What is known of routers: their areas, and the least walks from them.
-ghost use Rattle.std.specs.Prelude.{◌≡◌, ◌<◌, ◌^◌, true, false, IfOk, IfSome, is_some};
+ghost use Rattle.std.specs.Prelude.{[], ◌≡◌, ◌<◌, ◌^◌, true, false, IfOk, IfSome, is_some};
 ghost use Rattle.std.specs.List.{range_with_len};
 ghost use Rattle.std.specs.List.Sorted.{IsStrictlySortedBy};
 ghost use Rattle.rc_link_state.specs.Tables.{cost_of, hops_of};
@@ -11,10 +11,11 @@ use crate::RouterArea;
 use crate::known_walks::KnownWalks;
 use crate::ospf_router::Member;
 use crate::router_area::{is_in, open_areas, router_areas};
-use crate::shares::{Makes, made_by, with_room};
+use crate::shares::FEW_LIGHT;
 use rc_base::{Items, RouterId};
 use rc_config::Network;
 use rc_route::Hops;
+use rc_shares::{Makes, made_at_once};
 use std::alloc::{AllocError, Global};
 use std::thread::Threads;
 
@@ -107,7 +108,7 @@ impl<'a> Makes for AreasIn<'a> {
     type Made = Areas;
 
     ghost use Rattle.rc_ospf.specs.Members.{areas_at};
-    ghost use Rattle.rc_ospf.specs.Shares.{IsGiven};
+    ghost use Rattle.rc_shares.specs.Making.{IsGiven};
 
     ghost fits = { λ s r. Unit {0} };
 
@@ -133,7 +134,15 @@ pub(crate) fn areas_of_routers<R: Threads + Sync>(
 {
     let ids = routers_below(alloc, net.routers.len())?;
     let work = AreasIn { net };
-    made_by(rt, alloc, &work, ids.as_slice(), workers)
+    made_at_once(rt, alloc, &work, ids.as_slice(), FEW_LIGHT, workers)
+}
+
+/// The empty list with room for so many elements, which then take no more memory.
+fn with_room<T: Drop>(alloc: Global, elements: usize) -> Result<Items<T>, AllocError>
+    ensures { IfOk result (λ items. items ≡ []) }
+{
+    let items = Vec::with_capacity(alloc, elements)?;
+    Ok(Items::from_vec(items))
 }
 
 /// The routers with these areas, over these walks. It errs only where memory runs out.

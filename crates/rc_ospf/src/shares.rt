@@ -1,91 +1,15 @@
-//! Work on each of some things, which workers share.
-//!
-//! All of them read what nobody changes, so nothing has to be locked; what they make stands in the order of the things. Nobody watches
-//! these workers: their gate is an open one.
-ghost use Rattle.std.specs.Prelude.{◌≡◌, [], IfOk, All};
-ghost use Rattle.rc_ospf.specs.Shares.{AreMade};
+//! How work is shared by workers: so many things, or fewer, are left to one, since to start a thread takes longer.
 
-use rc_base::Items;
-use rc_outside::OpenGate;
-use rc_shares::{Each, each_at_once};
-use std::alloc::{AllocError, Global};
-use std::thread::Threads;
+/// Of things that take some time.
+pub(crate) const FEW: usize = 31;
 
-/// So many things, or fewer, are left to one worker: to start a thread takes longer.
-const FEW: usize = 31;
+/// Of things that take next to none.
+pub(crate) const FEW_LIGHT: usize = 255;
 
-/// What is made of each thing by itself, from what all workers read.
-pub(crate) trait Makes: Sync {
-    /// What something is made of.
-    type Thing: Sync;
+/// Routes that take as long as to start a thread, many times over.
+const FEW_ROUTES: usize = 10_000;
 
-    /// What is made.
-    type Made: Drop + Send;
-
-    /// What is read is as it has to be for a thing.
-    ghost fits: { Self → Self.Thing → Type 0 };
-
-    /// The second is what is made of the first.
-    ghost made: { Self → Self.Thing → Self.Made → Type 0 };
-
-    /// What is made of a thing. It errs only where memory runs out.
-    fn make(&self, alloc: Global, thing: &Self::Thing) -> Result<Self::Made, AllocError>
-        requires { fits self.now thing.now }
-        ensures { IfOk result (made self.now thing.now) };
-}
-
-/// The empty list with room for so many elements, which then take no more memory.
-pub(crate) fn with_room<T: Drop>(alloc: Global, elements: usize) -> Result<Items<T>, AllocError>
-    ensures { IfOk result (λ items. items ≡ []) }
-{
-    let items = Vec::with_capacity(alloc, elements)?;
-    Ok(Items::from_vec(items))
-}
-
-/// Some things, and the work on each.
-#[derive(Drop)]
-struct Things<'a, W: Makes> {
-    work: &'a W,
-    things: &'a [W::Thing],
-}
-
-impl<'a, W: Makes> Each for Things<'a, W> {
-    ghost use Rattle.std.specs.Prelude.{All, length, slice_index_or};
-
-    type Made = W::Made;
-
-    ghost count = { λ s. length s.things.now };
-
-    ghost ready = { λ s. All (W.fits s.work.now) s.things.now };
-
-    ghost makes = { λ s i m. (d : W.Thing) → W.made s.work.now (slice_index_or s.things.now i d) m };
-
-    fn items(&self) -> usize {
-        self.things.len()
-    }
-
-    fn few(&self) -> usize {
-        FEW
-    }
-
-    fn make(&self, alloc: Global, item: usize) -> Result<W::Made, AllocError> {
-        self.work.make(alloc, &self.things[item])
-    }
-}
-
-/// What is made of each of some things, in order. The workers work side by side; one, or none, is the caller alone. It errs only
-/// where memory runs out.
-pub(crate) fn made_by<R: Threads + Sync, W: Makes>(
-    rt: &R,
-    alloc: Global,
-    work: &W,
-    things: &[W::Thing],
-    workers: u32,
-) -> Result<Items<W::Made>, AllocError>
-    requires fits { All (W.fits work.now) things.now }
-    ensures { IfOk result (AreMade (W.made work.now) things.now) }
-{
-    let things = Things { work, things };
-    let (_passed, made) = each_at_once(rt, alloc, &things, workers.max(1), 0, &OpenGate);
-    made
+/// Of routers with routes, or paths, to so many destinations.
+pub(crate) fn few_routers(destinations: usize) -> usize {
+    FEW_ROUTES / destinations.max(1)
 }

@@ -10,7 +10,7 @@ ghost use Rattle.rc_ospf.specs.BoundaryPaths.{IsNear};
 ghost use Rattle.rc_ospf.specs.Internal.{adverts_in, steps_of, IsInternal, IsInternalAsked, IsInternalAt, HasInternal, HasOneInternal, HasSmallSums, tables_asked};
 ghost use Rattle.rc_ospf.specs.Members.{known, areas_in};
 ghost use Rattle.rc_ospf.specs.Routes as spec;
-ghost use Rattle.rc_ospf.specs.Shares.{AreMade};
+ghost use Rattle.rc_shares.specs.Making.{AreMade};
 ghost use Rattle.rc_ospf.specs.Wanted.{IsDestination};
 ghost use Rattle.rc_ospf.specs.declared.member.StubAreas.TheVariants.{Kept, LeftOut};
 ghost use Rattle.rc_ospf_interfaces.specs.Interfaces as interface;
@@ -23,13 +23,14 @@ use crate::member::{Areas, areas_of_routers, members, routers_below};
 use crate::ospf_router::Member;
 use crate::own::own_prefixes;
 use crate::routes::routes_of;
-use crate::shares::{Makes, made_by};
+use crate::shares::{FEW_LIGHT, few_routers};
 use crate::{Boundary, Internal, OspfInterface, adverts, offers_by_prefix};
 use rc_base::{Addr, Items, Prefix, RouterId};
 use rc_config::Network;
 use rc_ospf_interfaces::ospf_interfaces;
 use rc_pieces::Pieces;
 use rc_route::Route;
+use rc_shares::{Makes, made_at_once};
 use rc_topology::Links;
 use std::alloc::{AllocError, Global};
 use std::thread::Threads;
@@ -68,7 +69,7 @@ impl<'d, 'm, 'w> Makes for RoutesTo<'d, 'm, 'w> {
     ghost use Rattle.std.specs.Prelude.{All};
     ghost use Rattle.rc_ospf.specs.Members.{table_of};
     ghost use Rattle.rc_ospf.specs.Routes.{IsShortRoute};
-    ghost use Rattle.rc_ospf.specs.Shares.{IsGiven};
+    ghost use Rattle.rc_shares.specs.Making.{IsGiven};
 
     ghost fits = { λ s m. Unit {0} };
 
@@ -100,7 +101,8 @@ fn tables<R: Threads + Sync>(
         destinations: destinations.as_slice(),
         members,
     };
-    made_by(rt, alloc, &routes, routes.members, workers)
+    let few = few_routers(destinations.len());
+    made_at_once(rt, alloc, &routes, routes.members, few, workers)
 }
 
 /// The AS boundary routers to which paths of routers lead.
@@ -119,7 +121,7 @@ impl<'t, 'm, 'w> Makes for PathsTo<'t, 'm, 'w> {
     ghost use Rattle.rc_ospf.specs.Asked.{AnswerAlike, AnswerOver};
     ghost use Rattle.rc_ospf.specs.BoundaryForms.{boundary_paths};
     ghost use Rattle.rc_ospf.specs.BoundaryPaths.{IsNear};
-    ghost use Rattle.rc_ospf.specs.Shares.{IsGiven};
+    ghost use Rattle.rc_shares.specs.Making.{IsGiven};
 
     ghost fits = { λ s m. Unit {0} };
 
@@ -148,7 +150,8 @@ fn boundaries<R: Threads + Sync>(
         targets: targets.as_slice(),
         members,
     };
-    made_by(rt, alloc, &paths, paths.members, workers)
+    let few = few_routers(targets.len());
+    made_at_once(rt, alloc, &paths, paths.members, few, workers)
 }
 
 /// The network whose routers advertise prefixes themselves.
@@ -163,7 +166,7 @@ impl<'a> Makes for PrefixesIn<'a> {
     type Made = Items<Prefix>;
 
     ghost use Rattle.rc_ospf.specs.Routes.{own_prefixes};
-    ghost use Rattle.rc_ospf.specs.Shares.{IsGiven};
+    ghost use Rattle.rc_shares.specs.Making.{IsGiven};
 
     ghost fits = { λ s r. Unit {0} };
 
@@ -187,7 +190,7 @@ fn own<R: Threads + Sync>(
 {
     let ids = routers_below(alloc, net.routers.len())?;
     let prefixes = PrefixesIn { net };
-    made_by(rt, alloc, &prefixes, ids.as_slice(), workers)
+    made_at_once(rt, alloc, &prefixes, ids.as_slice(), FEW_LIGHT, workers)
 }
 
 /// What OSPF gives without a state, by routers that answer as those of the network; where an address is asked for, of the routes those

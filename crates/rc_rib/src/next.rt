@@ -36,8 +36,19 @@ use rc_config::{Network, RouterText};
 use rc_fib::Fib;
 use rc_ospf::Internal;
 use rc_pieces::{Knowledge, Known, Listed, Pieces, known_at, same};
-use rc_route::{Best, Route, Table};
+use rc_route::{Best, Parts, Route, Table};
 use std::alloc::{AllocError, Global};
+use std::sync::Arc;
+
+/// A table in one part, in memory of its own.
+fn in_one_part(alloc: Global, table: &Listed<'_, Route>) -> Result<Parts<Route>, AllocError>
+    ensures { IfOk result (λ copied. copied ≡ table.now) }
+{
+    let mut copied = Parts::new(alloc);
+    let part = Arc::new(alloc, table.copied(alloc)?)?;
+    copied.push(part)?;
+    Ok(copied)
+}
 
 /// The static routes of a file that its router's previous table makes active, from that table prepared for look-ups.
 fn routes_from(
@@ -49,7 +60,7 @@ fn routes_from(
     requires { IsTable old.now }
     ensures { IfOk result (λ routes. routes ≡ static_routes (active_lines router file.now.interfaces (resolved old.now) file.now.static_routes)) }
 {
-    let table = old.copied(alloc)?;
+    let table = in_one_part(alloc, old)?;
     let fib = Fib::of(alloc, &table)?;
     let lines = active_lines(alloc, router, file, &fib)?;
     static_routes(alloc, lines.as_slice())

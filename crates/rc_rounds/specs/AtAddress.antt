@@ -4,7 +4,7 @@ use Rattle.rc_config.specs.Members.{router_at}
 use Rattle.rc_config.specs.declared.network.Network.{Network}
 use Rattle.rc_config.specs.declared.router_text.RouterText.{RouterText}
 use Rattle.rc_ospf.specs.Internal.{holding}
-use Rattle.rc_ospf.specs.Shares.{AreMade}
+use Rattle.rc_shares.specs.Making.{AreMade}
 use Rattle.rc_ospf.specs.declared.model.Internal.{Internal}
 use Rattle.rc_rib.specs.Next.{next_state}
 use Rattle.rc_route.specs.Tables.{IsRouterState, IsStateOf}

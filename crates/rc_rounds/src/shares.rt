@@ -12,6 +12,7 @@ ghost use Rattle.rc_shares.specs.Stretches.{IsStretch};
 use crate::parts::{Fresh, Setting};
 use rc_base::RouterId;
 use rc_bgp::{Changes, Inside};
+use rc_config::Network;
 use rc_outside::{Gate, Passed};
 use rc_pieces::Knowledge;
 use rc_reads::{Stayed, table_anew};
@@ -19,6 +20,28 @@ use rc_rib::{Earlier, Inputs, Made, is_settled};
 use rc_shares::{Each, each_at_once};
 use std::alloc::{AllocError, Global};
 use std::thread::Threads;
+
+/// So many routers, or fewer, are left to one worker, where a round does little for each.
+const FEW: usize = 64;
+
+/// Whether a round does little for a router: it merges routes, looks no gateway up, and decides nothing.
+fn is_light(net: &Network, router: RouterId) -> bool {
+    let found = net.router_at(router);
+    match found {
+        Some(file) => file.static_routes.is_empty() && file.bgp.is_none(),
+        None => true,
+    }
+}
+
+/// Whether a round does little for each router.
+fn are_light(net: &Network) -> bool {
+    for index in 0..net.routers.len() {
+        if !is_light(net, RouterId::at(index)) {
+            return false;
+        }
+    }
+    true
+}
 
 /// A state and what changed since, where there was a round earlier yet.
 fn earlier_of<'a>(
@@ -59,6 +82,9 @@ pub(crate) trait Makes<B, I, S>: Sync {
     /// How many routers there are.
     fn routers(&self) -> usize
         ensures { result ≡ count self.now };
+
+    /// So many routers, or fewer, are left to one worker: to start a thread would take longer.
+    fn few(&self) -> usize;
 
     /// What is made anew of a router.
     fn make(
@@ -117,6 +143,10 @@ impl<'a> Makes<Knowledge, Inside, Stayed> for Setting<'a> {
         self.network.routers.len()
     }
 
+    fn few(&self) -> usize {
+        if are_light(self.network) { FEW } else { 1 }
+    }
+
     fn make(
         &self,
         inside: &Inside,
@@ -147,6 +177,7 @@ impl<'a> Makes<Knowledge, Inside, Stayed> for Setting<'a> {
 #[derive(Drop)]
 struct Routers<'a, W, B, I, S> {
     round: &'a W,
+    few: usize,
     inside: &'a I,
     stayed: &'a S,
     read: &'a B,
@@ -167,7 +198,7 @@ impl<'a, W: Makes<B, I, S>, B: Sync, I: Sync, S: Sync> Each for Routers<'a, W, B
     }
 
     fn few(&self) -> usize {
-        1
+        self.few
     }
 
     fn make(&self, alloc: Global, item: usize) -> Result<Option<Made>, AllocError> {
@@ -202,6 +233,7 @@ pub(crate) fn all_shares<R: Threads + Sync, W: Makes<B, I, S>, B: Sync, I: Sync,
 {
     let routers = Routers {
         round,
+        few: round.few(),
         inside,
         stayed,
         read,

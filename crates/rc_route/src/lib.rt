@@ -8,7 +8,6 @@
 mod best;
 mod further;
 mod hops;
-mod joining;
 mod kept_path;
 mod listed;
 mod outcome;

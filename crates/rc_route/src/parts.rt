@@ -67,12 +67,4 @@ impl<T: Drop> Parts<T> {
     {
         self.parts.as_slice()
     }
-
-    /// Its parts, taken out of it.
-    pub fn into_parts(self) -> Items<Arc<Items<T>, Global>>
-        ensures { joined_parts result ≡ self }
-    {
-        let Parts { parts, len: _ } = self;
-        parts
-    }
 }

@@ -86,20 +86,6 @@ impl Route {
             hops,
         })
     }
-
-    /// Its hops, taken out of it. It takes no memory.
-    pub fn into_hops(self) -> Hops
-        ensures { result ≡ self.hops }
-    {
-        let Route {
-            prefix: _,
-            source: _,
-            distance: _,
-            metric: _,
-            hops,
-        } = self;
-        hops
-    }
 }
 
 /// Hops in the order in which those of a route stand, which is that of `Hop` as a key of std's maps and sorts too.

@@ -1,10 +1,6 @@
 //! What the routers know after a round.
-ghost use Rattle.std.specs.Prelude.{◌≡◌, IfOk};
-
-use crate::joining::joined;
-use crate::{Best, Parts, Route, Table};
+use crate::{Best, Parts, Route};
 use rc_base::Items;
-use std::alloc::{AllocError, Global};
 
 /// What one router knows: its table, and its best BGP paths with what goes with them, one for each prefix, by address, then length.
 pub struct RouterState {
@@ -16,17 +12,6 @@ pub struct RouterState {
 impl Drop for RouterState {
     fn drop(self) {
         let RouterState { table: _, paths: _ } = self;
-    }
-}
-
-impl RouterState {
-    /// Its table in one list. What nobody else holds is moved, and takes no memory where it is in one part; else it errs only where memory
-    /// runs out.
-    pub fn into_table(self, alloc: Global) -> Result<Table, AllocError>
-        ensures { IfOk result (λ table. table ≡ self.table) }
-    {
-        let RouterState { table, paths: _ } = self;
-        joined(alloc, table)
     }
 }
 

@@ -1,3 +1,4 @@
 pub mod StartLaws
 pub mod StretchLaws
 pub mod HandLaws
+pub mod MakingLaws

@@ -2,6 +2,7 @@ use Rattle.std.proofs.Common.{◌≡◌, ℕ, ◌*◌, ◌-◌, ◌%◌, ◌^◌
 use Rattle.std.specs.Prelude.{bit_or}
 use Rattle.std.proofs.Math.Pow.{pow-lt}
 use Rattle.std.proofs.lemmas.Nat.{or_lt}
+use Rattle.rc_base.proofs.BitLaws.{set-by-fields}
 use Rattle.rc_base.proofs.bits.with_header_bit.Goals as goal
 
 -- a number with one bit more, a bit of its field
@@ -12,3 +13,6 @@ still_fits n count width left small same less =
 
 pub with-requires : goal.with-requires
 with-requires c = still_fits c.of.result c.width-width.result _ c.loop-field.left c.of.ensures.small c.width-width.ensures.width c.if-left-width.true
+
+pub loop-field-init : goal.loop-field-init
+loop-field-init c = set-by-fields c.args.header.now c.args.number

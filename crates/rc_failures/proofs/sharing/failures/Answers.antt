@@ -1,6 +1,6 @@
 use Rattle.std.proofs.Common.{◌≡◌, ◌∙◌, ap, subst, arith}
 use Rattle.std.proofs.lemmas.Result.{IfOk-weaker}
-use Rattle.rc_ospf.specs.Shares.{AreMade}
+use Rattle.rc_shares.specs.Making.{AreMade}
 use Rattle.rc_topology.specs.Links.{pairs}
 use Rattle.rc_topology.specs.Ports.{links_of}
 use Rattle.rc_failures.specs.Failures.{IsFailRow}

@@ -1,8 +1,10 @@
 use Rattle.std.proofs.Common.{◌≡◌, ap, sym, ◌∙◌, arith}
 use Rattle.std.proofs.lemmas.Grind.{common_steps}
 use Rattle.std.proofs.lemmas.Result.{IfOk-weaker}
+use Rattle.std.specs.List.{list_all}
+use Rattle.rc_route.specs.declared.route.Route.{Route}
 use Rattle.rc_fib.specs.Entries.{entries_over}
-use Rattle.rc_fib.specs.Forwarding.{resolved}
+use Rattle.rc_fib.specs.Forwarding.{is_resolved, resolved}
 use Rattle.rc_fib.proofs.LayerLaws.{more_layers, all_layers, next_of_layers, no_layers, last_layer, none_in_order, plain_table}
 use Rattle.rc_fib.proofs.layers.resolve_table.Goals as goal
 
@@ -35,5 +37,5 @@ entries_over-requires-clause-entries c = none_in_order
 pub returns-then-is_plain_table-clause-value : goal.returns-then-is_plain_table-clause-value
 returns-then-is_plain_table-clause-value c =
     let table = c.args.table.now in
-    let plain = sym c.is_plain_table.ensures ∙ c.if-is_plain_table.true in
+    let plain = ap (list_all (λ (r : Route). list_all is_resolved r.hops)) (sym c.parts.ensures) ∙ sym c.is_plain_table.ensures ∙ c.if-is_plain_table.true in
     IfOk-weaker _ _ (λ entries. entries ≡ resolved table) (λ made is. plain_table table made is plain) c.entries_over.ensures.value

@@ -1,7 +1,7 @@
 use Rattle.std.proofs.Common.{All}
 use Rattle.rc_ospf.specs.BoundaryForms.{boundary_paths}
 use Rattle.rc_ospf.specs.BoundaryPaths.{IsNear}
-use Rattle.rc_ospf.proofs.ShareLaws.{is_given}
+use Rattle.rc_shares.proofs.MakingLaws.{is_given}
 use Rattle.rc_ospf.proofs.tables.PathsToMakes.make.Goals as goal
 
 pub returns : goal.returns

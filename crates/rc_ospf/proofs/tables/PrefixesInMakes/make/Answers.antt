@@ -1,6 +1,6 @@
 use Rattle.std.proofs.lemmas.Result.{IfOk-weaker}
 use Rattle.rc_ospf.specs.Routes.{own_prefixes}
-use Rattle.rc_ospf.specs.Shares.{IsGiven}
+use Rattle.rc_shares.specs.Making.{IsGiven}
 use Rattle.rc_ospf.proofs.tables.PrefixesInMakes.make.Goals as goal
 
 pub returns : goal.returns

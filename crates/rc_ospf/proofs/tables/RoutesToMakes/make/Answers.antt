@@ -1,7 +1,7 @@
 use Rattle.std.proofs.Common.{All}
 use Rattle.rc_ospf.specs.Members.{table_of}
 use Rattle.rc_ospf.specs.Routes.{IsShortRoute}
-use Rattle.rc_ospf.proofs.ShareLaws.{is_given}
+use Rattle.rc_shares.proofs.MakingLaws.{is_given}
 use Rattle.rc_ospf.proofs.tables.RoutesToMakes.make.Goals as goal
 
 pub returns : goal.returns

@@ -1,7 +1,0 @@
-use Rattle.std.proofs.lemmas.Result.{IfOk-weaker}
-use Rattle.rc_ospf.proofs.ShareLaws.{made_of_all}
-use Rattle.rc_ospf.proofs.shares.made_by.Goals as goal
-
-pub returns : goal.returns
-returns g c =
-    IfOk-weaker c.each_at_once-passed.result.1 _ _ (λ ys is. made_of_all (g.W.Makes.made c.args.work.now) c.args.things.now ys is) c.each_at_once-passed.ensures.made
