@@ -16,6 +16,14 @@ use std::sync::atomic::{AtomicU32, Ordering};
 /// As how many routes a line of an access list counts: it makes about as many nodes.
 const ROUTES_A_LINE: usize = 64;
 
+/// How many nodes there is room for in a first try for each interface.
+const NODES_AN_INTERFACE: usize = 200;
+
+/// For how many nodes a first try may have room.
+static ROOMS: [u32; 7] = [
+    65_536, 131_072, 262_144, 524_288, 1_048_576, 2_097_152, 4_194_304,
+];
+
 /// As how many routes a route counts in a question about loops: its sets change at nearly every position in each round.
 const ROUTES_IN_LOOPS: usize = 16;
 
@@ -60,9 +68,20 @@ fn size_asked(asked: &Asked, size: usize) -> usize {
     }
 }
 
-/// How many nodes the table of a first try has room for in a network of this size, where there is one. The nodes grow slower than
-/// the routes, since the tables of neighbours are alike.
-fn room_for(size: usize) -> Option<u32>
+/// How many interfaces the routers of a network declare.
+fn interfaces_in(net: &Network) -> usize {
+    let mut interfaces: usize = 0;
+    for index in 0..net.routers.len() {
+        if let Some((_, file)) = net.routers.at(index) {
+            interfaces = interfaces.saturating_add(file.interfaces.len());
+        }
+    }
+    interfaces
+}
+
+/// How many nodes the table of a first try has room for, by how many routes a network is as large as. The nodes grow slower than the
+/// routes, since the tables of neighbours are alike.
+fn room_by_routes(size: usize) -> Option<u32>
     ensures { IfSome result (λ room. 0 < room) }
 {
     if size <= 16_384 {
@@ -78,12 +97,34 @@ fn room_for(size: usize) -> Option<u32>
     }
 }
 
+/// How many nodes it has room for, by how many interfaces the routers have, where these are not too many: an interface makes some 150, of
+/// its addresses and of who is behind it, and a table that is more than three quarters full takes long.
+fn room_by_interfaces(interfaces: usize) -> Option<u32>
+    ensures { IfSome result (λ room. 0 < room) }
+{
+    ROOMS
+        .iter()
+        .find(|room| interfaces.saturating_mul(NODES_AN_INTERFACE) <= **room as usize)
+        .copied()
+}
+
+/// The larger of both rooms, where there are both.
+fn larger(one: Option<u32>, other: Option<u32>) -> Option<u32>
+    requires { IfSome one (λ room. 0 < room) }
+    ensures { IfSome result (λ room. 0 < room) }
+{
+    let one = one?;
+    let other = other?;
+    Some(one.max(other))
+}
+
 /// How many nodes the table of a first try has room for, where there is one: fewer than are allowed.
 pub fn first_room(net: &Network, state: &State, asked: &Asked, allowed: u32) -> Option<u32>
     ensures { IfSome result (IsFirstRoom allowed) }
 {
-    let room = room_for(size_asked(asked, size_of(net, state)));
-    match room {
+    let by_routes = room_by_routes(size_asked(asked, size_of(net, state)));
+    let by_interfaces = room_by_interfaces(interfaces_in(net));
+    match larger(by_routes, by_interfaces) {
         Some(few) if few < allowed => Some(few),
         _ => None,
     }
