@@ -12,8 +12,9 @@ ghost use Rattle.rc_topology.specs.Ports.{links_of};
 ghost use Rattle.rc_moves.specs.Moves.{DataPlane};
 
 use crate::edges_job::Sharing;
-use rc_base::Ends;
+use rc_base::{Ends, RouterId};
 use rc_bdd::SetError;
+use rc_config::RouterText;
 use rc_jobs::{Collected, Prepared, by_workers};
 use rc_moves::Plane;
 use rc_nodes::{May, Nodes, Seat};
@@ -22,14 +23,54 @@ use rc_places::Places;
 use std::alloc::Global;
 use std::thread::Threads;
 
-/// As many workers as there are, but not more than positions.
-fn workers_for(workers: u32, positions: usize) -> u32
+/// So much work, or less, is left to one worker: to start threads, each with a memo of its own, takes longer.
+const FEW: usize = 1_024;
+
+/// So many routes are as much work as a position.
+const ROUTES_A_POSITION: usize = 8;
+
+/// How many lines the access lists of a router have.
+fn lines_in(file: &RouterText) -> usize {
+    let lists = &file.lists.access_lists;
+    let mut lines: usize = 0;
+    for index in 0..lists.len() {
+        if let Some((_, list)) = lists.at(index) {
+            lines = lines.saturating_add(list.lines.len());
+        }
+    }
+    lines
+}
+
+/// How much work a router is, beside its positions: its routes, and the lines of its access lists.
+fn work_at(plane: &Plane<'_>, router: RouterId) -> usize {
+    let routes = match plane.fib(router) {
+        Some(fib) => fib.entries().len(),
+        None => 0,
+    };
+    let lines = match plane.network().router_at(router) {
+        Some(file) => lines_in(file),
+        None => 0,
+    };
+    lines.saturating_add(routes / ROUTES_A_POSITION)
+}
+
+/// How much work a plane with so many positions is.
+fn work_in(plane: &Plane<'_>, positions: usize) -> usize {
+    let mut work = positions;
+    for index in 0..plane.network().routers.len() {
+        work = work.saturating_add(work_at(plane, RouterId::at(index)));
+    }
+    work
+}
+
+/// As many workers as there are, but not more than positions, and one for little work.
+fn workers_for(workers: u32, positions: usize, work: usize) -> u32
     requires some { 1 ≤ workers }
     requires most { workers ≤ 64 }
     ensures some { 1 ≤ result }
     ensures most { result ≤ 64 }
 {
-    if positions == 0 {
+    if positions == 0 || work <= FEW {
         return 1;
     }
     if positions < workers as usize {
@@ -73,7 +114,8 @@ pub fn prepare<R: Threads + Sync, M: May + Send + Sync>(
     ensures prepared { IfOk result.1 (IsPrepared result.0 (edge_at plane.now) (stops_at plane.now ends) (length (positions plane.now.network))) }
     ensures cause { IfErr result.1 (IsCause nodes.now result.0) }
 {
-    let workers = workers_for(workers, places.len());
+    let work = work_in(plane, places.len());
+    let workers = workers_for(workers, places.len(), work);
     let sharing = Sharing {
         plane,
         places,
