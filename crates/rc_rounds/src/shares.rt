@@ -12,59 +12,35 @@ ghost use Rattle.rc_shares.specs.Stretches.{IsStretch};
 use crate::parts::{Fresh, Setting};
 use rc_base::RouterId;
 use rc_bgp::{Changes, Inside};
-use rc_config::RouterText;
+use rc_config::Network;
 use rc_outside::{Gate, Passed};
-use rc_pieces::{Knowledge, known_at};
+use rc_pieces::Knowledge;
 use rc_reads::{Stayed, table_anew};
 use rc_rib::{Earlier, Inputs, Made, is_settled};
 use rc_shares::{Each, each_at_once};
 use std::alloc::{AllocError, Global};
 use std::thread::Threads;
 
-/// So many routes of all routers, or fewer, are left to one worker: to start threads takes longer.
-const FEW_ROUTES: usize = 16_384;
+/// So many routers, or fewer, are left to one worker, where a round does little for each.
+const FEW: usize = 64;
 
-/// How many routes a router's static lines ask: those of its table before, if it has any line.
-fn routes_asked(file: &RouterText, read: &Knowledge, router: RouterId) -> usize {
-    if file.static_routes.is_empty() {
-        return 0;
-    }
-    let known = known_at(read, router);
-    match known {
-        Some(known) => known.table().len(),
-        None => 0,
-    }
-}
-
-/// How many routes a round goes over for a router that decides nothing, or `None` where it decides on paths.
-fn routes_for(setting: &Setting<'_>, read: &Knowledge, router: RouterId) -> Option<usize> {
-    let found = setting.network.router_at(router);
+/// Whether a round does little for a router: it merges routes, looks no gateway up, and decides nothing.
+fn is_light(net: &Network, router: RouterId) -> bool {
+    let found = net.router_at(router);
     match found {
-        Some(file) if file.bgp.is_none() => {
-            let internal = setting.internal.routes_of(router).len();
-            let lines = internal.saturating_add(file.static_routes.len());
-            Some(lines.saturating_add(routes_asked(file, read, router)))
+        Some(file) => file.static_routes.is_empty() && file.bgp.is_none(),
+        None => true,
+    }
+}
+
+/// Whether a round does little for each router.
+fn are_light(net: &Network) -> bool {
+    for index in 0..net.routers.len() {
+        if !is_light(net, RouterId::at(index)) {
+            return false;
         }
-        Some(_) => None,
-        None => Some(0),
     }
-}
-
-/// How many routes a round goes over for all routers, or `None` where one decides on paths.
-fn routes_for_all(setting: &Setting<'_>, read: &Knowledge) -> Option<usize> {
-    let mut routes: usize = 0;
-    for index in 0..setting.network.routers.len() {
-        routes = routes.saturating_add(routes_for(setting, read, RouterId::at(index))?);
-    }
-    Some(routes)
-}
-
-/// How many routers, or fewer, are left to one worker of a round in which all read this.
-fn few_routers(setting: &Setting<'_>, read: &Knowledge) -> usize {
-    match routes_for_all(setting, read) {
-        Some(routes) if routes <= FEW_ROUTES => setting.network.routers.len(),
-        _ => 1,
-    }
+    true
 }
 
 /// A state and what changed since, where there was a round earlier yet.
@@ -106,6 +82,9 @@ pub(crate) trait Makes<B, I, S>: Sync {
     /// How many routers there are.
     fn routers(&self) -> usize
         ensures { result ≡ count self.now };
+
+    /// So many routers, or fewer, are left to one worker: to start a thread would take longer.
+    fn few(&self) -> usize;
 
     /// What is made anew of a router.
     fn make(
@@ -164,6 +143,10 @@ impl<'a> Makes<Knowledge, Inside, Stayed> for Setting<'a> {
         self.network.routers.len()
     }
 
+    fn few(&self) -> usize {
+        if are_light(self.network) { FEW } else { 1 }
+    }
+
     fn make(
         &self,
         inside: &Inside,
@@ -194,11 +177,11 @@ impl<'a> Makes<Knowledge, Inside, Stayed> for Setting<'a> {
 #[derive(Drop)]
 struct Routers<'a, W, B, I, S> {
     round: &'a W,
+    few: usize,
     inside: &'a I,
     stayed: &'a S,
     read: &'a B,
     earlier: &'a B,
-    few: usize,
 }
 
 impl<'a, W: Makes<B, I, S>, B: Sync, I: Sync, S: Sync> Each for Routers<'a, W, B, I, S> {
@@ -230,7 +213,7 @@ impl<'a, W: Makes<B, I, S>, B: Sync, I: Sync, S: Sync> Each for Routers<'a, W, B
     }
 }
 
-/// What is made anew of all routers, and that all workers have passed the gate. So many routers as `few`, or fewer, are left to one.
+/// What is made anew of all routers, and that all workers have passed the gate.
 pub(crate) fn all_shares<R: Threads + Sync, W: Makes<B, I, S>, B: Sync, I: Sync, S: Sync, G: Gate>(
     rt: &R,
     alloc: Global,
@@ -239,7 +222,6 @@ pub(crate) fn all_shares<R: Threads + Sync, W: Makes<B, I, S>, B: Sync, I: Sync,
     stayed: &S,
     read: &B,
     earlier: &B,
-    few: usize,
     workers: u32,
     phase: u32,
     gate: &G,
@@ -251,11 +233,11 @@ pub(crate) fn all_shares<R: Threads + Sync, W: Makes<B, I, S>, B: Sync, I: Sync,
 {
     let routers = Routers {
         round,
+        few: round.few(),
         inside,
         stayed,
         read,
         earlier,
-        few,
     };
     each_at_once(rt, alloc, &routers, workers, phase, gate)
 }
@@ -281,8 +263,7 @@ pub(crate) fn next_shares<R: Threads + Sync, G: Gate>(
     ensures passed { result.0 ≡ passage phase 0 workers }
     ensures stretch { IfOk result.1 (IsStretch (IsMadeAnew setting.now.network.now setting.now.internal.now stayed.now.routers read.now) 0 (length setting.now.network.now.routers)) }
 {
-    let few = few_routers(setting, read);
     all_shares(
-        rt, alloc, setting, inside, stayed, read, earlier, few, workers, phase, gate,
+        rt, alloc, setting, inside, stayed, read, earlier, workers, phase, gate,
     )
 }
