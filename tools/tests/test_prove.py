@@ -266,9 +266,8 @@ class LauncherTest(CompanionTest):
             with repository() as root:
                 (root / "x/crates/mid/src/slow").write_text("3600.5")
                 started = self.start(root)
-                while "side" not in (root / "kit/asked").read_text() if (root / "kit/asked").is_file() else True:
+                while not [*(root / "x/.netcheck").rglob("side.of")]:
                     time.sleep(0.05)
-                time.sleep(0.5)
                 started.send_signal(number)
                 self.assertEqual(started.wait(timeout=20), 70)
                 started.communicate()
