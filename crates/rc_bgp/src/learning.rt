@@ -1,12 +1,12 @@
 //! The routes that best paths give.
-ghost use Rattle.std.specs.Prelude.{◌≡◌, ◌≢◌, [], IfErr, IfOk, OnOk, Some, map};
+ghost use Rattle.std.specs.Prelude.{◌≡◌, IfOk, OnOk, Some, map};
 ghost use Rattle.std.specs.BTreeSet.{keys, insert_key};
 ghost use Rattle.std.specs.List.{fold};
 ghost use Rattle.std.specs.Ordering.{nat_cmp};
 ghost use Rattle.rc_bgp.specs.Learning as spec;
 
 use rc_base::Addr;
-use rc_route::{Best, Hop, Hops, PathSource, Route, Source};
+use rc_route::{Best, Hop, Hops, PathSource, Route, SharedHops, Source};
 use std::alloc::{AllocError, Global};
 use std::collections::BTreeSet;
 
@@ -50,32 +50,30 @@ fn all_hops(alloc: Global, best: &Best) -> Result<Hops, AllocError>
     gateways(alloc, set)
 }
 
-/// The next hop of a best path and those beside it. It errs only where there are some.
+/// The next hop of a best path and those beside it. It errs only where memory runs out.
 #[inline(always)]
-#[tactic(auto, using(crate::proofs::LearningLaws::no_further, crate::proofs::LearningLaws::some_further))]
+#[tactic(auto, using(crate::proofs::LearningLaws::no_further))]
 fn hops_of_best(alloc: Global, best: &Best) -> Result<Hops, AllocError>
-    ensures value { IfOk result (λ hops. hops ≡ spec.hops_of_best best.now) }
-    ensures err { IfErr result (λ error. best.now.also ≢ []) }
+    ensures { IfOk result (λ hops. hops ≡ spec.hops_of_best best.now) }
 {
     if best.also.is_empty() {
         return Ok(Hops::one(Hop::Via(best.path.next_hop(), None)));
     }
-    let hops = all_hops(alloc, best)?;
-    Ok(hops)
+    all_hops(alloc, best)
 }
 
-/// The route of a best path over its next hops. It errs only where there are further ones.
+/// The route of a best path over its next hops.
 #[inline(always)]
 fn route_by(
     alloc: Global,
+    beside: Option<&SharedHops>,
     best: &Best,
     source: Source,
     distance: u8,
 ) -> Result<Option<Route>, AllocError>
-    ensures value { IfOk result (λ route. route ≡ Some (spec.route_by best.now source distance)) }
-    ensures err { IfErr result (λ error. best.now.also ≢ []) }
+    ensures { IfOk result (λ route. route ≡ Some (spec.route_by best.now source distance)) }
 {
-    let hops = hops_of_best(alloc, best)?;
+    let hops = SharedHops::beside(alloc, beside, hops_of_best(alloc, best)?)?;
     Ok(Some(Route {
         prefix: best.path.prefix(),
         source,
@@ -86,16 +84,19 @@ fn route_by(
 }
 
 /// The route that a best path gives its router's table: over its next hop and those that go with it, with the MED as metric, and with
-/// the administrative distance 20 from another AS and 200 from the own one. What the router originates gives none. It takes no memory,
-/// and doesn't err, where no further next hop goes with the path; else it errs only where memory runs out.
+/// the administrative distance 20 from another AS and 200 from the own one. What the router originates gives none. It shares the hops of
+/// another route, where these are the same, and errs only where memory runs out.
 #[inline(always)]
-pub fn learned_route(alloc: Global, best: &Best) -> Result<Option<Route>, AllocError>
-    ensures value { IfOk result (λ route. route ≡ spec.learned_route best.now) }
-    ensures err { IfErr result (λ error. best.now.also ≢ []) }
+pub fn learned_route(
+    alloc: Global,
+    beside: Option<&SharedHops>,
+    best: &Best,
+) -> Result<Option<Route>, AllocError>
+    ensures { IfOk result (λ route. route ≡ spec.learned_route best.now) }
 {
     match best.path.source() {
-        PathSource::External => route_by(alloc, best, Source::Ebgp, 20),
-        PathSource::Internal => route_by(alloc, best, Source::Ibgp, 200),
+        PathSource::External => route_by(alloc, beside, best, Source::Ebgp, 20),
+        PathSource::Internal => route_by(alloc, beside, best, Source::Ibgp, 200),
         _ => Ok(None),
     }
 }

@@ -12,7 +12,7 @@ use rc_base::{Items, Prefix, RouterId};
 use rc_config::MetricType;
 use rc_link_state::hops_in_order;
 use rc_ospf::Internal;
-use rc_route::{Route, Source, Table};
+use rc_route::{Route, SharedHops, Source, Table};
 use std::alloc::{AllocError, Global};
 
 fn source_by_type(metric_type: MetricType) -> Source
@@ -32,7 +32,7 @@ fn external_route_over(
 ) -> Result<Route, AllocError>
     ensures { IfOk result (λ route. route ≡ spec.external_route_over prefix (as_way way.now)) }
 {
-    let hops = hops_in_order(alloc, way.hops.as_slice())?;
+    let hops = SharedHops::of(alloc, hops_in_order(alloc, way.hops.as_slice())?)?;
     Ok(Route {
         prefix,
         source: source_by_type(way.cost.metric_type),

@@ -1,16 +1,15 @@
 -- What a hop resolves to, that hops are told apart in a set as in the definitions, and that the derived `==` of entries is equality.
-use Rattle.std.proofs.Common.{refl, ◌≡◌, ap, ℕ, map, Bool, List, [], ◌∷◌, Some, None, ◌&&◌, ◌==◌, nat_eq, rules}
+use Rattle.std.proofs.Common.{refl, ◌≡◌, ap, ℕ, map, Bool, List, [], ◌∷◌, Some, None, ◌&&◌, ◌==◌, rules}
 use Rattle.std.specs.Bool.{Decides}
 use Rattle.std.proofs.lemmas.Bool.Decides.{nat_tests, Decides-and, Decides-like}
 use Rattle.std.specs.Cmp.Lexicographic.{pointwise, pointwise_decides}
 use Rattle.indexmap.specs.IndexSet.{insert_key}
 use Rattle.rc_base.specs.Prefix.{Cidr}
-use Rattle.rc_route.specs.Hops.{same_hop, hop_key}
-use Rattle.std.specs.Ordering.{on}
+use Rattle.rc_route.specs.Hops.{same_hop}
 use Rattle.rc_route.specs.declared.route.Hop.{Hop}
 use Rattle.rc_route.specs.declared.route.Hop.TheVariants.{Null, Dev, Via}
 use Rattle.rc_route.specs.contracts.route.HopPartialEq.TheImpl as hop_impl
-use Rattle.rc_route.proofs.HopLaws.{same_test, same_tests, same_hops-Decides}
+use Rattle.rc_route.proofs.HopLaws.{same_test, same_hops-Decides}
 use Rattle.rc_fib.specs.declared.entry.Entry.{Entry}
 use Rattle.rc_fib.specs.contracts.entry.EntryPartialEq.TheImpl as entry_impl
 use Rattle.rc_fib.specs.Entries.{gateway_of}
@@ -26,16 +25,6 @@ resolve_by_gateway hops Null = refl
 resolve_by_gateway hops (Dev i) = refl
 resolve_by_gateway hops (Via g None) = refl
 resolve_by_gateway hops (Via g (Some i)) = refl
-
--- ---- hops that entries share
-
--- the test of two lists of hops decides whether they are the same
-pub hops_decide : (xs ys : List Hop) → Decides (pointwise (on hop_key (pointwise nat_eq)) xs ys) (xs ≡ ys)
-hops_decide = same_hops-Decides
-
--- and it is that of their elements
-pub shared_tests : (xs ys : List Hop) → pointwise hop_impl.eq-value.it xs ys ≡ pointwise (on hop_key (pointwise nat_eq)) xs ys
-shared_tests = same_tests
 
 -- ---- entries
 

@@ -9,32 +9,30 @@ ghost use Rattle.rc_fib.specs.Entries as layer;
 ghost use Rattle.rc_fib.specs.Entries.{IsFib};
 ghost use Rattle.rc_fib.specs.Forwarding.{resolved, resolve_all, resolved_hops, is_resolved};
 
-use crate::resolve::{is_resolved, is_settled, resolve_hops};
-use crate::{Entry, SharedHops};
+use crate::Entry;
+use crate::resolve::{is_resolved, is_settled, resolve};
 use rc_base::Items;
-use rc_route::{Hops, Parts, Route, Table};
+use rc_route::{Parts, Route, SharedHops, Table};
 use std::alloc::{AllocError, Global};
 use std::sync::Arc;
 
 /// How many look-ups may follow one another.
 const DEPTH: u8 = 16;
 
-/// What the hops of a route resolve to, where other entries give those of its gateways. It shares what the last of the entries that are made
-/// has, where these hops are the same and need no look-up.
+/// What the hops of a route resolve to, where other entries give those of its gateways. Most hops need no look-up, and are few: the entry
+/// shares them with the route.
 fn hops_behind(
     alloc: Global,
-    made: &[Entry],
     entries: &[Entry],
-    hops: &Hops,
+    hops: &SharedHops,
 ) -> Result<SharedHops, AllocError>
     requires { IsFib entries.now }
     ensures { IfOk result (λ shared. shared ≡ resolve_all (resolved_hops entries.now) hops.now) }
 {
-    let last = made.last();
-    match last {
-        Some(last) if is_settled(hops.as_slice()) && last.hops.are(hops) => last.hops.share(),
-        _ => SharedHops::of(alloc, resolve_hops(alloc, entries, hops)?),
+    if is_settled(hops.as_slice()) {
+        return hops.share();
     }
+    SharedHops::of(alloc, resolve(alloc, entries, hops.as_slice())?)
 }
 
 /// Puts a route's entry at the end, where other entries give the hops of its gateways.
@@ -50,7 +48,7 @@ fn push_over(
 {
     // For the proof: reading the network tells that the prefix is one.
     let _network = route.prefix.network();
-    let hops = hops_behind(alloc, next.as_slice(), entries, &route.hops)?;
+    let hops = hops_behind(alloc, entries, &route.hops)?;
     next.push(Entry {
         prefix: route.prefix,
         hops,

@@ -13,9 +13,7 @@ mod layers;
 mod longest;
 mod resolve;
 mod seen;
-mod shared;
 
 pub use entry::Entry;
 pub use fib::Fib;
 pub use laws::{hops_by_depth, prepared_hops_are_resolved};
-pub use shared::SharedHops;

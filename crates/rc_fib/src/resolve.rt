@@ -67,8 +67,8 @@ fn insert_resolved(
     }
 }
 
-/// What hops resolve to, in order, without repeats after the first.
-fn resolve(alloc: Global, entries: &[Entry], hops: &[Hop]) -> Result<Hops, AllocError>
+/// What hops resolve to, in order, without repeats after the first. It errs only where memory runs out.
+pub(crate) fn resolve(alloc: Global, entries: &[Entry], hops: &[Hop]) -> Result<Hops, AllocError>
     requires { IsFib entries.now }
     ensures { IfOk result (λ found. found ≡ spec.resolve_all (spec.resolved_hops entries.now) hops.now) }
 {
@@ -89,23 +89,6 @@ pub(crate) fn is_settled(hops: &[Hop]) -> bool
         [first, second] => is_resolved(first) && is_resolved(second) && !same_hop(second, first),
         _ => false,
     }
-}
-
-/// What the hops of a route resolve to, in order, each once. It errs only where memory runs out.
-///
-/// Most hops need no look-up, and are few: they are the route's own as they stand.
-pub(crate) fn resolve_hops(
-    alloc: Global,
-    entries: &[Entry],
-    hops: &Hops,
-) -> Result<Hops, AllocError>
-    requires { IsFib entries.now }
-    ensures { IfOk result (λ found. found ≡ spec.resolve_all (spec.resolved_hops entries.now) hops.now) }
-{
-    if is_settled(hops.as_slice()) {
-        return hops.copy(alloc);
-    }
-    resolve(alloc, entries, hops.as_slice())
 }
 
 /// Whether a hop says where a packet goes: nowhere, or over an interface.

@@ -10,6 +10,7 @@ pub mod BoundaryForms
 pub mod ByPrefix
 pub mod BestOffers
 pub mod Members
+pub mod FirstHops
 pub mod Wanted
 pub mod Internal
 pub mod Plain

@@ -12,9 +12,10 @@ ghost use Rattle.rc_route.specs.Ways as ways;
 ghost use Rattle.rc_route.specs.Ways.{best_of};
 
 use crate::Offer;
+use crate::first_hops::FirstHops;
 use crate::ospf_router::Member;
 use crate::way::{cost_to, hops_at, hops_to};
-use rc_route::Hops;
+use rc_route::{Hops, SharedHops};
 use std::alloc::{AllocError, Global};
 
 /// Where the best of the ways to some offers leads.
@@ -114,4 +115,22 @@ pub(crate) fn best_hops(
         return hops_to(alloc, member, &offers[best.at]);
     }
     hops_at(alloc, member, others, best.cost, offers)
+}
+
+/// The same, which share those that are found where one way is better than all others.
+pub(crate) fn shared_hops(
+    alloc: Global,
+    first: &FirstHops,
+    others: bool,
+    best: Best,
+    offers: &[Offer],
+) -> Result<SharedHops, AllocError>
+    requires { HasBest (reach_of first.now) others first.now.router offers.now best }
+    ensures { IfOk result (λ hops. hops ≡ in_order hop_cmp (ways.hops_at nat_cmp best.cost (ways_of (reach_of first.now) others first.now.router offers.now))) }
+{
+    if best.is_alone {
+        return first.hops_to(alloc, &offers[best.at]);
+    }
+    let hops = hops_at(alloc, first.member(), others, best.cost, offers)?;
+    SharedHops::of(alloc, hops)
 }

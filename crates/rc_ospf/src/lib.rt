@@ -7,7 +7,7 @@
 //!
 //! The crate goes one way: the areas of routers (`router_area`), what their interfaces offer (`advertising`, `offer`, `grouping`),
 //! routers as the others have them (`ospf_router`, `member`), with the least walks (`known_walks`) that an address asks for (`ends`,
-//! `asked`), ways to what is offered and the best of them (`way`, `best`), what border routers summarise of a destination (`summaries`),
+//! `asked`), the first hops of walks from a router (`first_hops`), ways to what is offered and the best of them (`way`, `best`), what border routers summarise of a destination (`summaries`),
 //! and what each router makes of it (`routes`, `boundary`). What is made of each router by itself is made by workers at once (`shares`).
 #![tactic(auto)]
 
@@ -17,6 +17,7 @@ mod best;
 mod boundary;
 mod destination;
 mod ends;
+mod first_hops;
 mod grouping;
 mod known_walks;
 mod member;

@@ -12,8 +12,9 @@ ghost use Rattle.rc_ospf.specs.declared.member.StubAreas.TheVariants.{Kept};
 ghost use Rattle.rc_route.specs.Ways.{best_of};
 
 use crate::Offer;
-use crate::best::{best_hops, best_way};
+use crate::best::{best_way, shared_hops};
 use crate::destination::Destination;
+use crate::first_hops::FirstHops;
 use crate::member::StubAreas;
 use crate::ospf_router::Member;
 use crate::router_area::is_in_backbone;
@@ -51,17 +52,17 @@ fn best_route(
     alloc: Global,
     source: Source,
     prefix: Prefix,
-    member: &Member,
+    first: &FirstHops,
     others: bool,
     offers: &[Offer],
 ) -> Result<Option<Route>, AllocError>
     ensures short { IfOk result (λ route. IfSome route IsShortRoute) }
-    ensures value { IfOk result (λ route. route ≡ option_map (internal_route_over source prefix) (best_of nat_cmp (ways_of (reach_of member.now) others member.now.router offers.now))) }
+    ensures value { IfOk result (λ route. route ≡ option_map (internal_route_over source prefix) (best_of nat_cmp (ways_of (reach_of first.now) others first.now.router offers.now))) }
 {
-    let best = best_way(member, others, offers);
+    let best = best_way(first.member(), others, offers);
     match best {
         Some(best) => {
-            let hops = best_hops(alloc, member, others, best, offers)?;
+            let hops = shared_hops(alloc, first, others, best, offers)?;
             Ok(Some(Route {
                 prefix,
                 source,
@@ -77,19 +78,19 @@ fn best_route(
 /// The route of a router between areas.
 fn inter_route(
     alloc: Global,
-    member: &Member,
+    first: &FirstHops,
     destination: &Destination,
 ) -> Result<Option<Route>, AllocError>
     ensures short { IfOk result (λ route. IfSome route IsShortRoute) }
-    ensures value { IfOk result (λ route. route ≡ option_map (internal_route_over OspfIa destination.now.prefix) (inter (known Kept member.now) destination.now.summaries)) }
+    ensures value { IfOk result (λ route. route ≡ option_map (internal_route_over OspfIa destination.now.prefix) (inter (known Kept first.now) destination.now.summaries)) }
 {
-    let in_backbone = is_in_backbone(member.areas(StubAreas::Kept));
+    let in_backbone = is_in_backbone(first.member().areas(StubAreas::Kept));
     let offers = summary_offers(in_backbone, &destination.summaries);
     best_route(
         alloc,
         Source::OspfIa,
         destination.prefix,
-        member,
+        first,
         in_backbone,
         offers,
     )
@@ -98,35 +99,51 @@ fn inter_route(
 /// The route of a router: inside areas before between areas, and none to a prefix that it advertises itself.
 fn destination_route(
     alloc: Global,
-    member: &Member,
+    first: &FirstHops,
     destination: &Destination,
 ) -> Result<Option<Route>, AllocError>
-    ensures value { IfOk result (λ route. route ≡ destination_route (known Kept member.now) destination.now) }
+    ensures value { IfOk result (λ route. route ≡ destination_route (known Kept first.now) destination.now) }
     ensures short { IfOk result (λ route. IfSome route IsShortRoute) }
 {
     let inside = destination.inside.as_slice();
-    if offers_itself(member.router, inside) {
+    if offers_itself(first.member().router, inside) {
         return Ok(None);
     }
     let prefix = destination.prefix;
-    match best_route(alloc, Source::Ospf, prefix, member, false, inside)? {
+    match best_route(alloc, Source::Ospf, prefix, first, false, inside)? {
         Some(route) => Ok(Some(route)),
-        None => inter_route(alloc, member, destination),
+        None => inter_route(alloc, first, destination),
     }
 }
 
-/// The routes of a router to some destinations. It errs only where memory runs out.
+/// The first hops that a router finds at once, where so many others may be asked for: they are found one by one where there are fewer
+/// destinations than routers.
+fn first_hops<'m, 'w>(
+    alloc: Global,
+    member: &'m Member<'w>,
+    destinations: usize,
+    routers: usize,
+) -> Result<FirstHops<'m, 'w>, AllocError>
+    ensures { IfOk result (λ f. f ≡ member.now) }
+{
+    let at_once = if destinations < routers { 0 } else { routers };
+    FirstHops::of(alloc, member, at_once)
+}
+
+/// The routes of a router, of so many, to some destinations. It errs only where memory runs out.
 pub(crate) fn routes_of(
     alloc: Global,
     member: &Member,
     destinations: &[Destination],
+    routers: usize,
 ) -> Result<Pieces<Route>, AllocError>
     ensures value { IfOk result (λ routes. routes ≡ filter_map (destination_route (known Kept member.now)) destinations.now) }
     ensures short { IfOk result (All IsShortRoute) }
 {
-    let mut routes = Filling::new(alloc)?;
+    let first = first_hops(alloc, member, destinations.len(), routers)?;
+    let mut routes = Filling::with_room(alloc, destinations.len())?;
     for destination in destinations {
-        if let Some(route) = destination_route(alloc, member, destination)? {
+        if let Some(route) = destination_route(alloc, &first, destination)? {
             routes.push(alloc, route)?;
         }
     }

@@ -78,7 +78,7 @@ impl<'d, 'm, 'w> Makes for RoutesTo<'d, 'm, 'w> {
     fn make(&self, alloc: Global, member: &Member<'w>) -> Result<Pieces<Route>, AllocError>
         ensures { IfOk result (IsGiven (table_of self.now.destinations.now) (All IsShortRoute) member.now) }
     {
-        routes_of(alloc, member, self.destinations)
+        routes_of(alloc, member, self.destinations, self.members.len())
     }
 }
 

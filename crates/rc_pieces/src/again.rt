@@ -16,8 +16,8 @@ pub trait Again: HasPrefix + Drop {
 
 impl Again for Route {
     #[inline]
-    fn again(&self, alloc: Global) -> Result<Route, AllocError> {
-        self.copy(alloc)
+    fn again(&self, _alloc: Global) -> Result<Route, AllocError> {
+        self.copy()
     }
 }
 

@@ -19,9 +19,9 @@ const ROUTES_A_LINE: usize = 64;
 /// How many nodes there is room for in a first try for each interface.
 const NODES_AN_INTERFACE: usize = 200;
 
-/// For how many nodes a first try may have room.
-static ROOMS: [u32; 7] = [
-    65_536, 131_072, 262_144, 524_288, 1_048_576, 2_097_152, 4_194_304,
+/// For how many nodes a first try may have room. Its memory is taken twice for a moment, so large ones come in smaller steps.
+static ROOMS: [u32; 10] = [
+    65_536, 131_072, 262_144, 458_752, 524_288, 917_504, 1_048_576, 1_835_008, 2_097_152, 4_194_304,
 ];
 
 /// As how many routes a route counts in a question about loops: its sets change at nearly every position in each round.
@@ -90,6 +90,8 @@ fn room_by_routes(size: usize) -> Option<u32>
         Some(131_072)
     } else if size <= 262_144 {
         Some(262_144)
+    } else if size <= 655_360 {
+        Some(458_752)
     } else if size <= 1_048_576 {
         Some(524_288)
     } else {

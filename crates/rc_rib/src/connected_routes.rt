@@ -12,7 +12,7 @@ ghost use Rattle.rc_rib.specs.Offers.{ids_before, prefixes_of_id, route_of_membe
 use crate::rows::routes_of_rows;
 use rc_base::{IfId, Prefix, PrefixIndex, RouterId};
 use rc_config::{IfAddr, Interface, RouterText};
-use rc_route::{Hop, Hops, Route, Source, Table};
+use rc_route::{Hop, Hops, Route, SharedHops, Source, Table};
 use std::alloc::{AllocError, Global};
 
 /// Puts an interface under the prefix of each of these addresses of it.
@@ -92,7 +92,7 @@ pub(crate) fn connected_route(
 ) -> Result<Route, AllocError>
     ensures { IfOk result (λ route. route ≡ route_of_members prefix members.now) }
 {
-    let hops = hops_over(alloc, members)?;
+    let hops = SharedHops::of(alloc, hops_over(alloc, members)?)?;
     Ok(Route {
         prefix,
         source: Source::Connected,

@@ -8,7 +8,7 @@ use crate::active::ActiveLine;
 use crate::rows::routes_of_rows;
 use rc_base::{Prefix, PrefixMap};
 use rc_link_state::hops_in_order;
-use rc_route::{Hops, Route, Source, Table};
+use rc_route::{Hops, Route, SharedHops, Source, Table};
 use std::alloc::{AllocError, Global};
 
 /// The hops of the least distance of some lines, in the order of the lines.
@@ -88,7 +88,7 @@ pub(crate) fn static_route(
 ) -> Result<Route, AllocError>
     ensures { IfOk result (λ route. route ≡ route_of_hops prefix known.now) }
 {
-    let hops = hops_in_order(alloc, known.hops.as_slice())?;
+    let hops = SharedHops::of(alloc, hops_in_order(alloc, known.hops.as_slice())?)?;
     Ok(Route {
         prefix,
         source: Source::Static,

@@ -12,14 +12,14 @@ use std::alloc::{AllocError, Global};
 use std::collections::VecDeque;
 
 /// The preferred of a route and another one of its prefix, where there is one; the first where neither is.
-fn over(alloc: Global, route: Route, other: Option<&Route>) -> Result<Route, AllocError>
+fn over(route: Route, other: Option<&Route>) -> Result<Route, AllocError>
     ensures { IfOk result (λ better. of_both (Some route) (option_copied other.entry) ≡ Some better) }
 {
     match other {
         None => Ok(route),
         Some(other) => {
             if is_preferred(other, &route) {
-                other.copy(alloc)
+                other.copy()
             } else {
                 Ok(route)
             }
@@ -28,7 +28,7 @@ fn over(alloc: Global, route: Route, other: Option<&Route>) -> Result<Route, All
 }
 
 /// The preferred of a route that is known, where there is one, and another one of its prefix; the first where neither is.
-fn under(alloc: Global, known: Option<&Route>, route: Route) -> Result<Route, AllocError>
+fn under(known: Option<&Route>, route: Route) -> Result<Route, AllocError>
     ensures { IfOk result (λ better. of_both (option_copied known.entry) (Some route) ≡ Some better) }
 {
     match known {
@@ -37,7 +37,7 @@ fn under(alloc: Global, known: Option<&Route>, route: Route) -> Result<Route, Al
             if is_preferred(&route, known) {
                 Ok(route)
             } else {
-                known.copy(alloc)
+                known.copy()
             }
         }
     }
@@ -45,7 +45,6 @@ fn under(alloc: Global, known: Option<&Route>, route: Route) -> Result<Route, Al
 
 /// Puts at the end what is there for the prefix of a route that lies over a table.
 fn put_over(
-    alloc: Global,
     edits: &mut Edits<Route>,
     below: &mut Finder<'_, Route>,
     route: Route,
@@ -56,7 +55,7 @@ fn put_over(
 {
     let prefix = route.prefix;
     let other = below.at(&prefix);
-    let better = over(alloc, route, other)?;
+    let better = over(route, other)?;
     edits.push_back(Edit {
         prefix,
         value: Some(better),
@@ -66,7 +65,6 @@ fn put_over(
 
 /// Puts at the end what is there for the prefix of a route that lies under a table.
 fn put_under(
-    alloc: Global,
     edits: &mut Edits<Route>,
     above: &mut Finder<'_, Route>,
     route: Route,
@@ -77,7 +75,7 @@ fn put_under(
 {
     let prefix = route.prefix;
     let known = above.at(&prefix);
-    let better = under(alloc, known, route)?;
+    let better = under(known, route)?;
     edits.push_back(Edit {
         prefix,
         value: Some(better),
@@ -98,7 +96,7 @@ fn edits_over(
     let mut finder = Finder::of(below);
     let mut left = VecDeque::from(table.into_vec());
     while let Some(route) = left.pop_front() {
-        put_over(alloc, &mut edits, &mut finder, route)?;
+        put_over(&mut edits, &mut finder, route)?;
     }
     Ok(edits)
 }
@@ -116,7 +114,7 @@ fn edits_under(
     let mut finder = Finder::of(above);
     let mut left = VecDeque::from(table.into_vec());
     while let Some(route) = left.pop_front() {
-        put_under(alloc, &mut edits, &mut finder, route)?;
+        put_under(&mut edits, &mut finder, route)?;
     }
     Ok(edits)
 }

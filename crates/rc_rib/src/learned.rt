@@ -8,7 +8,7 @@ use crate::merging::{better, front_prefix, take_front, which};
 use rc_base::Items;
 use rc_bgp::learned_route;
 use rc_pieces::Listed;
-use rc_route::{Best, Route, Table};
+use rc_route::{Best, Route, SharedHops, Table};
 use std::alloc::{AllocError, Global};
 use std::cmp::Ordering;
 use std::collections::VecDeque;
@@ -58,7 +58,16 @@ fn place(left: &mut VecDeque<Route>, made: &mut Table, route: Route) -> Result<(
     }
 }
 
-/// Puts the route that a best path gives, if any, in its place.
+/// The hops of the last route that is made.
+fn last_hops(made: &Table) -> Option<&SharedHops> {
+    let last = made.as_slice().last();
+    match last {
+        Some(route) => Some(&route.hops),
+        None => None,
+    }
+}
+
+/// Puts the route that a best path gives, if any, in its place. It shares the hops of the route before it, where these are the same.
 fn place_learned(
     alloc: Global,
     left: &mut VecDeque<Route>,
@@ -67,7 +76,7 @@ fn place_learned(
 ) -> Result<(), AllocError>
     ensures { OnOk result (KeepsWhole left.old.items made.old (spec.learned_routes (best.now ∷ [])) left.new.items made.new []) }
 {
-    let learned = learned_route(alloc, best)?;
+    let learned = learned_route(alloc, last_hops(made), best)?;
     match learned {
         None => Ok(()),
         Some(route) => place(left, made, route),

@@ -22,13 +22,25 @@ use rc_base::{Prefix, RouterId};
 use rc_bgp::learned_route;
 use rc_config::RouterText;
 use rc_pieces::{Alike, Edit, Edits, Finder, Listed, Pieces, edited, known_at, same};
-use rc_route::{Best, Route, Source, Table, listed_at};
+use rc_route::{Best, Route, SharedHops, Source, Table, listed_at};
 use std::alloc::{AllocError, Global};
 use std::collections::VecDeque;
+
+/// The hops of the last edit, where it puts a route.
+fn last_hops(edits: &Edits<Route>) -> Option<&SharedHops> {
+    match edits.back() {
+        Some(edit) => match &edit.value {
+            Some(route) => Some(&route.hops),
+            None => None,
+        },
+        None => None,
+    }
+}
 
 /// The route that the best path of a prefix gives.
 fn learned_at(
     alloc: Global,
+    beside: Option<&SharedHops>,
     paths: &mut Finder<'_, Best>,
     prefix: &Prefix,
 ) -> Result<Option<Route>, AllocError>
@@ -39,29 +51,29 @@ fn learned_at(
     let found = paths.at(prefix);
     match found {
         None => Ok(None),
-        Some(best) => learned_route(alloc, best),
+        Some(best) => learned_route(alloc, beside, best),
     }
 }
 
 /// A route again, where there is one.
-fn again(alloc: Global, found: Option<&Route>) -> Result<Option<Route>, AllocError>
+fn again(found: Option<&Route>) -> Result<Option<Route>, AllocError>
     ensures { IfOk result (λ route. route ≡ option_copied found.entry) }
 {
     match found {
         None => Ok(None),
         Some(route) => {
-            let again = route.copy(alloc)?;
+            let again = route.copy()?;
             Ok(Some(again))
         }
     }
 }
 
 /// The route of just this prefix in a table, again.
-fn copy_at(alloc: Global, table: &[Route], prefix: &Prefix) -> Result<Option<Route>, AllocError>
+fn copy_at(table: &[Route], prefix: &Prefix) -> Result<Option<Route>, AllocError>
     requires { IsTable table.now }
     ensures { IfOk result (λ route. route ≡ route_at table.now prefix.now) }
 {
-    again(alloc, listed_at(table, prefix))
+    again(listed_at(table, prefix))
 }
 
 /// Whether routes of a source are given by best paths.
@@ -95,7 +107,6 @@ fn make_own(
 
 /// The route of a prefix after a round: the preferred of a router's own one, of the one that its best path gives, and of the one by OSPF.
 fn of_all(
-    alloc: Global,
     own: &Option<Table>,
     learned: Option<Route>,
     inside: &Listed<'_, Route>,
@@ -107,9 +118,9 @@ fn of_all(
 {
     let by_file = match own {
         None => None,
-        Some(own) => copy_at(alloc, own.as_slice(), prefix)?,
+        Some(own) => copy_at(own.as_slice(), prefix)?,
     };
-    let by_ospf = again(alloc, inside.at(prefix))?;
+    let by_ospf = again(inside.at(prefix))?;
     Ok(of_both(of_both(by_file, learned), by_ospf))
 }
 
@@ -135,15 +146,9 @@ fn route_after(
         Some(route) => {
             if is_learned(route.source) {
                 make_own(alloc, inputs, router, file, own)?;
-                of_all(
-                    alloc,
-                    &*own,
-                    learned,
-                    &inputs.internal.routes_of(router),
-                    prefix,
-                )
+                of_all(&*own, learned, &inputs.internal.routes_of(router), prefix)
             } else {
-                let again = route.copy(alloc)?;
+                let again = route.copy()?;
                 Ok(of_both(Some(again), learned))
             }
         }
@@ -185,7 +190,7 @@ fn edits_of(
     let mut best = Finder::of(paths);
     for prefix in changed {
         let before = routes.at(prefix);
-        let learned = learned_at(alloc, &mut best, prefix)?;
+        let learned = learned_at(alloc, last_hops(&edits), &mut best, prefix)?;
         let route = route_after(
             alloc, inputs, router, file, &mut own, before, learned, prefix,
         )?;

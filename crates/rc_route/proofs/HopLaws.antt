@@ -46,3 +46,6 @@ same_tests xs ys = ap (λ (test : Hop → Hop → Bool). pointwise test xs ys) (
 -- it decides whether they are the same
 pub same_hops-Decides : (xs ys : List Hop) → Decides (pointwise (on hop_key (pointwise nat_eq)) xs ys) (xs ≡ ys)
 same_hops-Decides = pointwise_decides keys-Decides
+
+pub hops_decide : (xs ys : List Hop) → Decides (pointwise (on hop_key (pointwise nat_eq)) xs ys) (xs ≡ ys)
+hops_decide = same_hops-Decides

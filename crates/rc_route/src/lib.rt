@@ -14,6 +14,7 @@ mod outcome;
 mod parts;
 mod path;
 mod route;
+mod shared;
 mod state;
 
 pub use best::Best;
@@ -25,4 +26,5 @@ pub use outcome::{Outcome, RoundsEnd};
 pub use parts::Parts;
 pub use path::{BgpPath, PathSource, compare_path_sources};
 pub use route::{Hop, Route, Source, Table, compare_hops, compare_sources, same_hop};
+pub use shared::SharedHops;
 pub use state::{RouterState, State};

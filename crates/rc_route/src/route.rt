@@ -4,9 +4,9 @@ ghost use Rattle.std.specs.Prelude.{◌≡◌, ◌↔◌, IfOk, IsTrue};
 ghost use Rattle.std.specs.Ordering.{nat_cmp};
 ghost use Rattle.rc_route.specs.Hops.{hop_cmp, same_hop, source_rank};
 
-use crate::Hops;
+use crate::SharedHops;
 use rc_base::{Addr, IfId, Items, Prefix};
-use std::alloc::{AllocError, Global};
+use std::alloc::AllocError;
 use std::cmp::Ordering;
 
 /// Where a route leads.
@@ -53,7 +53,7 @@ pub struct Route {
     pub distance: u8,
     pub metric: u32,
     /// In their order, each once.
-    pub hops: Hops,
+    pub hops: SharedHops,
 }
 
 /// By a function of its own, so that what holds routes drops each by one call.
@@ -73,11 +73,11 @@ impl Drop for Route {
 pub type Table = Items<Route>;
 
 impl Route {
-    /// The route again, in memory of its own.
-    pub fn copy(&self, alloc: Global) -> Result<Route, AllocError>
+    /// The route again, which shares the hops of this one. It takes no memory, and errs only where as many share them as can be counted.
+    pub fn copy(&self) -> Result<Route, AllocError>
         ensures { IfOk result (λ copied. copied ≡ self.now) }
     {
-        let hops = self.hops.copy(alloc)?;
+        let hops = self.hops.share()?;
         Ok(Route {
             prefix: self.prefix,
             source: self.source,

@@ -3,7 +3,9 @@ ghost use Rattle.std.specs.Prelude.{◌≤◌};
 
 use rc_as_path::AsPath;
 use rc_base::{Addr, Communities, IfId, Items, Origin, Prefix, RouterId};
-use rc_route::{Best, BgpPath, FurtherHops, Hop, Hops, KeptPath, PathSource, Route, Source};
+use rc_route::{
+    Best, BgpPath, FurtherHops, Hop, Hops, KeptPath, PathSource, Route, SharedHops, Source,
+};
 use std::alloc::{AllocError, Global};
 use std::test::Fail;
 
@@ -48,7 +50,7 @@ fn route_at(alloc: Global, changed: usize) -> Result<Route, Fail> {
         },
         distance: value_at(2, changed),
         metric: u32::from(value_at(3, changed)),
-        hops,
+        hops: SharedHops::of(alloc, hops)?,
     })
 }
 
@@ -112,7 +114,7 @@ fn best_at(alloc: Global, changed: usize) -> Result<Best, Fail> {
 /// Whether a copy of a route where a field is changed is equal to it, and to another one exactly where that field is none of a route.
 fn is_route_copied(alloc: Global, like: &Route, changed: usize) -> Result<bool, Fail> {
     let route = route_at(alloc, changed)?;
-    let copied = route.copy(alloc)?;
+    let copied = route.copy()?;
     Ok(copied == route && (copied == *like) == (changed > 4))
 }
 

@@ -4,7 +4,7 @@ use rc_config::{Named, Network};
 use rc_moves::{Stop, Walk};
 use rc_outside::MemSink;
 use rc_report::{Buffer, Part, put_line, put_routes, put_walk};
-use rc_route::{Hop, Hops, Route, Source, Table};
+use rc_route::{Hop, Hops, Route, SharedHops, Source, Table};
 use std::alloc::{AllocError, Global};
 use std::process::Abort;
 use std::test::Fail;
@@ -101,7 +101,7 @@ fn route(alloc: Global, n: u8, hops: &[Hop]) -> Result<Route, Fail> {
         source: Source::Ebgp,
         distance: 20,
         metric: 7,
-        hops: Hops::from_items(hops),
+        hops: SharedHops::of(alloc, Hops::from_items(hops))?,
     })
 }
 

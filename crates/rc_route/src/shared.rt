@@ -1,4 +1,4 @@
-//! Hops that entries share.
+//! Hops that routes share.
 ghost use Rattle.std.specs.Prelude.{◌≡◌, ◌↔◌, IfOk, IsTrue, nat_eq};
 ghost use Rattle.std.specs.Cmp.Lexicographic.{pointwise};
 ghost use Rattle.std.specs.Cmp.Rules.{comparing};
@@ -6,12 +6,13 @@ ghost use Rattle.std.specs.Ordering.{on};
 ghost use Rattle.std.proofs.Common.{rules};
 ghost use Rattle.rc_route.specs.Hops.{hop_key};
 
-use rc_route::{Hop, Hops};
+use crate::{Hop, Hops};
 use std::alloc::{AllocError, Global};
 use std::marker::Model;
 use std::sync::Arc;
 
-/// The hops of an entry, seen as their list. Entries side by side share theirs, where they are the same.
+/// The hops of a route, seen as their list. Routes of one router mostly share theirs with others, so a route is small, and its copy takes
+/// no memory.
 pub struct SharedHops {
     kept: Arc<Hops, Global>,
 }
@@ -42,12 +43,27 @@ fn are_same(one: &Hops, other: &Hops) -> bool
 }
 
 impl SharedHops {
-    /// Hops that nobody shares yet.
-    pub(crate) fn of(alloc: Global, hops: Hops) -> Result<SharedHops, AllocError>
+    /// Hops that nothing shares yet. It errs only where memory runs out.
+    pub fn of(alloc: Global, hops: Hops) -> Result<SharedHops, AllocError>
         ensures { IfOk result (λ shared. shared ≡ hops) }
     {
         let kept = Arc::new(alloc, hops)?;
         Ok(SharedHops { kept })
+    }
+
+    /// Hops that share what others have, where these are the same. It errs only where memory runs out, or as many share them as can be
+    /// counted.
+    pub fn beside(
+        alloc: Global,
+        others: Option<&SharedHops>,
+        hops: Hops,
+    ) -> Result<SharedHops, AllocError>
+        ensures { IfOk result (λ shared. shared ≡ hops) }
+    {
+        match others {
+            Some(others) if are_same(&others.kept, &hops) => others.share(),
+            _ => SharedHops::of(alloc, hops),
+        }
     }
 
     /// The hops, in order.
@@ -57,15 +73,8 @@ impl SharedHops {
         self.kept.as_slice()
     }
 
-    /// Whether they are these.
-    pub(crate) fn are(&self, hops: &Hops) -> bool
-        ensures { IsTrue result ↔ (self.now ≡ hops.now) }
-    {
-        are_same(&self.kept, hops)
-    }
-
-    /// The same again, which both share. It errs only where as many hold them as can be counted.
-    pub(crate) fn share(&self) -> Result<SharedHops, AllocError>
+    /// The same again, which both share. It takes no memory, and errs only where as many share them as can be counted.
+    pub fn share(&self) -> Result<SharedHops, AllocError>
         ensures { IfOk result (λ shared. shared ≡ self.now) }
     {
         let kept = Arc::try_clone(&self.kept)?;
@@ -78,7 +87,7 @@ impl PartialEq for SharedHops {
 
     ghost laws = { Prim.search (comparing, rules) };
 
-    #[tactic(auto, using(crate::proofs::HopLaws::shared_tests))]
+    #[tactic(auto, using(crate::proofs::HopLaws::same_tests))]
     fn eq(&self, other: &SharedHops) -> bool {
         self.as_slice() == other.as_slice()
     }

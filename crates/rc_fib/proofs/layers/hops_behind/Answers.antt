@@ -3,11 +3,11 @@ use Rattle.std.proofs.lemmas.Result.{IfOk-weaker}
 use Rattle.rc_fib.specs.Entries.{is_settled}
 use Rattle.rc_fib.specs.Forwarding.{resolve_all, resolved_hops}
 use Rattle.rc_fib.proofs.LayerLaws.{settled_stay}
-use Rattle.rc_fib.proofs.resolve.resolve_hops.Goals as goal
+use Rattle.rc_fib.proofs.layers.hops_behind.Goals as goal
 
 pub returns-then-is_settled : goal.returns-then-is_settled
 returns-then-is_settled c =
     let f = resolved_hops c.args.entries.now in
     let hops = c.args.hops.now in
     IfOk-weaker _ _ (λ found. found ≡ resolve_all f hops)
-    (λ found copied. copied ∙ settled_stay f hops (ap is_settled (sym c.as_slice.ensures) ∙ c.is_settled.ensures c.if-is_settled.true)) c.copy.ensures
+    (λ found copied. copied ∙ settled_stay f hops (ap is_settled (sym c.as_slice.ensures) ∙ c.is_settled.ensures c.if-is_settled.true)) c.share.ensures
