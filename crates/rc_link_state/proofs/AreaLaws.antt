@@ -1,14 +1,13 @@
 -- The laws of the graph, for the steps and networks of one area among all.
-use Rattle.std.proofs.Common.{refl, ◌≡◌, ap, sym, ◌∙◌, subst, ℕ, ◌<◌, inl, inr, List, Contains, arith, eq-eqb}
+use Rattle.std.proofs.Common.{◌≡◌, ap, sym, ◌∙◌, ℕ, inl, inr, List, arith, eq-eqb}
 use Rattle.std.specs.Prelude.{◌==◌}
 use Rattle.rc_link_state.specs.declared.step.Step.{Step}
-use Rattle.rc_link_state.specs.declared.transit.Attached.{Attached}
 use Rattle.rc_link_state.specs.declared.transit.Transit.{Transit}
 use Rattle.rc_link_state.specs.Graph.{AreOf, steps_in, transits_in}
 use Rattle.rc_link_state.specs.Laws.{LeastCostsAreThose, CostsBehindAreThose}
 use Rattle.rc_link_state.specs.Transits.{AreStepsBy, across}
 use Rattle.rc_link_state.proofs.GraphLaws.{AreOfArea, costs_are, left_is}
-use Rattle.rc_link_state.proofs.Members.{In, contains_in, in_contains, in_filter, of_filter}
+use Rattle.rc_link_state.proofs.Members.{contains_in, in_contains, in_filter, of_filter}
 
 of_area : (n area : ℕ) (steps listed : List Step) (transits : List Transit) → AreOf n listed transits → AreStepsBy listed transits steps →
     AreOfArea n area steps (steps_in area listed) (transits_in area transits)

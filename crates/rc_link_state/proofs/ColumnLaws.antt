@@ -4,7 +4,7 @@ use Rattle.std.proofs.lemmas.Bool.Decides.{nat_tests}
 use Rattle.std.specs.List.{slice_index_or}
 use Rattle.rc_spf.specs.declared.graph.Edge.{Edge}
 use Rattle.rc_spf.specs.Walks as W
-use Rattle.rc_link_state.specs.Towards.{IsCostFrom, AreCostsTo}
+use Rattle.rc_link_state.specs.Towards.{IsCostFrom}
 use Rattle.rc_link_state.specs.Walks.{IsWalk}
 use Rattle.rc_link_state.specs.declared.step.Step.{Step}
 use Rattle.rc_link_state.specs.Columns.{router_cost, ColumnsAreThose}

@@ -1,5 +1,5 @@
 -- The least walks as they are made: the costs of a table, and the hops by listed steps and networks.
-use Rattle.std.proofs.Common.{refl, ◌≡◌, ap, sym, ◌∙◌, subst, ℕ, ◌+◌, ◌<◌, ◌≤◌, ◌==◌, ◌⊎◌, ◌↔◌, inl, inr, Bool, true, false, cond, ◌&&◌, nat_lt, List, [], ◌∷◌, ◌++◌, map, filter, Option, Some, None, MatchOption, Contains, arith, eq-eqb}
+use Rattle.std.proofs.Common.{refl, ◌≡◌, ap, sym, ◌∙◌, subst, ℕ, ◌+◌, ◌<◌, ◌≤◌, ◌==◌, ◌↔◌, inl, inr, Bool, true, false, cond, ◌&&◌, nat_lt, List, [], ◌∷◌, ◌++◌, map, filter, Option, Some, None, MatchOption, Contains, arith, eq-eqb}
 use Rattle.std.proofs.lemmas.Bool.Decides.{nat_tests}
 use Rattle.std.specs.List.{filter_map, flat_map}
 use Rattle.std.specs.Option.{option_map, option_map_or}
@@ -9,12 +9,11 @@ use Rattle.rc_route.specs.Hops.{hop_cmp}
 use Rattle.rc_route.specs.declared.route.Hop.{Hop}
 use Rattle.rc_route.proofs.OrderLaws.{hop_cmp_total, same_by_hop_cmp}
 use Rattle.rc_link_state.specs.Adjacency.{hop_of}
-use Rattle.rc_link_state.specs.Towards.{AreCostsTo, IsPathTo, LeadsOn}
-use Rattle.rc_link_state.specs.Walks.{LeastWalks}
+use Rattle.rc_link_state.specs.Towards.{IsPathTo, LeadsOn}
 use Rattle.rc_link_state.specs.declared.step.Step.{Step}
 use Rattle.rc_link_state.specs.Graph.{transits_in}
-use Rattle.rc_link_state.specs.HopsBy.{leads_by, hop_by_step, lower, left_from, leaves_by, arrives_at, hop_between, hops_from, hops_over, hops_by, walks_by, WalksAreThose}
-use Rattle.rc_link_state.specs.Transits.{AreStepsBy, CostSomething, IsLeftFrom, LeadsAcross, LeadsOnBy}
+use Rattle.rc_link_state.specs.HopsBy.{leads_by, hop_by_step, lower, left_from, leaves_by, arrives_at, hop_between, hops_from, hops_over, hops_by, WalksAreThose}
+use Rattle.rc_link_state.specs.Transits.{IsLeftFrom, LeadsAcross, LeadsOnBy}
 use Rattle.rc_link_state.specs.declared.transit.Attached.{Attached}
 use Rattle.rc_link_state.specs.declared.transit.Transit.{Transit}
 use Rattle.rc_link_state.proofs.HopLaws.{hops_are}

@@ -1,5 +1,5 @@
 -- The graph of an area turned round, and what is left on the way to its routers.
-use Rattle.std.proofs.Common.{refl, ◌≡◌, ap, sym, ◌∙◌, subst, ℕ, zero, suc, ◌+◌, ◌*◌, ◌^◌, ◌<◌, ◌≤◌, ◌⊎◌, inl, inr, Bool, true, false, not, cond, nat_lt, List, [], ◌∷◌, ◌++◌, map, take, drop, length, get_or, Option, Some, None, All, Contains, Result, Ok, Err, IfOk, arith, Vec}
+use Rattle.std.proofs.Common.{refl, ◌≡◌, ap, sym, ◌∙◌, subst, ℕ, zero, suc, ◌+◌, ◌*◌, ◌<◌, ◌≤◌, inl, inr, Bool, true, false, not, cond, nat_lt, List, [], ◌∷◌, map, take, drop, length, get_or, Option, Some, None, All, Contains, Result, Ok, Err, IfOk, arith, Vec}
 use Rattle.std.specs.Prelude.{slice_get, ◌==◌}
 use Rattle.std.specs.List.{slice_index_or}
 use Rattle.std.specs.declared.alloc.AllocError.{AllocError}
@@ -11,7 +11,7 @@ use Rattle.rc_shares.specs.Stretches.{IsStretch}
 use Rattle.rc_spf.specs.declared.graph.Edge.{Edge}
 use Rattle.rc_spf.specs.declared.graph.Graph.{Graph}
 use Rattle.rc_spf.specs.declared.graph.Groups.{Groups}
-use Rattle.rc_spf.specs.Steps.{AreDearest, AreGroups, AreBounded, AreLeastCosts, HasShortWalks, cost_to_enter}
+use Rattle.rc_spf.specs.Steps.{AreGroups, AreBounded, AreLeastCosts, HasShortWalks, cost_to_enter}
 use Rattle.rc_spf.specs.Weights.{first_cost}
 use Rattle.rc_spf.proofs.Entering.{first_nodes}
 use Rattle.rc_link_state.specs.declared.columns.Column.{Column}
@@ -21,7 +21,7 @@ use Rattle.rc_link_state.specs.declared.transit.Attached.{Attached}
 use Rattle.rc_link_state.specs.declared.transit.Transit.{Transit}
 use Rattle.rc_link_state.specs.Columns.{cost_at, AreSmall}
 use Rattle.rc_link_state.specs.Graph.{AreOf, CostLittle, IsTurned, area_edges, network_edges, plain_edge, edge_into, edge_out, turned}
-use Rattle.rc_link_state.specs.Inward.{IsReady, IsLeftByNone, AreParted, IsColumn, IsWanted, IsOut, IsMade, AreColumns}
+use Rattle.rc_link_state.specs.Inward.{IsReady, IsOut, IsMade, AreColumns}
 use Rattle.rc_link_state.proofs.ColumnLaws.{turned_back}
 use Rattle.rc_link_state.proofs.GraphLaws.{IsAtNetwork, kind_of}
 use Rattle.rc_link_state.proofs.Members.{In, contains_in, in_contains, of_map, in_either, in_place}

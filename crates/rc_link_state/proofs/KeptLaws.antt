@@ -1,5 +1,5 @@
 -- What is kept of an area.
-use Rattle.std.proofs.Common.{refl, ◌≡◌, ◌≢◌, ap, sym, ◌∙◌, subst, ℕ, zero, suc, ◌+◌, ◌<◌, ◌⊎◌, inl, inr, Bool, true, false, cond, ◌&&◌, nat_lt, List, [], ◌∷◌, ◌++◌, map, set, take, length, get_or, All, Contains, arith, eq-eqb, append_assoc}
+use Rattle.std.proofs.Common.{refl, ◌≡◌, ap, sym, ◌∙◌, subst, ℕ, ◌+◌, ◌<◌, inl, inr, Bool, true, false, cond, ◌&&◌, nat_lt, List, [], ◌∷◌, ◌++◌, map, set, take, length, get_or, All, Contains, arith, eq-eqb, append_assoc}
 use Rattle.std.specs.Prelude.{◌==◌}
 use Rattle.std.specs.List.{slice_index_or}
 use Rattle.std.proofs.lemmas.Bool.{cases_eq}
@@ -9,12 +9,11 @@ use Rattle.std.proofs.lemmas.List.Elements.{All-append, Contains-push_cases, Con
 use Rattle.rc_link_state.specs.declared.end.End.{End}
 use Rattle.rc_link_state.specs.declared.step.Step.{Step}
 use Rattle.rc_link_state.specs.declared.table.AreaWalks.{AreaWalks}
-use Rattle.rc_link_state.specs.declared.transit.Attached.{Attached}
 use Rattle.rc_link_state.specs.declared.transit.Transit.{Transit}
 use Rattle.rc_link_state.specs.Areas.{IsLeavingOne, HasEnds, with_end}
 use Rattle.rc_link_state.specs.Kept.{area_of}
 use Rattle.rc_link_state.specs.Graph.{AreOf, CostLittle, steps_in, transits_in}
-use Rattle.rc_link_state.proofs.Members.{In, contains_in, in_contains, of_filter}
+use Rattle.rc_link_state.proofs.Members.{contains_in, in_contains, of_filter}
 use Rattle.rc_link_state.proofs.WholeLaws.{and_true}
 
 -- ---- the steps and networks of one area among all

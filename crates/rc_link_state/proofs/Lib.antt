@@ -17,6 +17,7 @@ mod CostLaws
 mod InwardLaws
 mod KeptLaws
 mod InsideLaws
+mod SoleLaws
 mod ToldLaws
 mod ReachLaws
 mod TableLaws

@@ -1,5 +1,5 @@
 -- What is told of all areas: the least walks of a network.
-use Rattle.std.proofs.Common.{refl, ◌≡◌, ap, sym, ◌∙◌, subst, ℕ, ◌+◌, ◌<◌, ◌≤◌, ◌⊎◌, inl, inr, Bool, true, false, cond, List, [], ◌∷◌, ◌++◌, map, length, get_or, Option, Some, None, All, Contains, Result, Ok, Err, IfOk, arith, eq-eqb}
+use Rattle.std.proofs.Common.{refl, ◌≡◌, ap, sym, ◌∙◌, subst, ℕ, ◌+◌, ◌<◌, ◌≤◌, ◌⊎◌, inl, inr, Bool, true, false, cond, List, [], ◌∷◌, map, length, Option, Some, None, All, Contains, Result, Ok, Err, IfOk, arith, eq-eqb}
 use Rattle.std.specs.Prelude.{◌==◌, option_and_then, find}
 use Rattle.std.specs.List.{AllByRecursion, slice_index_or}
 use Rattle.std.specs.Ordering.{nat_cmp}
@@ -15,10 +15,9 @@ use Rattle.rc_ospf_interfaces.specs.declared.interface.OspfInterface.{OspfInterf
 use Rattle.rc_link_state.specs.declared.end.End.{End}
 use Rattle.rc_link_state.specs.declared.step.Step.{Step}
 use Rattle.rc_link_state.specs.declared.table.AreaWalks.{AreaWalks}
-use Rattle.rc_link_state.specs.declared.transit.Attached.{Attached}
 use Rattle.rc_link_state.specs.declared.transit.Transit.{Transit}
 use Rattle.rc_link_state.specs.Adjacency.{adjacencies}
-use Rattle.rc_link_state.specs.Asked.{IsAsked, IsAskedArea, AreAreas, areas_in, end_area, end_at, network_area, step_area}
+use Rattle.rc_link_state.specs.Asked.{IsAsked, IsAskedArea, AreAreas, areas_in, end_area, network_area, step_area}
 use Rattle.rc_link_state.specs.Graph.{AreOf}
 use Rattle.rc_link_state.specs.Kept.{area_of}
 use Rattle.rc_link_state.specs.Tables.{IsFit, AreWalksOf, AreWalksTo, column_of, is_of_area, none_left, nowhere, reach_in, walks_by_column, walks_in}

@@ -1,5 +1,5 @@
 -- Listed steps and networks are of the routers of the interfaces, and cost what these do.
-use Rattle.std.proofs.Common.{◌≡◌, ap, sym, ◌∙◌, subst, ℕ, ◌<◌, ◌≤◌, List, Contains}
+use Rattle.std.proofs.Common.{subst, ℕ, ◌<◌, ◌≤◌, List, Contains}
 use Rattle.std.specs.Prelude.{All}
 use Rattle.rc_topology.specs.Topology.{Topology}
 use Rattle.rc_ospf_interfaces.specs.declared.interface.OspfInterface.{OspfInterface}

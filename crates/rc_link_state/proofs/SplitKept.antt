@@ -1,5 +1,5 @@
 -- The steps and networks of a split, as areas are made of them.
-use Rattle.std.proofs.Common.{◌≡◌, sym, subst, ℕ, List, Contains}
+use Rattle.std.proofs.Common.{◌≡◌, sym, subst, ℕ, List}
 use Rattle.std.specs.Prelude.{All}
 use Rattle.rc_topology.specs.Topology.{Topology}
 use Rattle.rc_ospf_interfaces.specs.declared.interface.OspfInterface.{OspfInterface}

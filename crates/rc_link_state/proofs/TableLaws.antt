@@ -1,14 +1,13 @@
 -- The entry of an area by bisection, and what the table tells.
-use Rattle.std.proofs.Common.{refl, ◌≡◌, ap, sym, ◌∙◌, subst, ℕ, zero, suc, ◌+◌, ◌<◌, ◌≤◌, ◌⊎◌, inl, inr, Bool, true, false, cond, ◌||◌, List, [], ◌∷◌, ◌++◌, map, length, get_or, Option, Some, None, All, Contains, Result, Ok, Err, IfOk, Bor, arith, eq-eqb, ne_eqb}
+use Rattle.std.proofs.Common.{refl, ◌≡◌, ap, sym, ◌∙◌, subst, ℕ, zero, suc, ◌<◌, ◌≤◌, inl, inr, Bool, true, false, cond, ◌||◌, List, [], ◌∷◌, ◌++◌, map, length, get_or, Option, Some, None, All, Contains, Result, Ok, Err, IfOk, Bor, arith, eq-eqb, ne_eqb}
 use Rattle.std.specs.Prelude.{◌==◌, slice_get, find, MatchResult, option_and_then, IfSome}
 use Rattle.std.specs.List.{list_any, filter_map, flat_map, AllByRecursion}
 use Rattle.std.specs.List.Sorted.{IsStrictlySortedBy, IsBinarySearchResult}
-use Rattle.std.specs.Option.{option_map, option_map_or, option_copied}
+use Rattle.std.specs.Option.{option_map, option_copied}
 use Rattle.std.specs.Ordering.{nat_cmp}
 use Rattle.std.specs.declared.cmp.Ordering.TheVariants.{Less}
 use Rattle.std.specs.declared.alloc.AllocError.{AllocError}
 use Rattle.std.proofs.lemmas.Bool.{cases_lt}
-use Rattle.std.proofs.lemmas.List.{get_or_default}
 use Rattle.std.proofs.lemmas.List.Elements.{All-contains}
 use Rattle.std.proofs.lemmas.List.Sorted.{searched}
 use Rattle.std.proofs.lemmas.Map.Keys.{non_decreasing_from_sorted}
@@ -23,8 +22,7 @@ use Rattle.rc_link_state.specs.ByRouter.{of_router}
 use Rattle.rc_link_state.specs.Columns.{cost_at}
 use Rattle.rc_link_state.specs.HopsBy.{hop_on}
 use Rattle.rc_link_state.specs.Kept.{AreKept, HasSmallCosts, area_of}
-use Rattle.rc_link_state.specs.Tables.{column_of, hops_of, hops_over_place, hops_towards, is_number, is_of_area, nowhere, reach_in, walks_by_column, walks_in}
-use Rattle.rc_link_state.specs.Walks.{LeastWalks}
+use Rattle.rc_link_state.specs.Tables.{column_of, hops_of, hops_over_place, hops_towards, is_number, is_of_area, nowhere, reach_in, walks_in}
 use Rattle.rc_link_state.proofs.HopOrderLaws.{none_rise}
 
 -- ---- the place of a number among some that rise

@@ -1,5 +1,5 @@
 -- What is told by what is kept of an area: the least walks inside it.
-use Rattle.std.proofs.Common.{refl, ◌≡◌, ap, sym, ◌∙◌, subst, ℕ, zero, suc, ◌+◌, ◌<◌, ◌≤◌, ◌⊎◌, inl, inr, Bool, true, false, cond, ◌&&◌, ◌||◌, nat_lt, List, [], ◌∷◌, ◌++◌, map, filter, take, drop, length, get_or, Option, Some, None, Contains, arith, eq-eqb}
+use Rattle.std.proofs.Common.{refl, ◌≡◌, ap, sym, ◌∙◌, subst, ℕ, zero, suc, ◌+◌, ◌<◌, inl, inr, Bool, true, false, cond, ◌&&◌, ◌||◌, nat_lt, List, [], ◌∷◌, ◌++◌, map, filter, take, drop, Option, Some, None, Contains, arith, eq-eqb}
 use Rattle.std.specs.Prelude.{◌==◌, slice_get}
 use Rattle.std.specs.List.{filter_map, cons_option, flat_map, list_any, slice_index_or}
 use Rattle.std.specs.Option.{option_map, option_map_or}
@@ -7,7 +7,6 @@ use Rattle.std.proofs.Math.Decide.{ℕ_discrete}
 use Rattle.std.proofs.lemmas.Bool.Decides.{nat_tests}
 use Rattle.rc_base.specs.Lists.{in_order}
 use Rattle.rc_route.specs.Hops.{hop_cmp}
-use Rattle.rc_route.specs.declared.route.Hop.{Hop}
 use Rattle.rc_spf.specs.declared.graph.Edge.{Edge}
 use Rattle.rc_link_state.specs.declared.columns.Column.{Column}
 use Rattle.rc_link_state.specs.declared.step.Step.{Step}
@@ -18,17 +17,17 @@ use Rattle.rc_link_state.specs.Adjacency.{hop_of}
 use Rattle.rc_link_state.specs.Areas.{start_of, is_of, is_attached, attached_to, IsArea}
 use Rattle.rc_link_state.specs.ByRouter.{of_router}
 use Rattle.rc_link_state.specs.Columns.{cost_at, router_cost}
-use Rattle.rc_link_state.specs.Graph.{AreOf, area_edges, edges_by, edge_out, network_edges, plain_edge, steps_in, transits_in, turned}
-use Rattle.rc_link_state.specs.HopsBy.{leads_on, hop_on, hop_by_step, leaves_by, arrives_at, hop_between, hops_from, hops_over, hops_by, walks_by, left_from}
+use Rattle.rc_link_state.specs.Graph.{AreOf, edges_by, edge_out, network_edges, plain_edge, steps_in, transits_in, turned}
+use Rattle.rc_link_state.specs.HopsBy.{leads_on, hop_on, hop_by_step, leaves_by, arrives_at, hop_between, hops_from, hops_over, hops_by, left_from}
 use Rattle.rc_link_state.specs.Inward.{IsColumn, IsLeftByNone, AreParted}
-use Rattle.rc_link_state.specs.Tables.{column_of, hops_over_place, hops_towards, walks_by_column, walks_in}
-use Rattle.rc_link_state.specs.Towards.{AreCostsTo, IsCostFrom, IsPathTo}
+use Rattle.rc_link_state.specs.Tables.{column_of, hops_over_place, hops_towards, walks_in}
+use Rattle.rc_link_state.specs.Towards.{AreCostsTo, IsPathTo}
 use Rattle.rc_link_state.specs.Transits.{AreStepsBy, CostSomething, IsLeftFrom}
-use Rattle.rc_link_state.specs.Walks.{IsWalk, LeastWalks}
+use Rattle.rc_link_state.specs.Walks.{IsWalk}
 use Rattle.rc_link_state.proofs.ColumnLaws.{columns_are, turned_there}
 use Rattle.rc_link_state.proofs.GraphLaws.{out_there}
 use Rattle.rc_link_state.proofs.HopsByLaws.{Lowest, lowest, left_only, walks_are}
-use Rattle.rc_link_state.proofs.Members.{In, contains_in, in_contains, in_back, in_filter, in_front, in_map, place_in}
+use Rattle.rc_link_state.proofs.Members.{contains_in, in_contains, in_back, in_filter, in_front, in_map, place_in}
 
 -- ---- the hops by listed steps are those by a router's own
 

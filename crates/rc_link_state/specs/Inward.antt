@@ -1,5 +1,5 @@
 -- The graph of an area turned round, over which it is found what is left on the way to each router.
-use Rattle.std.specs.Prelude.{◌≡◌, ℕ, ◌+◌, ◌<◌, ◌≤◌, ◌⊎◌, true, false, List, [], Option, None, All, Contains, length, take, drop}
+use Rattle.std.specs.Prelude.{◌≡◌, ℕ, ◌<◌, ◌≤◌, ◌⊎◌, true, false, List, [], Option, None, All, Contains, length, take, drop}
 use Rattle.std.specs.List.{slice_index_or}
 use Rattle.rc_spf.specs.declared.graph.Edge.{Edge}
 use Rattle.rc_spf.specs.Steps.{AreDearest, AreGroups}

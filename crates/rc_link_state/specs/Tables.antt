@@ -1,5 +1,5 @@
 -- What is kept of the least walks of a network, and what it tells.
-use Rattle.std.specs.Prelude.{◌≡◌, ℕ, ◌==◌, ◌<◌, ◌≤◌, Bool, if◌then◌else◌, List, [], ◌++◌, Option, Some, option_and_then, find, slice_get}
+use Rattle.std.specs.Prelude.{ℕ, ◌==◌, ◌<◌, ◌≤◌, Bool, if◌then◌else◌, List, [], ◌++◌, Option, Some, option_and_then, find, slice_get}
 use Rattle.std.specs.Option.{option_map, option_map_or}
 use Rattle.std.specs.List.{AllByRecursion, filter_map, flat_map, slice_index_or}
 use Rattle.rc_base.specs.Lists.{in_order}

@@ -12,14 +12,14 @@ use rc_route::{Hop, Hops};
 use std::alloc::{AllocError, Global};
 
 /// The hop of a step: the neighbour's primary address, over the interface by which the step leaves.
-fn hop_of(step: &Step) -> Hop
+pub fn hop_of(step: &Step) -> Hop
     ensures { result ≡ hop_of step.now }
 {
     Hop::Via(step.gateway, Some(step.out))
 }
 
 /// Whether a step leads on at the cost: where it arrives is left what it leaves of it.
-fn leads_on(costs: &Costs, cost: u32, step: &Step) -> bool
+pub(crate) fn leads_on(costs: &Costs, cost: u32, step: &Step) -> bool
     ensures { result ≡ spec.leads_on (cost_at costs.now) cost step.now }
 {
     let left = costs.at(step.to.index());

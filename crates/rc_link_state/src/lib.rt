@@ -24,6 +24,7 @@ mod inside;
 mod leading;
 mod parts;
 mod segment;
+mod sole;
 mod split;
 mod step;
 mod table;
@@ -32,6 +33,8 @@ mod whole;
 
 pub use end::End;
 pub use hops::{add_hops, hops_in_order, put_in_order};
+pub use leading::hop_of;
+pub use sole::Sole;
 pub use step::Step;
 pub use table::WalkTable;
 use transit::{Attached, Transit};

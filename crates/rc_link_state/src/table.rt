@@ -1,11 +1,11 @@
 //! The least walks of a network.
-ghost use Rattle.std.specs.Prelude.{◌≡◌, ◌==◌, ◌<◌, ◌≤◌, ◌^◌, false, Some, IfOk, IfSome, IfNone, All, find, map, slice_get};
+ghost use Rattle.std.specs.Prelude.{◌≡◌, ◌==◌, ◌<◌, ◌≤◌, ◌^◌, false, [], ◌∷◌, Some, IfOk, IfSome, IfNone, All, find, map, slice_get};
 ghost use Rattle.std.specs.List.{list_any};
 ghost use Rattle.std.specs.List.Sorted.{IsStrictlySortedBy};
 ghost use Rattle.std.specs.Option.{option_copied};
 ghost use Rattle.std.specs.Ordering.{nat_cmp};
 ghost use Rattle.rc_route.specs.Hops.{hop_cmp};
-ghost use Rattle.rc_link_state.specs.Adjacency.{adjacencies};
+ghost use Rattle.rc_link_state.specs.Adjacency.{adjacencies, hop_of};
 ghost use Rattle.rc_link_state.specs.Kept.{HasSmallCosts, area_of};
 ghost use Rattle.rc_link_state.specs.Tables as spec;
 ghost use Rattle.rc_link_state.specs.Tables.{AreWalksOf, AreWalksTo, IsFit};
@@ -14,7 +14,7 @@ use crate::areas::{Asked, areas_of, areas_of_ends};
 use crate::by_router::ByRouter;
 use crate::columns::Column;
 use crate::split::split;
-use crate::{End, Step, Transit};
+use crate::{End, Sole, Step, Transit};
 use rc_base::{Items, RouterId};
 use rc_ospf_interfaces::OspfInterface;
 use rc_route::Hops;
@@ -218,6 +218,22 @@ impl WalkTable {
         let found = self.found(area);
         match found {
             Some(walks) => walks.cost_inside(from, to),
+            None => None,
+        }
+    }
+
+    /// The least walks from a router to another one inside an area, where it is quickly told that all of them leave by one step. Most
+    /// do; of others, and of those over transit networks, nothing is told.
+    pub fn sole(&self, from: RouterId, area: u32, to: RouterId) -> Option<Sole<'_>>
+        ensures walks { IfSome result (λ sole. spec.reach_in self.now from area to ≡ Some (record { cost = sole.cost; hops = hop_of sole.step.now ∷ [] })) }
+        ensures small { IfSome result (λ sole. sole.cost < 2 ^ 26) }
+    {
+        if to == from {
+            return None;
+        }
+        let found = self.found(area);
+        match found {
+            Some(walks) => walks.sole_inside(from, to),
             None => None,
         }
     }

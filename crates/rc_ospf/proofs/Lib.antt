@@ -13,4 +13,5 @@ mod WantedLaws
 pub mod HoldingLaws
 mod LeastWalks
 mod Existence
+mod FirstHopLaws
 mod AskedLaws

@@ -14,7 +14,7 @@ ghost use Rattle.rc_route.specs.Ways.{best_of};
 use crate::Offer;
 use crate::first_hops::FirstHops;
 use crate::ospf_router::Member;
-use crate::way::{cost_to, hops_at, hops_to};
+use crate::way::{TellsCosts, hops_at, hops_to};
 use rc_route::{Hops, SharedHops};
 use std::alloc::{AllocError, Global};
 
@@ -74,14 +74,15 @@ fn cheaper(cost: Option<u32>, best: Option<Best>, at: usize) -> Option<Best>
 }
 
 /// Where the best of the ways of a router to some offers leads; where only offers of others count, of those to these.
-pub(crate) fn best_way(member: &Member, others: bool, offers: &[Offer]) -> Option<Best>
-    ensures best { MatchOption result (best_of nat_cmp (ways_of (reach_of member.now) others member.now.router offers.now) ≡ None) (λ b. best_of nat_cmp (ways_of (reach_of member.now) others member.now.router offers.now) ≡ Some (record { cost = b.cost; hops = ways.hops_at nat_cmp b.cost (ways_of (reach_of member.now) others member.now.router offers.now) })) }
-    ensures place { IfSome result (HasBest (reach_of member.now) others member.now.router offers.now) }
+#[inline(always)]
+pub(crate) fn best_way<C: TellsCosts>(costs: &C, others: bool, offers: &[Offer]) -> Option<Best>
+    ensures best { MatchOption result (best_of nat_cmp (ways_of (reach_of (C.member costs.now)) others (C.member costs.now).router offers.now) ≡ None) (λ b. best_of nat_cmp (ways_of (reach_of (C.member costs.now)) others (C.member costs.now).router offers.now) ≡ Some (record { cost = b.cost; hops = ways.hops_at nat_cmp b.cost (ways_of (reach_of (C.member costs.now)) others (C.member costs.now).router offers.now) })) }
+    ensures place { IfSome result (HasBest (reach_of (C.member costs.now)) others (C.member costs.now).router offers.now) }
     ensures small { IfSome result (λ b. b.cost < 2 ^ 27) }
 {
     let mut best = None;
     for (index, offer) in offers.iter().enumerate() {
-        best = cheaper(cost_to(member, others, offer), best, index);
+        best = cheaper(costs.cost_to(others, offer), best, index);
     }
     best
 }
@@ -117,7 +118,23 @@ pub(crate) fn best_hops(
     hops_at(alloc, member, others, best.cost, offers)
 }
 
+/// The same of several ways that cost as much, which nothing shares yet.
+#[inline(never)]
+fn hops_of_several(
+    alloc: Global,
+    member: &Member,
+    others: bool,
+    cost: u32,
+    offers: &[Offer],
+) -> Result<SharedHops, AllocError>
+    ensures { IfOk result (λ hops. hops ≡ in_order hop_cmp (ways.hops_at nat_cmp cost (ways_of (reach_of member.now) others member.now.router offers.now))) }
+{
+    let hops = hops_at(alloc, member, others, cost, offers)?;
+    SharedHops::of(alloc, hops)
+}
+
 /// The same, which share those that are found where one way is better than all others.
+#[inline(always)]
 pub(crate) fn shared_hops(
     alloc: Global,
     first: &FirstHops,
@@ -129,8 +146,8 @@ pub(crate) fn shared_hops(
     ensures { IfOk result (λ hops. hops ≡ in_order hop_cmp (ways.hops_at nat_cmp best.cost (ways_of (reach_of first.now) others first.now.router offers.now))) }
 {
     if best.is_alone {
-        return first.hops_to(alloc, &offers[best.at]);
+        first.hops_to(alloc, &offers[best.at])
+    } else {
+        hops_of_several(alloc, first.member(), others, best.cost, offers)
     }
-    let hops = hops_at(alloc, first.member(), others, best.cost, offers)?;
-    SharedHops::of(alloc, hops)
 }

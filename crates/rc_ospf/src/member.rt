@@ -1,7 +1,8 @@
 //! What is known of routers: their areas, and the least walks from them.
-ghost use Rattle.std.specs.Prelude.{[], ◌≡◌, ◌<◌, ◌^◌, true, false, IfOk, IfSome, is_some};
+ghost use Rattle.std.specs.Prelude.{[], ◌≡◌, ◌<◌, ◌^◌, ◌∷◌, Some, true, false, IfOk, IfSome, is_some};
 ghost use Rattle.std.specs.List.{range_with_len};
 ghost use Rattle.std.specs.List.Sorted.{IsStrictlySortedBy};
+ghost use Rattle.rc_link_state.specs.Adjacency.{hop_of};
 ghost use Rattle.rc_link_state.specs.Tables.{cost_of, hops_of};
 ghost use Rattle.rc_ospf.specs.Members.{areas_in, areas_known, reach_of, AreMembersOver};
 ghost use Rattle.rc_ospf.specs.Stays.{StayFrom};
@@ -14,6 +15,7 @@ use crate::router_area::{is_in, open_areas, router_areas};
 use crate::shares::FEW_LIGHT;
 use rc_base::{Items, RouterId};
 use rc_config::Network;
+use rc_link_state::Sole;
 use rc_route::Hops;
 use rc_shares::{Makes, made_at_once};
 use std::alloc::{AllocError, Global};
@@ -63,6 +65,15 @@ impl Member<'_> {
         ensures small { IfSome result (λ c. c < 2 ^ 26) }
     {
         self.walks.table.cost(self.router, area, router)
+    }
+
+    /// The least walks to a router inside an area, where it is quickly told that all of them leave by one step.
+    #[inline]
+    pub fn sole(&self, area: u32, router: RouterId) -> Option<Sole<'_>>
+        ensures walks { IfSome result (λ sole. reach_of self.now area router ≡ Some (record { cost = sole.cost; hops = hop_of sole.step.now ∷ [] })) }
+        ensures small { IfSome result (λ sole. sole.cost < 2 ^ 26) }
+    {
+        self.walks.table.sole(self.router, area, router)
     }
 
     /// The first hops of the least walks to a router inside an area, in order; none where there are no walks. It errs only where

@@ -48,6 +48,7 @@ fn offers_itself(router: RouterId, offers: &[Offer]) -> bool
 }
 
 /// The route over the best ways to some offers; where only those of others count, over the best to these.
+#[inline(always)]
 fn best_route(
     alloc: Global,
     source: Source,
@@ -59,7 +60,7 @@ fn best_route(
     ensures short { IfOk result (λ route. IfSome route IsShortRoute) }
     ensures value { IfOk result (λ route. route ≡ option_map (internal_route_over source prefix) (best_of nat_cmp (ways_of (reach_of first.now) others first.now.router offers.now))) }
 {
-    let best = best_way(first.member(), others, offers);
+    let best = best_way(first, others, offers);
     match best {
         Some(best) => {
             let hops = shared_hops(alloc, first, others, best, offers)?;
@@ -76,6 +77,7 @@ fn best_route(
 }
 
 /// The route of a router between areas.
+#[inline(never)]
 fn inter_route(
     alloc: Global,
     first: &FirstHops,
@@ -97,6 +99,7 @@ fn inter_route(
 }
 
 /// The route of a router: inside areas before between areas, and none to a prefix that it advertises itself.
+#[inline(always)]
 fn destination_route(
     alloc: Global,
     first: &FirstHops,
@@ -116,8 +119,8 @@ fn destination_route(
     }
 }
 
-/// The first hops that a router finds at once, where so many others may be asked for: they are found one by one where there are fewer
-/// destinations than routers.
+/// The first hops that a router finds at once: those to all routers in each of its areas, where there are no fewer destinations. Else they
+/// are found one by one.
 fn first_hops<'m, 'w>(
     alloc: Global,
     member: &'m Member<'w>,
@@ -126,7 +129,8 @@ fn first_hops<'m, 'w>(
 ) -> Result<FirstHops<'m, 'w>, AllocError>
     ensures { IfOk result (λ f. f ≡ member.now) }
 {
-    let at_once = if destinations < routers { 0 } else { routers };
+    let most = member.areas(StubAreas::Kept).len().saturating_mul(routers);
+    let at_once = if destinations < most { 0 } else { routers };
     FirstHops::of(alloc, member, at_once)
 }
 

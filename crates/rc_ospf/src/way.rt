@@ -35,6 +35,33 @@ pub(crate) fn cost_to(member: &Member, others: bool, offer: &Offer) -> Option<u3
     }
 }
 
+/// Who tells the costs of the ways of a router.
+pub(crate) trait TellsCosts {
+    ghost use Rattle.std.specs.Prelude.{◌≡◌, ◌<◌, ◌^◌, IfSome};
+    ghost use Rattle.rc_ospf.specs.ByPrefix.{cost_to};
+    ghost use Rattle.rc_ospf.specs.Members.{reach_of};
+    ghost use Rattle.rc_ospf.specs.declared.ospf_router.Member.{Member as OneMember};
+
+    ghost member: { Self → OneMember };
+
+    /// The cost of the way to an offer, where there is one. Where only offers of others count, there is none to one of the router itself.
+    fn cost_to(&self, others: bool, offer: &Offer) -> Option<u32>
+        ensures value { result ≡ cost_to (reach_of (member self.now)) others (member self.now).router offer.now }
+        ensures small { IfSome result (λ c. c < 2 ^ 27) };
+}
+
+impl TellsCosts for Member<'_> {
+    ghost member = { λ m. m };
+
+    #[inline]
+    fn cost_to(&self, others: bool, offer: &Offer) -> Option<u32>
+        ensures value { result ≡ cost_to (reach_of self.now) others self.now.router offer.now }
+        ensures small { IfSome result (λ c. c < 2 ^ 27) }
+    {
+        cost_to(self, others, offer)
+    }
+}
+
 /// The first hops of the least walks to the router of an offer inside its area, in order; none where there are no walks. It errs only
 /// where memory runs out.
 pub(crate) fn hops_to(alloc: Global, member: &Member, offer: &Offer) -> Result<Hops, AllocError>

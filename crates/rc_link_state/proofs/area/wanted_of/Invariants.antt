@@ -1,4 +1,4 @@
-use Rattle.std.proofs.Common.{◌≡◌, length, take, vec_len}
+use Rattle.std.proofs.Common.{◌≡◌, take, vec_len}
 use Rattle.rc_link_state.specs.Areas.{HasEnds}
 use Rattle.rc_link_state.proofs.area.wanted_of.Given as goal
 

@@ -6,8 +6,8 @@ use Rattle.rc_ospf.proofs.BestLaws.{is_best, has_best}
 use Rattle.rc_ospf.proofs.best.best_way.Goals as goal
 
 pub returns-clause-best : goal.returns-clause-best
-returns-clause-best c =
-    let m = c.args.member.now in
+returns-clause-best g c =
+    let m = g.C.TellsCosts.member c.args.costs.now in
     let offers = c.args.offers.now in
     let none : drop c.loop-index.index offers ≡ [] = drop_all c.loop-index.index offers (omega (arith, c.loop-index-test.false)) in
     let taken : c.loop-index.best ≡ best_from (reach_of m) c.args.others m.router None 0 offers =
@@ -15,8 +15,8 @@ returns-clause-best c =
     is_best (reach_of m) c.args.others m.router offers c.loop-index.best taken
 
 pub returns-clause-place : goal.returns-clause-place
-returns-clause-place c =
-    let m = c.args.member.now in
+returns-clause-place g c =
+    let m = g.C.TellsCosts.member c.args.costs.now in
     let offers = c.args.offers.now in
     let none : drop c.loop-index.index offers ≡ [] = drop_all c.loop-index.index offers (omega (arith, c.loop-index-test.false)) in
     let taken : c.loop-index.best ≡ best_from (reach_of m) c.args.others m.router None 0 offers =
