@@ -2,3 +2,4 @@ mod LineLaws
 mod CubeLaws
 mod PartLaws
 mod StateLaws
+mod DigitLaws

@@ -1,5 +1,5 @@
 //! The part of a line that is in hand.
-ghost use Rattle.std.specs.Prelude.{◌≡◌, ◌-◌, ◌++◌, ◌↔◌, [], IfOk, IsTrue, length, take, drop};
+ghost use Rattle.std.specs.Prelude.{◌≡◌, ◌≤◌, ◌+◌, ◌-◌, ◌++◌, ◌↔◌, [], IfOk, IsTrue, length, take, drop};
 
 use std::alloc::{AllocError, Global};
 use std::marker::Model;
@@ -51,6 +51,21 @@ impl Buffer {
         ensures { self.new ≡ [] }
     {
         self.bytes.clear();
+    }
+
+    /// Whether there is room for so many bytes more.
+    pub(crate) fn has_room(&self, count: usize) -> bool
+        ensures { IsTrue result ↔ (length self.now + count ≤ 512) }
+    {
+        count <= PIECE - self.bytes.len()
+    }
+
+    /// Takes all of the bytes.
+    pub(crate) fn push(&mut self, bytes: &[u8])
+        requires { length self.old + length bytes.now ≤ 512 }
+        ensures { self.new ≡ self.old ++ bytes.now }
+    {
+        self.bytes.extend_from_slice(bytes).unwrap();
     }
 
     /// Takes as many of the bytes as there is room for, and gives the others.

@@ -7,6 +7,7 @@
 mod behind;
 mod buffer;
 mod cubes;
+mod digits;
 mod failures;
 mod idle;
 mod names;

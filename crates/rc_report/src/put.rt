@@ -12,9 +12,9 @@ ghost use Rattle.std.specs.Prelude.{◌≡◌, ◌++◌, [], codes, decimal, fla
 ghost use Rattle.rc_base.specs.Addr.{dotted};
 ghost use Rattle.rc_base.specs.Prefix.{prefix_text};
 ghost use Rattle.rc_outside.specs.Put.{IsPut, IsPutByHand};
-ghost use Rattle.rc_report.specs.Parts.{part_text, piece_text};
+ghost use Rattle.rc_report.specs.Parts.{part_text};
 
-use crate::part::{Piece, octets};
+use crate::digits::{write_address, write_number, write_prefix};
 use crate::{Buffer, Part};
 use rc_base::{Addr, Prefix};
 use rc_outside::Sink;
@@ -39,8 +39,10 @@ pub fn end_line<S: Sink>(out: &mut S, line: &mut Buffer) -> Result<(), SinkFault
     }
 }
 
-/// Puts bytes at the end of the line begun. A full piece is handed over where more bytes follow.
-fn put_bytes<S: Sink>(out: &mut S, line: &mut Buffer, bytes: &[u8]) -> Result<(), SinkFault>
+/// Puts bytes at the end of the line begun. A full piece is handed over where more bytes follow. It is seldom called, and
+/// never inlined into `put_bytes`, which saves fewer registers so.
+#[inline(never)]
+fn put_pieces<S: Sink>(out: &mut S, line: &mut Buffer, bytes: &[u8]) -> Result<(), SinkFault>
     ensures { IsPutByHand S.Sink out.old out.new result (line.old ++ bytes.now) line.new }
 {
     let mut rest = line.fill(bytes);
@@ -51,47 +53,53 @@ fn put_bytes<S: Sink>(out: &mut S, line: &mut Buffer, bytes: &[u8]) -> Result<()
     Ok(())
 }
 
-fn put_number<S: Sink>(out: &mut S, line: &mut Buffer, number: u64) -> Result<(), SinkFault>
+/// Puts bytes at the end of the line begun: most often there is room for them all.
+fn put_bytes<S: Sink>(out: &mut S, line: &mut Buffer, bytes: &[u8]) -> Result<(), SinkFault>
+    ensures { IsPutByHand S.Sink out.old out.new result (line.old ++ bytes.now) line.new }
+{
+    if bytes.is_empty() {
+        return Ok(());
+    }
+    if !line.has_room(bytes.len()) {
+        return put_pieces(out, line, bytes);
+    }
+    line.push(bytes);
+    Ok(())
+}
+
+/// Puts a number of any size.
+fn put_large<S: Sink>(out: &mut S, line: &mut Buffer, number: u64) -> Result<(), SinkFault>
     ensures { IsPutByHand S.Sink out.old out.new result (line.old ++ decimal number) line.new }
 {
     let mut digits = itoa::Buffer::new();
     put_bytes(out, line, digits.format(number).as_bytes())
 }
 
-fn put_piece<S: Sink>(out: &mut S, line: &mut Buffer, piece: &Piece) -> Result<(), SinkFault>
-    ensures { IsPutByHand S.Sink out.old out.new result (line.old ++ piece_text piece.now) line.new }
+fn put_number<S: Sink>(out: &mut S, line: &mut Buffer, number: u64) -> Result<(), SinkFault>
+    ensures { IsPutByHand S.Sink out.old out.new result (line.old ++ decimal number) line.new }
 {
-    match piece {
-        Piece::Text(text) => put_bytes(out, line, text),
-        Piece::Number(number) => put_number(out, line, *number),
+    if number >= 1000 {
+        return put_large(out, line, number);
     }
-}
-
-fn put_pieces<S: Sink>(out: &mut S, line: &mut Buffer, pieces: &[Piece]) -> Result<(), SinkFault>
-    ensures { IsPutByHand S.Sink out.old out.new result (line.old ++ flat_map piece_text pieces.now) line.new }
-{
-    for piece in pieces {
-        put_piece(out, line, piece)?;
-    }
-    Ok(())
+    let mut text = [0; 18];
+    let end = write_number(&mut text, 0, number as u32);
+    put_bytes(out, line, &text[..end])
 }
 
 fn put_address<S: Sink>(out: &mut S, line: &mut Buffer, addr: Addr) -> Result<(), SinkFault>
     ensures { IsPutByHand S.Sink out.old out.new result (line.old ++ dotted addr) line.new }
 {
-    let pieces = octets(addr);
-    put_pieces(out, line, &pieces)
+    let mut text = [0; 18];
+    let end = write_address(&mut text, addr);
+    put_bytes(out, line, &text[..end])
 }
 
 fn put_prefix<S: Sink>(out: &mut S, line: &mut Buffer, prefix: &Prefix) -> Result<(), SinkFault>
     ensures { IsPutByHand S.Sink out.old out.new result (line.old ++ prefix_text prefix.now) line.new }
 {
-    put_address(out, line, prefix.network())?;
-    put_pieces(
-        out,
-        line,
-        &[Piece::Text(b"/"), Piece::Number(u64::from(prefix.len()))],
-    )
+    let mut text = [0; 18];
+    let end = write_prefix(&mut text, prefix);
+    put_bytes(out, line, &text[..end])
 }
 
 fn put_part<S: Sink>(out: &mut S, line: &mut Buffer, part: &Part) -> Result<(), SinkFault>

@@ -1,5 +1,5 @@
 //! The routes of a router, as lines.
-ghost use Rattle.std.specs.Prelude.{◌≡◌, ◌++◌, flat_map};
+ghost use Rattle.std.specs.Prelude.{◌≡◌, ◌++◌, codes, flat_map};
 ghost use Rattle.rc_outside.specs.Put.{IsPut, IsPutByHand};
 ghost use Rattle.rc_report.specs.Parts.{part_text};
 ghost use Rattle.rc_report.specs.RouteText.{hop_text, interface_name, route_head, route_line, router_line, router_name, routes_text, source_text};
@@ -12,18 +12,19 @@ use rc_config::Network;
 use rc_outside::Sink;
 use rc_route::{Hop, Route, Source, Table};
 
-fn source_text(source: Source) -> &'static [u8]
-    ensures { result.now ≡ source_text source }
+/// The source of a route, with a blank on each side.
+fn source_between(source: Source) -> &'static [u8]
+    ensures { result.now ≡ codes " " ++ source_text source ++ codes " " }
 {
     match source {
-        Source::Connected => b"connected",
-        Source::Static => b"static",
-        Source::Ebgp => b"ebgp",
-        Source::Ibgp => b"ibgp",
-        Source::Ospf => b"ospf",
-        Source::OspfIa => b"ospf-ia",
-        Source::OspfE1 => b"ospf-e1",
-        Source::OspfE2 => b"ospf-e2",
+        Source::Connected => b" connected ",
+        Source::Static => b" static ",
+        Source::Ebgp => b" ebgp ",
+        Source::Ibgp => b" ibgp ",
+        Source::Ospf => b" ospf ",
+        Source::OspfIa => b" ospf-ia ",
+        Source::OspfE1 => b" ospf-e1 ",
+        Source::OspfE2 => b" ospf-e2 ",
     }
 }
 
@@ -72,14 +73,12 @@ fn hop_parts<'a>(net: &'a Network, hop: &Hop) -> [Part<'a>; 4]
 
 /// What stands before the hops of a route.
 #[tactic(auto, unfolding(crate::specs::RouteText::route_head))]
-fn head_parts(route: &Route) -> [Part<'static>; 7]
+fn head_parts(route: &Route) -> [Part<'static>; 5]
     ensures { flat_map part_text result ≡ route_head route.now }
 {
     [
         Part::Prefix(route.prefix),
-        Part::Text(b" "),
-        Part::Text(source_text(route.source)),
-        Part::Text(b" "),
+        Part::Text(source_between(route.source)),
         Part::Number(u64::from(route.distance)),
         Part::Text(b"/"),
         Part::Number(u64::from(route.metric)),

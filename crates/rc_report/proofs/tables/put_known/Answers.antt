@@ -1,4 +1,4 @@
-use Rattle.std.proofs.Common.{rules, ◌≡◌, ◌∙◌, ap, flat_map}
+use Rattle.std.proofs.Common.{◌≡◌, ◌∙◌, ap, flat_map}
 use Rattle.rc_outside.proofs.PutLaws.{put_then, put_stopped}
 use Rattle.rc_report.specs.RouteText.{route_line, routes_text}
 use Rattle.rc_report.specs.StateText.{part_lines}

@@ -1,10 +1,7 @@
-use Rattle.std.proofs.Common.{rules, ◌≡◌, Ok, subst, flat_map, arith}
+use Rattle.std.proofs.Common.{rules, ◌≡◌, arith}
 use Rattle.std.specs.Arc.{arc_value}
-use Rattle.rc_outside.specs.Put.{IsPut}
 use Rattle.rc_outside.proofs.PutLaws.{each_put, each_stopped}
-use Rattle.rc_report.specs.RouteText.{route_line}
 use Rattle.rc_report.specs.StateText.{part_lines}
-use Rattle.rc_report.specs.declared.put.SinkFault.{SinkFault}
 use Rattle.rc_report.proofs.tables.put_parts.Goals as goal
 
 pub returns-in_err-put_table : goal.returns-in_err-put_table
