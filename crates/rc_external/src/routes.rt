@@ -24,15 +24,26 @@ fn source_by_type(metric_type: MetricType) -> Source
     }
 }
 
-/// The route over a way.
+/// The hops of the last route that is made.
+fn last_hops(made: &Table) -> Option<&SharedHops> {
+    let last = made.as_slice().last();
+    match last {
+        Some(route) => Some(&route.hops),
+        None => None,
+    }
+}
+
+/// The route over a way. It shares the hops of another route, where these are the same.
 fn external_route_over(
     alloc: Global,
+    beside: Option<&SharedHops>,
     prefix: Prefix,
     way: &ExternalWay,
 ) -> Result<Route, AllocError>
     ensures { IfOk result (λ route. route ≡ spec.external_route_over prefix (as_way way.now)) }
 {
-    let hops = SharedHops::of(alloc, hops_in_order(alloc, way.hops.as_slice())?)?;
+    let hops = hops_in_order(alloc, way.hops.as_slice())?;
+    let hops = SharedHops::beside(alloc, beside, hops)?;
     Ok(Route {
         prefix,
         source: source_by_type(way.cost.metric_type),
@@ -42,22 +53,23 @@ fn external_route_over(
     })
 }
 
-/// The route to the prefix of a row, where a way leads there.
+/// The route to the prefix of a row, where a way leads there. It shares the hops of another route, where these are the same.
 #[tactic(auto, using(crate::proofs::WayLaws::best_way_is))]
 fn external_route_to(
     alloc: Global,
+    beside: Option<&SharedHops>,
     paths: &BoundaryIndex<'_>,
     row: &ExternalRow,
 ) -> Result<Option<Route>, AllocError>
     ensures { IfOk result (λ route. route ≡ spec.external_route_to paths.now row.now) }
 {
     match best_external_way(alloc, paths, row.externals.as_slice())? {
-        Some(way) => Ok(Some(external_route_over(alloc, row.prefix, &way)?)),
+        Some(way) => Ok(Some(external_route_over(alloc, beside, row.prefix, &way)?)),
         None => Ok(None),
     }
 }
 
-/// The routes to the prefixes of some rows.
+/// The routes to the prefixes of some rows. Each shares the hops of the one before it, where these are the same.
 fn routes_over(
     alloc: Global,
     paths: &BoundaryIndex<'_>,
@@ -67,7 +79,7 @@ fn routes_over(
 {
     let mut routes = Items::new(alloc);
     for row in rows {
-        if let Some(route) = external_route_to(alloc, paths, row)? {
+        if let Some(route) = external_route_to(alloc, last_hops(&routes), paths, row)? {
             routes.push(route)?;
         }
     }

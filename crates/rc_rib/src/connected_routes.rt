@@ -84,15 +84,16 @@ fn hops_over(alloc: Global, members: &[IfId]) -> Result<Hops, AllocError>
     Ok(hops)
 }
 
-/// The connected route of a prefix over interfaces.
+/// The connected route of a prefix over interfaces. It shares the hops of another route, where these are the same.
 pub(crate) fn connected_route(
     alloc: Global,
+    beside: Option<&SharedHops>,
     prefix: Prefix,
     members: &[IfId],
 ) -> Result<Route, AllocError>
     ensures { IfOk result (λ route. route ≡ route_of_members prefix members.now) }
 {
-    let hops = SharedHops::of(alloc, hops_over(alloc, members)?)?;
+    let hops = SharedHops::beside(alloc, beside, hops_over(alloc, members)?)?;
     Ok(Route {
         prefix,
         source: Source::Connected,

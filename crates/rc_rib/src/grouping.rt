@@ -80,15 +80,17 @@ fn hops_by_prefix(alloc: Global, lines: &[ActiveLine]) -> Result<PrefixMap<Stati
     Ok(rows)
 }
 
-/// The static route of a prefix.
+/// The static route of a prefix. It shares the hops of another route, where these are the same.
 pub(crate) fn static_route(
     alloc: Global,
+    beside: Option<&SharedHops>,
     prefix: Prefix,
     known: &StaticHops,
 ) -> Result<Route, AllocError>
     ensures { IfOk result (λ route. route ≡ route_of_hops prefix known.now) }
 {
-    let hops = SharedHops::of(alloc, hops_in_order(alloc, known.hops.as_slice())?)?;
+    let hops = hops_in_order(alloc, known.hops.as_slice())?;
+    let hops = SharedHops::beside(alloc, beside, hops)?;
     Ok(Route {
         prefix,
         source: Source::Static,

@@ -5,10 +5,11 @@ ghost use Rattle.rc_rib.specs.Merging.{KeepsWhole, front_prefix, merged, which};
 ghost use Rattle.rc_rib.specs.Next as spec;
 
 use crate::merging::{better, front_prefix, take_front, which};
+use crate::sharing::last_hops;
 use rc_base::Items;
 use rc_bgp::learned_route;
 use rc_pieces::Listed;
-use rc_route::{Best, Route, SharedHops, Table};
+use rc_route::{Best, Route, Table};
 use std::alloc::{AllocError, Global};
 use std::cmp::Ordering;
 use std::collections::VecDeque;
@@ -55,15 +56,6 @@ fn place(left: &mut VecDeque<Route>, made: &mut Table, route: Route) -> Result<(
             Ordering::Equal => return push_better(left, made, route),
             Ordering::Greater => return made.push(route),
         }
-    }
-}
-
-/// The hops of the last route that is made.
-fn last_hops(made: &Table) -> Option<&SharedHops> {
-    let last = made.as_slice().last();
-    match last {
-        Some(route) => Some(&route.hops),
-        None => None,
     }
 }
 

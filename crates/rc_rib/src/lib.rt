@@ -19,6 +19,7 @@ mod next;
 mod outside;
 mod rows;
 mod settled;
+mod sharing;
 
 pub use alone::all_read_nothing;
 pub use inputs::{Earlier, Inputs};

@@ -6,8 +6,9 @@ ghost use Rattle.rc_rib.specs.Offers.{route_of_hops, route_of_members};
 
 use crate::connected_routes::connected_route;
 use crate::grouping::{StaticHops, static_route};
+use crate::sharing::last_hops;
 use rc_base::{IfId, Items, Prefix};
-use rc_route::{Route, Table};
+use rc_route::{Route, SharedHops, Table};
 use std::alloc::{AllocError, Global};
 use std::collections::BTreeMap;
 
@@ -15,15 +16,26 @@ use std::collections::BTreeMap;
 pub(crate) trait MakesRoute: Drop {
     ghost route: { Cidr → Self → declared.Route };
 
-    /// The route of the prefix. It errs only where memory runs out.
-    fn into_route(self, alloc: Global, prefix: Prefix) -> Result<Route, AllocError>
+    /// The route of the prefix. What makes it here shares the hops of another route, where these are the same. It errs only where memory
+    /// runs out, or as many share them as can be counted.
+    fn into_route(
+        self,
+        alloc: Global,
+        beside: Option<&SharedHops>,
+        prefix: Prefix,
+    ) -> Result<Route, AllocError>
         ensures { IfOk result (λ made. made ≡ route prefix self) };
 }
 
 impl MakesRoute for Route {
     ghost route = { λ p r. r };
 
-    fn into_route(self, _alloc: Global, _prefix: Prefix) -> Result<Route, AllocError> {
+    fn into_route(
+        self,
+        _alloc: Global,
+        _beside: Option<&SharedHops>,
+        _prefix: Prefix,
+    ) -> Result<Route, AllocError> {
         Ok(self)
     }
 }
@@ -31,20 +43,30 @@ impl MakesRoute for Route {
 impl MakesRoute for StaticHops {
     ghost route = { route_of_hops };
 
-    fn into_route(self, alloc: Global, prefix: Prefix) -> Result<Route, AllocError> {
-        static_route(alloc, prefix, &self)
+    fn into_route(
+        self,
+        alloc: Global,
+        beside: Option<&SharedHops>,
+        prefix: Prefix,
+    ) -> Result<Route, AllocError> {
+        static_route(alloc, beside, prefix, &self)
     }
 }
 
 impl MakesRoute for Items<IfId> {
     ghost route = { route_of_members };
 
-    fn into_route(self, alloc: Global, prefix: Prefix) -> Result<Route, AllocError> {
-        connected_route(alloc, prefix, self.as_slice())
+    fn into_route(
+        self,
+        alloc: Global,
+        beside: Option<&SharedHops>,
+        prefix: Prefix,
+    ) -> Result<Route, AllocError> {
+        connected_route(alloc, beside, prefix, self.as_slice())
     }
 }
 
-/// The routes of rows, in order of prefix.
+/// The routes of rows, in order of prefix. Each shares the hops of the one before it, where these are the same.
 pub(crate) fn routes_of_rows<V: MakesRoute>(
     alloc: Global,
     rows: BTreeMap<Prefix, V>,
@@ -53,7 +75,8 @@ pub(crate) fn routes_of_rows<V: MakesRoute>(
 {
     let mut routes = Items::new(alloc);
     for (prefix, value) in rows {
-        routes.push(value.into_route(alloc, prefix)?)?;
+        let route = value.into_route(alloc, last_hops(&routes), prefix)?;
+        routes.push(route)?;
     }
     Ok(routes)
 }
