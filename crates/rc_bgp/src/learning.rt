@@ -1,5 +1,5 @@
 //! The routes that best paths give.
-ghost use Rattle.std.specs.Prelude.{◌≡◌, IfOk, OnOk, Some, map};
+ghost use Rattle.std.specs.Prelude.{◌≡◌, ◌≢◌, [], IfErr, IfOk, OnOk, Some, map};
 ghost use Rattle.std.specs.BTreeSet.{keys, insert_key};
 ghost use Rattle.std.specs.List.{fold};
 ghost use Rattle.std.specs.Ordering.{nat_cmp};
@@ -50,16 +50,18 @@ fn all_hops(alloc: Global, best: &Best) -> Result<Hops, AllocError>
     gateways(alloc, set)
 }
 
-/// The next hop of a best path and those beside it. It errs only where memory runs out.
+/// The next hop of a best path and those beside it. It errs only where there are some.
 #[inline(always)]
-#[tactic(auto, using(crate::proofs::LearningLaws::no_further))]
+#[tactic(auto, using(crate::proofs::LearningLaws::no_further, crate::proofs::LearningLaws::some_further))]
 fn hops_of_best(alloc: Global, best: &Best) -> Result<Hops, AllocError>
-    ensures { IfOk result (λ hops. hops ≡ spec.hops_of_best best.now) }
+    ensures value { IfOk result (λ hops. hops ≡ spec.hops_of_best best.now) }
+    ensures err { IfErr result (λ error. best.now.also ≢ []) }
 {
     if best.also.is_empty() {
         return Ok(Hops::one(Hop::Via(best.path.next_hop(), None)));
     }
-    all_hops(alloc, best)
+    let hops = all_hops(alloc, best)?;
+    Ok(hops)
 }
 
 /// The route of a best path over its next hops.
