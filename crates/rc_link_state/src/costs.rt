@@ -1,5 +1,6 @@
 //! Costs, of which some are none.
-ghost use Rattle.std.specs.Prelude.{◌≡◌, ℕ, ◌<◌, ◌^◌, [], IfOk, IfSome, All};
+ghost use Rattle.std.specs.Prelude.{◌≡◌, ◌==◌, ℕ, ◌<◌, ◌^◌, false, [], IfOk, IfSome, All};
+ghost use Rattle.std.specs.Option.{option_map_or};
 ghost use Rattle.rc_link_state.specs.Columns.{cost_at, AreSmall};
 ghost use Rattle.rc_link_state.specs.Costs as spec;
 
@@ -68,6 +69,18 @@ impl Costs {
         match code {
             Some(code) => told(*code),
             None => None,
+        }
+    }
+
+    /// Whether the cost at a place is this one.
+    #[inline]
+    pub(crate) fn is_at(&self, place: usize, cost: u32) -> bool
+        ensures { result ≡ option_map_or (λ c. c == cost) (cost_at self.now place) false }
+    {
+        let code = self.codes.as_slice().get(place);
+        match code {
+            Some(code) => *code == cost && cost != NEVER,
+            None => false,
         }
     }
 }

@@ -51,11 +51,7 @@ pub(crate) fn add_hops_on(
 fn has_left(costs: &Costs, left: u32, router: RouterId) -> bool
     ensures { result ≡ spec.has_left (cost_at costs.now) left router }
 {
-    let found = costs.at(router.index());
-    match found {
-        Some(cost) => cost == left,
-        None => false,
-    }
+    costs.is_at(router.index(), left)
 }
 
 /// Whether a router leaves by an interface, of which so much is to be left for so much in all.
