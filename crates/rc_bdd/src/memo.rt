@@ -8,8 +8,8 @@ use crate::operation::Operation;
 use rc_nodes::{NEVER, Ref};
 use std::alloc::{AllocError, Global};
 
-/// How many bits number the places of a memo.
-const PLACE_BITS: u32 = 14;
+/// How many bits number the places of a memo: it fits beside what else is at hand, and one of four or sixteen times as many finds little more.
+const PLACE_BITS: u32 = 12;
 
 /// How many operations a memo notes.
 pub const PLACES: usize = 1 << PLACE_BITS;

@@ -24,10 +24,13 @@ use std::alloc::Global;
 use std::thread::Threads;
 
 /// So much work, or less, is left to one worker: to start threads, each with a memo of its own, takes longer.
-const FEW: usize = 1_024;
+const FEW: usize = 2_048;
 
 /// So many routes are as much work as a position.
 const ROUTES_A_POSITION: usize = 8;
+
+/// A line of an access list is as much work as so many positions.
+const POSITIONS_A_LINE: usize = 8;
 
 /// How many lines the access lists of a router have.
 fn lines_in(file: &RouterText) -> usize {
@@ -51,6 +54,7 @@ fn work_at(plane: &Plane<'_>, router: RouterId) -> usize {
         Some(file) => lines_in(file),
         None => 0,
     };
+    let lines = lines.saturating_mul(POSITIONS_A_LINE);
     lines.saturating_add(routes / ROUTES_A_POSITION)
 }
 

@@ -124,7 +124,7 @@ abbrev pub own_rest : ℕ → List Mark → List Mark
 own_rest depth [] = []
 own_rest depth (m ∷ ms) = cond (m.prefix.len == depth) ms (m ∷ ms)
 
-network_low : (d : ℕ) (p : Cidr) → IsCidr p → p.len ≡ d → p.network ≡ leading_bits d p.network * 2 ^ (32 - d)
+pub network_low : (d : ℕ) (p : Cidr) → IsCidr p → p.len ≡ d → p.network ≡ leading_bits d p.network * 2 ^ (32 - d)
 network_low d p i e = subst (λ n. p.network ≡ leading_bits n p.network * 2 ^ (32 - n)) e i.no_host_bits
 
 network_least : (d : ℕ) (n : ℕ) → leading_bits d n * 2 ^ (32 - d) ≤ n

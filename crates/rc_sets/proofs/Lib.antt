@@ -17,4 +17,5 @@ mod NumberLaws
 mod StepLaws
 mod StretchLaws
 mod TableLaws
+mod WholeLaws
 mod WildcardLaws

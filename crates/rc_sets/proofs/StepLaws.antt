@@ -42,7 +42,7 @@ part_of d known es gs t s k ek rest er left el =
       set = subst (λ ms. IsSetOf d s.way k ms t) (sym others) (subst (λ b. IsSetOf d s.way b (own_rest d (marks x es)) t) (sym decides) (rest_set d s.way known (marks x es) t s.on s.set));
     }
 
-and_true : (a b : Bool) → (a && b) ≡ true → (a ≡ true) × (b ≡ true)
+pub and_true : (a b : Bool) → (a && b) ≡ true → (a ≡ true) × (b ≡ true)
 and_true true true e = (refl, refl)
 and_true true false e = absurd (cc e)
 and_true false b e = absurd (cc e)
@@ -55,7 +55,7 @@ says_same true true false e = absurd (cc e)
 says_same true false true e = absurd (cc e)
 says_same false gives known e = refl
 
-decided_same : (known : Bool) (ms : List Mark) (bits : ℕ → Bool) → list_all (λ (m : Mark). beq m.gives known) ms ≡ true → decided known ms bits ≡ known
+pub decided_same : (known : Bool) (ms : List Mark) (bits : ℕ → Bool) → list_all (λ (m : Mark). beq m.gives known) ms ≡ true → decided known ms bits ≡ known
 decided_same known [] bits e = refl
 decided_same known (m ∷ ms) bits e =
     let (here, later) = and_true (beq m.gives known) (list_all (λ (n : Mark). beq n.gives known) ms) e in
@@ -63,7 +63,7 @@ decided_same known (m ∷ ms) bits e =
 
 -- ---- whether routes are left that say otherwise
 
-each_says : (x : Hop) (known : Bool) (es : List Entry) → length (prefixes_over x es) ≡ cond known (length es) 0 → list_all (λ (m : Mark). beq m.gives known) (marks x es) ≡ true
+pub each_says : (x : Hop) (known : Bool) (es : List Entry) → length (prefixes_over x es) ≡ cond known (length es) 0 → list_all (λ (m : Mark). beq m.gives known) (marks x es) ≡ true
 each_says x true es same = each_gives x es same
 each_says x false es same = none_gives x es same
 

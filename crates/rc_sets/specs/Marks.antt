@@ -1,5 +1,5 @@
 -- Marked prefixes in order, as they are looked up bit by bit.
-use Rattle.std.specs.Prelude.{◌≡◌, ℕ, zero, suc, ◌+◌, ◌-◌, ◌*◌, ◌^◌, ◌<◌, ◌≤◌, ◌⊎◌, ◌==◌, Bool, true, false, cond, List, [], ◌∷◌, filter, map}
+use Rattle.std.specs.Prelude.{◌≡◌, ℕ, zero, suc, ◌+◌, ◌-◌, ◌*◌, ◌^◌, ◌<◌, ◌≤◌, ◌⊎◌, ◌==◌, Bool, true, false, cond, List, [], ◌∷◌, filter, length, map}
 use Rattle.std.specs.List.{AllByRecursion, list_any}
 use Rattle.rc_base.specs.Addr.{leading_bits}
 use Rattle.rc_base.specs.Prefix.{Cidr, IsCidr}
@@ -120,3 +120,11 @@ entries_below depth (e ∷ es) = cond (e.prefix.len == depth) es (e ∷ es)
 abbrev pub prefixes_below : ℕ → List Cidr → List Cidr
 prefixes_below depth [] = []
 prefixes_below depth (p ∷ ps) = cond (p.len == depth) ps (p ∷ ps)
+
+-- ---- all that is on a way
+
+-- routes of one length, as many as there are prefixes of it on a way of so many bits: so each address there is in one of them
+pub record IsWhole (depth : ℕ) (entries : List Entry) : Type 0 where
+  pub len : ℕ
+  pub alike : AllByRecursion (λ (e : Entry). e.prefix.len ≡ len) entries
+  pub many : length entries ≡ 2 ^ (len - depth)

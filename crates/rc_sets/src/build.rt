@@ -6,7 +6,8 @@ ghost use Rattle.rc_fib.specs.declared.entry.Entry.{Entry as Row};
 ghost use Rattle.rc_trees.specs.Trees.{Tree};
 ghost use Rattle.rc_nodes.specs.Seats.{IsFull, IsSeatOf, Keeps, SeatKnows, SeatView};
 ghost use Rattle.rc_trees.specs.Combine.{constant};
-ghost use Rattle.rc_sets.specs.Marks.{address_bit, begins, entries_below, known_at, prefixes_below, IsHopSet, MayBuild};
+ghost use Rattle.std.specs.List.{AllByRecursion};
+ghost use Rattle.rc_sets.specs.Marks.{address_bit, begins, entries_below, known_at, prefixes_below, IsHopSet, IsWhole, MayBuild};
 
 use rc_base::{Addr, Prefix};
 use rc_bdd::Work;
@@ -88,6 +89,30 @@ fn is_settled(routes: usize, given: usize, known: bool) -> bool
     if known { given == routes } else { given == 0 }
 }
 
+/// Whether all of these routes are of one length.
+fn are_alike(routes: &[Entry], len: u8) -> bool
+    ensures { result ≡ true → AllByRecursion (λ (e : Row). e.prefix.len ≡ len) routes.now }
+{
+    for route in routes {
+        if route.prefix.len() != len {
+            return false;
+        }
+    }
+    true
+}
+
+/// Whether these routes are told at once to hold all that is on a way of so many bits.
+fn is_whole(routes: &[Entry], depth: u8) -> bool
+    ensures { result ≡ true → IsWhole depth routes.now }
+{
+    let [first, ..] = routes else {
+        return false;
+    };
+    let len = first.prefix.len();
+    let further = len.saturating_sub(depth);
+    routes.len() as u64 == 1 << further && are_alike(routes, len)
+}
+
 /// The set of a constant.
 fn constant_of(known: bool) -> Ref
     ensures { (seat : SeatView) → SeatKnows seat result.index (constant known) }
@@ -117,6 +142,9 @@ pub(crate) fn build<M: May>(
     let left = prefixes_below(given, depth);
     if is_settled(rest.len(), left.len(), known) {
         return Ok(constant_of(known));
+    }
+    if is_settled(rest.len(), left.len(), !known) && is_whole(rest, depth) {
+        return Ok(constant_of(!known));
     }
     let middle = first_one(rest, depth);
     let (zeros, ones) = rest.split_at(middle);

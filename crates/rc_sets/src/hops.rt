@@ -62,7 +62,7 @@ fn prefixes_over(
     requires { AreStretches stretches.now entries.now }
     ensures { IfOk result (λ given. given.items ≡ prefixes_over hop.now entries.now) }
 {
-    let mut given = Vec::new(alloc);
+    let mut given = Vec::with_capacity(alloc, entries.len())?;
     let mut left = entries;
     for length in stretches {
         let (stretch, rest) = left.split_at(*length);

@@ -4,12 +4,18 @@ use Rattle.rc_trees.specs.Trees.{Tree}
 use Rattle.rc_nodes.specs.Seats.{SeatKnows}
 use Rattle.rc_sets.specs.Marks.{IsHopSet}
 use Rattle.rc_sets.proofs.StepLaws.{ArePoints, AreSides, part_of, settled_part, is_short, turns, given_turns, may_low, may_high, may_branch, built_result, is_something}
+use Rattle.rc_sets.proofs.WholeLaws.{whole_part}
 use Rattle.rc_sets.proofs.build.+build.Goals as goal
 
 pub returns-then-is_settled-clause-built : goal.returns-then-is_settled-clause-built
 returns-then-is_settled-clause-built g t c = λ u s.
     let p = part_of c.args.depth c.args.known c.args.entries.now c.args.given.now u s c.known_at-known.result c.known_at-known.ensures c.entries_below-rest.result.now c.entries_below-rest.ensures c.prefixes_below-left.result.now c.prefixes_below-left.ensures in
     subst (SeatKnows c.args.work.now c.constant_of.result.index) (sym (settled_part c.args.depth c.known_at-known.result c.entries_below-rest.result.now c.prefixes_below-left.result.now u p (sym c.is_settled.ensures ∙ c.if-is_settled.true))) (c.constant_of.ensures c.args.work.now)
+
+pub returns-then-is_whole-clause-built : goal.returns-then-is_whole-clause-built
+returns-then-is_whole-clause-built g t c = λ u s.
+    let p = part_of c.args.depth c.args.known c.args.entries.now c.args.given.now u s c.known_at-known.result c.known_at-known.ensures c.entries_below-rest.result.now c.entries_below-rest.ensures c.prefixes_below-left.result.now c.prefixes_below-left.ensures in
+    subst (SeatKnows c.args.work.now c.constant_of-then-is_whole.result.index) (sym (whole_part c.args.depth c.known_at-known.result c.entries_below-rest.result.now c.prefixes_below-left.result.now u p (sym c.is_settled-2.ensures ∙ c.if-is_settled-2.true) (c.is_whole.ensures c.if-is_whole.true))) (c.constant_of-then-is_whole.ensures c.args.work.now)
 
 pub first_one-middle-requires-clause-place : goal.first_one-middle-requires-clause-place
 first_one-middle-requires-clause-place g t c =

@@ -6,7 +6,7 @@ use Rattle.rc_sets.proofs.hops.prefixes_over.Goals as goal
 
 pub loop-length-init : goal.loop-length-init
 loop-length-init c = record {
-  found = ap (λ ps. ps ++ prefixes_over c.args.hop.now c.args.entries.now) c.new-given.ensures.items;
+  found = ap (λ ps. ps ++ prefixes_over c.args.hop.now c.args.entries.now) c.in_ok-given.ensures.items;
   others = c.requires;
 }
 
