@@ -1,5 +1,5 @@
 //! The routes of one router (RFC 2328, sections 16.1 and 16.2).
-ghost use Rattle.std.specs.Prelude.{◌≡◌, IfOk, IfSome, All};
+ghost use Rattle.std.specs.Prelude.{◌≡◌, ◌++◌, is_some, IfOk, OnOk, All, option_to_list};
 ghost use Rattle.std.specs.List.{filter_map, list_any};
 ghost use Rattle.std.specs.Option.{option_map};
 ghost use Rattle.std.specs.Ordering.{nat_cmp};
@@ -47,76 +47,89 @@ fn offers_itself(router: RouterId, offers: &[Offer]) -> bool
     false
 }
 
-/// The route over the best ways to some offers; where only those of others count, over the best to these.
+/// Puts the route over the best ways to some offers, if there is one; where only those of others count, over the best to these. It says
+/// whether there is one.
 #[inline(always)]
-fn best_route(
+fn put_best(
+    routes: &mut Filling<Route>,
     alloc: Global,
     source: Source,
     prefix: Prefix,
     first: &FirstHops,
     others: bool,
     offers: &[Offer],
-) -> Result<Option<Route>, AllocError>
-    ensures short { IfOk result (λ route. IfSome route IsShortRoute) }
-    ensures value { IfOk result (λ route. route ≡ option_map (internal_route_over source prefix) (best_of nat_cmp (ways_of (reach_of first.now) others first.now.router offers.now))) }
+) -> Result<bool, AllocError>
+    requires { All IsShortRoute routes.old }
+    ensures found { IfOk result (λ found. found ≡ is_some (best_of nat_cmp (ways_of (reach_of first.now) others first.now.router offers.now))) }
+    ensures value { OnOk result (routes.new ≡ routes.old ++ option_to_list (option_map (internal_route_over source prefix) (best_of nat_cmp (ways_of (reach_of first.now) others first.now.router offers.now)))) }
+    ensures short { OnOk result (All IsShortRoute routes.new) }
 {
     let best = best_way(first, others, offers);
     match best {
         Some(best) => {
             let hops = shared_hops(alloc, first, others, best, offers)?;
-            Ok(Some(Route {
+            let route = Route {
                 prefix,
                 source,
                 distance: 110,
                 metric: best.cost,
                 hops,
-            }))
+            };
+            routes.push(alloc, route)?;
+            Ok(true)
         }
-        None => Ok(None),
+        None => Ok(false),
     }
 }
 
-/// The route of a router between areas.
+/// Puts the route of a router between areas, if it has one.
 #[inline(never)]
-fn inter_route(
+fn put_inter(
+    routes: &mut Filling<Route>,
     alloc: Global,
     first: &FirstHops,
     destination: &Destination,
-) -> Result<Option<Route>, AllocError>
-    ensures short { IfOk result (λ route. IfSome route IsShortRoute) }
-    ensures value { IfOk result (λ route. route ≡ option_map (internal_route_over OspfIa destination.now.prefix) (inter (known Kept first.now) destination.now.summaries)) }
+) -> Result<(), AllocError>
+    requires { All IsShortRoute routes.old }
+    ensures value { OnOk result (routes.new ≡ routes.old ++ option_to_list (option_map (internal_route_over OspfIa destination.now.prefix) (inter (known Kept first.now) destination.now.summaries))) }
+    ensures short { OnOk result (All IsShortRoute routes.new) }
 {
     let in_backbone = is_in_backbone(first.member().areas(StubAreas::Kept));
     let offers = summary_offers(in_backbone, &destination.summaries);
-    best_route(
+    put_best(
+        routes,
         alloc,
         Source::OspfIa,
         destination.prefix,
         first,
         in_backbone,
         offers,
-    )
+    )?;
+    Ok(())
 }
 
-/// The route of a router: inside areas before between areas, and none to a prefix that it advertises itself.
+/// Puts the route of a router, if it has one: inside areas before between areas, and none to a prefix that it advertises itself.
 #[inline(always)]
-fn destination_route(
+fn put_destination(
+    routes: &mut Filling<Route>,
     alloc: Global,
     first: &FirstHops,
     destination: &Destination,
-) -> Result<Option<Route>, AllocError>
-    ensures value { IfOk result (λ route. route ≡ destination_route (known Kept first.now) destination.now) }
-    ensures short { IfOk result (λ route. IfSome route IsShortRoute) }
+) -> Result<(), AllocError>
+    requires { All IsShortRoute routes.old }
+    ensures value { OnOk result (routes.new ≡ routes.old ++ option_to_list (destination_route (known Kept first.now) destination.now)) }
+    ensures short { OnOk result (All IsShortRoute routes.new) }
 {
     let inside = destination.inside.as_slice();
     if offers_itself(first.member().router, inside) {
-        return Ok(None);
+        return Ok(());
     }
     let prefix = destination.prefix;
-    match best_route(alloc, Source::Ospf, prefix, first, false, inside)? {
-        Some(route) => Ok(Some(route)),
-        None => inter_route(alloc, first, destination),
+    let found = put_best(routes, alloc, Source::Ospf, prefix, first, false, inside)?;
+    if found {
+        return Ok(());
     }
+    put_inter(routes, alloc, first, destination)
 }
 
 /// The first hops that a router finds at once: those to all routers in each of its areas, where there are no fewer destinations. Else they
@@ -147,9 +160,7 @@ pub(crate) fn routes_of(
     let first = first_hops(alloc, member, destinations.len(), routers)?;
     let mut routes = Filling::with_room(alloc, destinations.len())?;
     for destination in destinations {
-        if let Some(route) = destination_route(alloc, &first, destination)? {
-            routes.push(alloc, route)?;
-        }
+        put_destination(&mut routes, alloc, &first, destination)?;
     }
     routes.finish(alloc)
 }
