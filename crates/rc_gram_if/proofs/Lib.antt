@@ -1,2 +1,3 @@
+mod FrontLaws
 mod TypedLaws
 mod OwnLaws

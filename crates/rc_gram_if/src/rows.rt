@@ -15,7 +15,7 @@ use rc_config::{
     type_of_name,
 };
 use rc_openings::{
-    LineRefusal, Words, left_behind, number_in, prefix_under, word_addr, word_interface, word_mask,
+    LineRefusal, Words, number_in, prefix_under, word_addr, word_interface, word_mask,
 };
 
 fn is_host_byte(byte: u8) -> bool
@@ -84,10 +84,14 @@ fn is_plain_number(text: &[u8]) -> bool
 fn is_numbered(word: &[u8], text: &[u8]) -> bool
     ensures { result ≡ typed.is_numbered word.now text.now }
 {
-    match left_behind(word, text) {
-        Some(rest) => is_plain_number(rest),
-        None => false,
+    if text.len() < word.len() {
+        return false;
     }
+    let (front, rest) = text.split_at(word.len());
+    if front != word {
+        return false;
+    }
+    is_plain_number(rest)
 }
 
 /// Whether a name is plainly that of a main interface of one of the commonest types.

@@ -4,6 +4,7 @@ mod PartLemmas
 mod GroupLemmas
 mod DecisiveLemmas
 mod ValueLemmas
+mod AddressLemmas
 pub mod ApartLemmas
 pub mod FrontLemmas
 pub mod ReadingLaws

@@ -45,6 +45,11 @@ address_of_parts _ = None
 abbrev pub address_of : List ℕ → Option ℕ
 address_of word = address_of_parts (slice_split (λ b. b == 46) word)
 
+-- the octet that the first of several parts is
+abbrev pub first_octet : List (List ℕ) → Option ℕ
+first_octet (a ∷ b ∷ parts) = octet a
+first_octet _ = None
+
 -- the length of the mask that a word is
 abbrev pub mask_length_of : List ℕ → Option ℕ
 mask_length_of word = option_and_then mask_len (address_of word)

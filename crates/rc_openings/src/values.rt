@@ -1,7 +1,7 @@
 //! The values that words write.
-ghost use Rattle.std.specs.Prelude.{◌≡◌, ◌==◌, ◌≤◌, [], ◌∷◌, Some, None, IfSome, MatchOption};
+ghost use Rattle.std.specs.Prelude.{◌≡◌, ◌==◌, ◌≤◌, [], ◌∷◌, drop, Some, None, IfSome, MatchOption};
 ghost use Rattle.std.specs.List.{slice_split, position};
-ghost use Rattle.rc_openings.specs.Values.{digits_from, at_most, digits_up_to, number_of, number_within, octet, address_of, mask_length_of, prefix_from, prefix_of, area_of, begins_with_letter, interface_of};
+ghost use Rattle.rc_openings.specs.Values.{digits_from, at_most, number_of, number_within, octet, first_octet, address_of, mask_length_of, prefix_from, prefix_of, area_of, begins_with_letter, interface_of};
 
 use rc_base::{Addr, Name, Prefix, len_of};
 
@@ -23,22 +23,14 @@ fn digits_value(digits: &[u8], limit: u32) -> Option<u32>
     Some(value as u32)
 }
 
-/// The same of one to so many digits.
-fn short_value(digits: &[u8], most: usize, limit: u32) -> Option<u32>
-    ensures small { IfSome result (λ n. n ≤ limit) }
-    ensures value { result ≡ digits_up_to most limit digits.now }
-{
-    if digits.is_empty() || digits.len() > most {
-        return None;
-    }
-    digits_value(digits, limit)
-}
-
 /// The number that a word is: one to ten decimal digits, which may begin with zeros, of a number below 2^32.
 pub fn word_u32(word: &[u8]) -> Option<u32>
     ensures { result ≡ number_of word.now }
 {
-    short_value(word, 10, u32::MAX)
+    if word.is_empty() || word.len() > 10 {
+        return None;
+    }
+    digits_value(word, u32::MAX)
 }
 
 /// The number that a word is, where it is from `low` to `high`.
@@ -52,11 +44,77 @@ pub fn number_in(low: u32, high: u32, word: &[u8]) -> Option<u32>
     }
 }
 
+/// The octet that one digit is.
+#[inline(always)]
+fn one_digit(ones: u8) -> Option<u32>
+    ensures small { IfSome result (λ n. n ≤ 255) }
+    ensures value { result ≡ octet (ones ∷ []) }
+{
+    if !ones.is_ascii_digit() {
+        return None;
+    }
+    Some(u32::from(ones - b'0'))
+}
+
+/// The octet that two digits are.
+#[inline(always)]
+fn two_digits(tens: u8, ones: u8) -> Option<u32>
+    ensures small { IfSome result (λ n. n ≤ 255) }
+    ensures value { result ≡ octet (tens ∷ ones ∷ []) }
+{
+    if !tens.is_ascii_digit() || !ones.is_ascii_digit() {
+        return None;
+    }
+    Some(10 * u32::from(tens - b'0') + u32::from(ones - b'0'))
+}
+
+/// The octet that three digits are.
+#[inline(always)]
+fn three_digits(hundreds: u8, tens: u8, ones: u8) -> Option<u32>
+    ensures small { IfSome result (λ n. n ≤ 255) }
+    ensures value { result ≡ octet (hundreds ∷ tens ∷ ones ∷ []) }
+{
+    if !hundreds.is_ascii_digit() || !tens.is_ascii_digit() || !ones.is_ascii_digit() {
+        return None;
+    }
+    let front = 10 * u32::from(hundreds - b'0') + u32::from(tens - b'0');
+    let value = 10 * front + u32::from(ones - b'0');
+    if value > 255 {
+        return None;
+    }
+    Some(value)
+}
+
+/// The octet that these digits are.
 fn octet_value(digits: &[u8]) -> Option<u32>
     ensures value { result ≡ octet digits.now }
     ensures small { IfSome result (λ n. n ≤ 255) }
 {
-    short_value(digits, 3, 255)
+    match digits {
+        [ones] => one_digit(*ones),
+        [tens, ones] => two_digits(*tens, *ones),
+        [hundreds, tens, ones] => three_digits(*hundreds, *tens, *ones),
+        _ => None,
+    }
+}
+
+/// The octet that stands before the first dot of a word, and what stands behind that dot. An octet has at most three
+/// digits, so a dot further on isn't looked for.
+#[inline(always)]
+fn octet_and_rest(word: &[u8]) -> Option<(u32, &[u8])>
+    ensures small { IfSome result (λ found. found.0 ≤ 255) }
+    ensures value { MatchOption result (first_octet (slice_split (λ b. b == 46) word.now) ≡ None)
+        (λ found. (first_octet (slice_split (λ b. b == 46) word.now) ≡ Some found.0)
+        × (drop 1 (slice_split (λ b. b == 46) word.now) ≡ slice_split (λ b. b == 46) found.1.now)) }
+{
+    match word {
+        [ones, b'.', rest @ ..] => Some((one_digit(*ones)?, rest)),
+        [tens, ones, b'.', rest @ ..] => Some((two_digits(*tens, *ones)?, rest)),
+        [hundreds, tens, ones, b'.', rest @ ..] => {
+            Some((three_digits(*hundreds, *tens, *ones)?, rest))
+        }
+        _ => None,
+    }
 }
 
 fn mark_at(word: &[u8], mark: u8) -> Option<usize>
@@ -76,43 +134,22 @@ pub fn before_mark(word: &[u8], mark: u8) -> Option<(&[u8], &[u8])>
     }
 }
 
-/// The four parts of a word between dots.
-fn four_parts(word: &[u8]) -> Option<(&[u8], &[u8], &[u8], &[u8])>
-    ensures { MatchOption result (address_of word.now ≡ None)
-        (λ p. slice_split (λ b. b == 46) word.now ≡ p.0.now ∷ p.1.now ∷ p.2.now ∷ p.3.now ∷ []) }
-{
-    let Some((first, rest)) = before_mark(word, b'.') else {
-        return None;
-    };
-    let Some((second, rest)) = before_mark(rest, b'.') else {
-        return None;
-    };
-    let Some((third, fourth)) = before_mark(rest, b'.') else {
-        return None;
-    };
-    match before_mark(fourth, b'.') {
-        None => Some((first, second, third, fourth)),
-        Some(_) => None,
-    }
-}
-
 /// The address that a word is: four decimal parts of one to three digits, each at most 255, with dots between them.
 pub fn word_addr(word: &[u8]) -> Option<Addr>
     ensures { result ≡ address_of word.now }
 {
-    let Some((first, second, third, fourth)) = four_parts(word) else {
+    let Some((first, rest)) = octet_and_rest(word) else {
         return None;
     };
-    match (
-        octet_value(first),
-        octet_value(second),
-        octet_value(third),
-        octet_value(fourth),
-    ) {
-        (Some(a), Some(b), Some(c), Some(d)) => {
-            Some(Addr::new(((a * 256 + b) * 256 + c) * 256 + d))
-        }
-        _ => None,
+    let Some((second, rest)) = octet_and_rest(rest) else {
+        return None;
+    };
+    let Some((third, rest)) = octet_and_rest(rest) else {
+        return None;
+    };
+    match octet_value(rest) {
+        Some(fourth) => Some(Addr::new(((first * 256 + second) * 256 + third) * 256 + fourth)),
+        None => None,
     }
 }
 
