@@ -10,7 +10,9 @@ use rc_bdd::{SetError, Work};
 use rc_jobs::Flow;
 use rc_nodes::{May, Nodes, Ref};
 
-/// What stands somewhere, with all that positions with something fresh send there.
+/// What stands somewhere, with all that positions with something fresh send there. It is part of the loops over positions, of which most get
+/// nothing.
+#[inline(always)]
 pub fn gathered_set<M: May>(
     work: &mut Work<M>,
     nodes: &Nodes<M>,
