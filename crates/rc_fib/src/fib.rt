@@ -3,6 +3,7 @@ use crate::Entry;
 use crate::layers::resolve_table;
 use crate::longest::hops_of;
 use crate::resolve::some_interface;
+use crate::taken::take_table;
 use rc_base::{Addr, Items, Prefix};
 use rc_route::{Hop, Parts, Route};
 use rc_trie::longest_in;
@@ -48,6 +49,16 @@ impl Fib {
         ensures in_order { IfOk result IsFib }
     {
         let entries = resolve_table(alloc, table)?;
+        Ok(Fib { entries })
+    }
+
+    /// Prepares a table, which it takes over: what no other list shares of it needn't be copied. It errs only where memory runs out.
+    pub fn taking(alloc: Global, table: Parts<Route>) -> Result<Fib, AllocError>
+        requires { IsTable table }
+        ensures value { IfOk result (λ f. f ≡ spec.resolved table) }
+        ensures in_order { IfOk result IsFib }
+    {
+        let entries = take_table(alloc, table)?;
         Ok(Fib { entries })
     }
 

@@ -56,7 +56,7 @@ fn push_over(
 }
 
 /// Puts the entries of a part of a table at the end, where other entries give the hops of the gateways.
-fn push_part(
+pub(crate) fn push_part(
     made: &mut Items<Entry>,
     alloc: Global,
     entries: &[Entry],
@@ -131,7 +131,7 @@ fn is_plain_part(routes: &[Route]) -> bool
 }
 
 /// Whether each hop of a table says where a packet goes, with no look-up.
-fn is_plain_table(parts: &[Arc<Table, Global>]) -> bool
+pub(crate) fn is_plain_table(parts: &[Arc<Table, Global>]) -> bool
     ensures { result ≡ list_all (λ r. list_all is_resolved r.hops) (joined_parts parts.now) }
 {
     for part in parts {

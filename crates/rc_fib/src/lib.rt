@@ -13,6 +13,7 @@ mod layers;
 mod longest;
 mod resolve;
 mod seen;
+mod taken;
 
 pub use entry::Entry;
 pub use fib::Fib;

@@ -41,7 +41,7 @@ impl Model for Tables {
     ghost invariant = { λ t. ArePrepared t.fibs };
 }
 
-/// The tables of a state, prepared for look-ups. What each router knows is dropped behind its table.
+/// The tables of a state, prepared for look-ups. Each takes over that of its router, whose paths are dropped behind it.
 fn fibs_of(alloc: Global, state: State) -> Result<Items<Fib>, AllocError>
     requires { All IsRouterState state }
     ensures value { IfOk result (λ fibs. fibs ≡ map (λ (s : Known). resolved s.table) state) }
@@ -50,7 +50,7 @@ fn fibs_of(alloc: Global, state: State) -> Result<Items<Fib>, AllocError>
     let mut fibs = Vec::with_capacity(alloc, state.len())?;
     let mut left = VecDeque::from(state.into_vec());
     while let Some(known) = left.pop_front() {
-        fibs.push(Fib::of(alloc, &known.table)?)?;
+        fibs.push(Fib::taking(alloc, known.into_table())?)?;
     }
     Ok(Items::from_vec(fibs))
 }

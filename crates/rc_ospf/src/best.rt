@@ -73,11 +73,10 @@ fn cheaper(cost: Option<u32>, best: Option<Best>, at: usize) -> Option<Best>
     }
 }
 
-/// Where the best of the ways of a router to some offers leads; where only offers of others count, of those to these.
-#[inline(always)]
-pub(crate) fn best_way<C: TellsCosts>(costs: &C, others: bool, offers: &[Offer]) -> Option<Best>
-    ensures best { MatchOption result (best_of nat_cmp (ways_of (reach_of (C.member costs.now)) others (C.member costs.now).router offers.now) ≡ None) (λ b. best_of nat_cmp (ways_of (reach_of (C.member costs.now)) others (C.member costs.now).router offers.now) ≡ Some (record { cost = b.cost; hops = ways.hops_at nat_cmp b.cost (ways_of (reach_of (C.member costs.now)) others (C.member costs.now).router offers.now) })) }
-    ensures place { IfSome result (HasBest (reach_of (C.member costs.now)) others (C.member costs.now).router offers.now) }
+/// The best of the ways to some offers, taken one after another.
+#[inline(never)]
+fn best_of_many<C: TellsCosts>(costs: &C, others: bool, offers: &[Offer]) -> Option<Best>
+    ensures value { result ≡ spec.best_from (reach_of (C.member costs.now)) others (C.member costs.now).router None 0 offers.now }
     ensures small { IfSome result (λ b. b.cost < 2 ^ 27) }
 {
     let mut best = None;
@@ -85,6 +84,33 @@ pub(crate) fn best_way<C: TellsCosts>(costs: &C, others: bool, offers: &[Offer])
         best = cheaper(costs.cost_to(others, offer), best, index);
     }
     best
+}
+
+/// The same of a way or two, which most prefixes have.
+#[inline(always)]
+fn best_of_few<C: TellsCosts>(costs: &C, others: bool, offers: &[Offer]) -> Option<Best>
+    ensures value { result ≡ spec.best_from (reach_of (C.member costs.now)) others (C.member costs.now).router None 0 offers.now }
+    ensures small { IfSome result (λ b. b.cost < 2 ^ 27) }
+{
+    match offers {
+        [] => None,
+        [only] => cheaper(costs.cost_to(others, only), None, 0),
+        [first, second] => {
+            let best = cheaper(costs.cost_to(others, first), None, 0);
+            cheaper(costs.cost_to(others, second), best, 1)
+        }
+        _ => best_of_many(costs, others, offers),
+    }
+}
+
+/// Where the best of the ways of a router to some offers leads; where only offers of others count, of those to these.
+#[inline(always)]
+pub(crate) fn best_way<C: TellsCosts>(costs: &C, others: bool, offers: &[Offer]) -> Option<Best>
+    ensures best { MatchOption result (best_of nat_cmp (ways_of (reach_of (C.member costs.now)) others (C.member costs.now).router offers.now) ≡ None) (λ b. best_of nat_cmp (ways_of (reach_of (C.member costs.now)) others (C.member costs.now).router offers.now) ≡ Some (record { cost = b.cost; hops = ways.hops_at nat_cmp b.cost (ways_of (reach_of (C.member costs.now)) others (C.member costs.now).router offers.now) })) }
+    ensures place { IfSome result (HasBest (reach_of (C.member costs.now)) others (C.member costs.now).router offers.now) }
+    ensures small { IfSome result (λ b. b.cost < 2 ^ 27) }
+{
+    best_of_few(costs, others, offers)
 }
 
 /// The cost of the best way of a router to some offer; where only offers of others count, to one of these.

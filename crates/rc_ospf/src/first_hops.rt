@@ -1,39 +1,48 @@
 //! The costs and first hops of the least walks from a router, found once for all routers in its areas.
-ghost use Rattle.std.specs.Prelude.{◌≡◌, ◌<◌, ◌^◌, true, [], ◌∷◌, Some, IfOk, IfSome, OnOk, All};
+ghost use Rattle.std.specs.Prelude.{◌≡◌, ◌<◌, ◌^◌, ◌-◌, ◌++◌, true, [], ◌∷◌, Some, IfOk, IfSome, OnOk, length, slice_get};
 ghost use Rattle.std.specs.List.Sorted.{IsStrictlySortedBy};
-ghost use Rattle.rc_ospf.specs.FirstHops.{IsTowards};
+ghost use Rattle.rc_ospf.specs.FirstHops.{AreFound, AreLast, IsTowards};
 ghost use Rattle.rc_ospf.specs.BestOffers.{hops_to};
 ghost use Rattle.rc_link_state.specs.Adjacency.{hop_of};
 ghost use Rattle.rc_link_state.specs.Tables.{cost_of};
 ghost use Rattle.rc_ospf.specs.ByPrefix.{cost_to};
 ghost use Rattle.rc_ospf.specs.Members.{reach_of};
+ghost use Rattle.rc_ospf.specs.declared.ospf_router.Member.{Member as OneMember};
 ghost use Rattle.rc_route.specs.Hops.{hop_cmp};
 
-use crate::Offer;
 use crate::member::StubAreas;
 use crate::ospf_router::Member;
 use crate::way::TellsCosts;
+use crate::{Offer, RouterArea};
 use rc_base::{Items, RouterId};
 use rc_link_state::{Sole, Step};
 use rc_route::{Hop, Hops, SharedHops};
 use std::alloc::{AllocError, Global};
 use std::marker::Model;
 
-/// The cost and the first hops of the least walks to a router inside an area, where there are any.
+/// The cost of the least walks to a router inside an area, where there are any, and where their first hops stand.
+#[derive(Clone, Copy)]
 pub(crate) struct Towards {
     pub area: u32,
     pub router: RouterId,
     pub cost: Option<u32>,
-    pub hops: SharedHops,
+    /// The place of its first hops among those that were found.
+    pub place: usize,
 }
 
-/// By a function of its own, so that what holds them drops each by one call.
-impl Drop for Towards {
+/// What is found of the least walks from a router.
+pub(crate) struct FoundHops {
+    /// By area of the router, and in each by router.
+    towards: Items<Towards>,
+    /// The first hops that routers side by side have in common.
+    hops: Items<SharedHops>,
+}
+
+/// By a function of its own, so that what holds them drops them by one call.
+impl Drop for FoundHops {
     fn drop(self) {
-        let Towards {
-            area: _,
-            router: _,
-            cost: _,
+        let FoundHops {
+            towards: _,
             hops: _,
         } = self;
     }
@@ -42,8 +51,7 @@ impl Drop for Towards {
 /// A router with the first hops of the least walks from it, which many of its routes share; seen as the router.
 pub(crate) struct FirstHops<'m, 'w> {
     member: &'m Member<'w>,
-    /// By area of the router, and in each by router.
-    found: Items<Towards>,
+    found: FoundHops,
     /// How many routers stand there in each area.
     routers: usize,
 }
@@ -60,24 +68,14 @@ impl<'m, 'w> Drop for FirstHops<'m, 'w> {
 }
 
 impl<'m, 'w> Model for FirstHops<'m, 'w> {
-    ghost use Rattle.std.specs.Prelude.{All};
-    ghost use Rattle.rc_ospf.specs.FirstHops.{IsTowards};
+    ghost use Rattle.rc_ospf.specs.FirstHops.{AreFound};
     ghost use Rattle.rc_ospf.specs.declared.ospf_router.Member.{Member};
 
     ghost Value = { Member };
 
     ghost view = { λ f. f.member.now };
 
-    ghost invariant = { λ f. All (IsTowards f.member.now) f.found };
-}
-
-/// The hops of the last that were found.
-fn last_hops(found: &Items<Towards>) -> Option<&SharedHops> {
-    let last = found.as_slice().last();
-    match last {
-        Some(last) => Some(&last.hops),
-        None => None,
-    }
+    ghost invariant = { λ f. AreFound f.member.now f.found };
 }
 
 /// Whether hops are that of a step alone.
@@ -90,72 +88,175 @@ fn are_of(hops: &[Hop], step: &Step) -> bool
     }
 }
 
-/// The hop of a step, which shares the last hops that were found where these are the same.
-fn hops_by(alloc: Global, last: Option<&SharedHops>, step: &Step) -> Result<SharedHops, AllocError>
-    ensures { IfOk result (λ hops. hops ≡ hop_of step.now ∷ []) }
-{
-    match last {
-        Some(last) if are_of(last.as_slice(), step) => last.share(),
-        _ => SharedHops::of(alloc, Hops::one(rc_link_state::hop_of(step))),
+impl FoundHops {
+    /// Nothing is found, and there is room for so many routers.
+    fn with_room(alloc: Global, routers: usize) -> Result<FoundHops, AllocError>
+        ensures { IfOk result (λ found. (found.towards ≡ []) × (found.hops ≡ [])) }
+    {
+        let towards = Items::with_room(alloc, routers)?;
+        Ok(FoundHops {
+            towards,
+            hops: Items::new(alloc),
+        })
+    }
+
+    /// The place of the last hops, if there are some.
+    #[inline]
+    fn last_place(&self) -> usize
+        ensures { result ≡ length self.now.hops - 1 }
+    {
+        self.hops.len().saturating_sub(1)
+    }
+
+    /// Whether the last hops are that of a step alone.
+    #[inline]
+    fn ends_by(&self, step: &Step) -> bool
+        ensures { result ≡ true → slice_get self.now.hops (length self.now.hops - 1) ≡ Some (hop_of step.now ∷ []) }
+    {
+        let last = self.hops.as_slice().get(self.last_place());
+        match last {
+            Some(last) => are_of(last.as_slice(), step),
+            None => false,
+        }
+    }
+
+    /// Whether the last hops are these.
+    fn ends_with(&self, hops: &Hops) -> bool
+        ensures { result ≡ true → slice_get self.now.hops (length self.now.hops - 1) ≡ Some hops.now }
+    {
+        let last = self.hops.as_slice().get(self.last_place());
+        match last {
+            Some(last) => last.are(hops),
+            None => false,
+        }
+    }
+
+    /// What is found at a place, where that is of the router of an offer inside its area.
+    #[inline]
+    fn towards(&self, place: usize, offer: &Offer) -> Option<&Towards>
+        ensures { (m : OneMember) → AreFound m self.now → IfSome result (λ t. IsTowards m self.now.hops t.now × (t.now.area ≡ offer.now.area) × (t.now.router ≡ offer.now.router)) }
+    {
+        let found = self.towards.as_slice().get(place);
+        match found {
+            Some(found) if found.area == offer.area() && found.router == offer.router() => Some(
+                found,
+            ),
+            _ => None,
+        }
+    }
+
+    /// The first hops that are found at a place, where that is of the router of an offer inside its area.
+    #[inline]
+    fn hops_towards(&self, place: usize, offer: &Offer) -> Option<&SharedHops>
+        ensures { (m : OneMember) → AreFound m self.now → IfSome result (λ h. (h.now ≡ hops_to (reach_of m) offer.now) × IsStrictlySortedBy hop_cmp h.now) }
+    {
+        match self.towards(place, offer) {
+            Some(found) => self.hops.as_slice().get(found.place),
+            None => None,
+        }
+    }
+
+    /// Puts hops behind the others.
+    #[inline(never)]
+    fn push_hops(&mut self, alloc: Global, hops: Hops) -> Result<(), AllocError>
+        ensures towards { self.new.towards ≡ self.old.towards }
+        ensures hops { OnOk result (self.new.hops ≡ self.old.hops ++ hops ∷ []) }
+    {
+        let shared = SharedHops::of(alloc, hops)?;
+        self.hops.push(shared)
+    }
+
+    /// Sees to it that the last hops are that of a step alone.
+    #[inline]
+    fn end_by(&mut self, alloc: Global, step: &Step) -> Result<(), AllocError>
+        ensures towards { self.new.towards ≡ self.old.towards }
+        ensures last { OnOk result (AreLast self.old.hops self.new.hops (hop_of step.now ∷ [])) }
+    {
+        if self.ends_by(step) {
+            return Ok(());
+        }
+        self.push_hops(alloc, Hops::one(rc_link_state::hop_of(step)))
+    }
+
+    /// Sees to it that the last hops are these.
+    fn end_with(&mut self, alloc: Global, hops: Hops) -> Result<(), AllocError>
+        ensures towards { self.new.towards ≡ self.old.towards }
+        ensures last { OnOk result (AreLast self.old.hops self.new.hops hops) }
+    {
+        if self.ends_with(&hops) {
+            return Ok(());
+        }
+        self.push_hops(alloc, hops)
+    }
+
+    /// Puts what walks to a router inside an area cost at the end, whose first hops are the last ones.
+    #[inline]
+    fn push_towards(
+        &mut self,
+        area: u32,
+        router: RouterId,
+        cost: Option<u32>,
+    ) -> Result<(), AllocError>
+        ensures hops { self.new.hops ≡ self.old.hops }
+        ensures towards { OnOk result (self.new.towards ≡ self.old.towards ++ record { area = area; router = router; cost = cost; place = length self.old.hops - 1 } ∷ []) }
+    {
+        let place = self.last_place();
+        self.towards.push(Towards {
+            area,
+            router,
+            cost,
+            place,
+        })
     }
 }
 
 /// Puts what walks to a router inside an area cost, and their first hop, at the end, where all of them leave by one step.
+#[inline]
 fn push_sole(
-    found: &mut Items<Towards>,
+    found: &mut FoundHops,
     alloc: Global,
     member: &Member,
     area: u32,
     router: RouterId,
     sole: Sole,
 ) -> Result<(), AllocError>
-    requires found { All (IsTowards member.now) found.old }
+    requires found { AreFound member.now found.old }
     requires walks { reach_of member.now area router ≡ Some (record { cost = sole.cost; hops = hop_of sole.step.now ∷ [] }) }
     requires small { sole.cost < 2 ^ 26 }
-    ensures { OnOk result (All (IsTowards member.now) found.new) }
+    ensures { OnOk result (AreFound member.now found.new) }
 {
-    let hops = hops_by(alloc, last_hops(found), sole.step)?;
-    found.push(Towards {
-        area,
-        router,
-        cost: Some(sole.cost),
-        hops,
-    })
+    found.end_by(alloc, sole.step)?;
+    found.push_towards(area, router, Some(sole.cost))
 }
 
 /// The same for any walks.
 #[inline(never)]
 fn push_any(
-    found: &mut Items<Towards>,
+    found: &mut FoundHops,
     alloc: Global,
     member: &Member,
     area: u32,
     router: RouterId,
 ) -> Result<(), AllocError>
-    requires { All (IsTowards member.now) found.old }
-    ensures { OnOk result (All (IsTowards member.now) found.new) }
+    requires { AreFound member.now found.old }
+    ensures { OnOk result (AreFound member.now found.new) }
 {
     let cost = member.cost_to(area, router);
     let hops = member.hops_to(alloc, area, router)?;
-    let hops = SharedHops::beside(alloc, last_hops(found), hops)?;
-    found.push(Towards {
-        area,
-        router,
-        cost,
-        hops,
-    })
+    found.end_with(alloc, hops)?;
+    found.push_towards(area, router, cost)
 }
 
 /// Puts the cost and the first hops of the least walks to a router inside an area at the end.
 fn push_towards(
-    found: &mut Items<Towards>,
+    found: &mut FoundHops,
     alloc: Global,
     member: &Member,
     area: u32,
     router: RouterId,
 ) -> Result<(), AllocError>
-    requires { All (IsTowards member.now) found.old }
-    ensures { OnOk result (All (IsTowards member.now) found.new) }
+    requires { AreFound member.now found.old }
+    ensures { OnOk result (AreFound member.now found.new) }
 {
     match member.sole(area, router) {
         Some(sole) => push_sole(found, alloc, member, area, router, sole),
@@ -165,14 +266,14 @@ fn push_towards(
 
 /// Puts the first hops to each of so many routers inside an area at the end.
 fn push_area(
-    found: &mut Items<Towards>,
+    found: &mut FoundHops,
     alloc: Global,
     member: &Member,
     area: u32,
     routers: usize,
 ) -> Result<(), AllocError>
-    requires { All (IsTowards member.now) found.old }
-    ensures { OnOk result (All (IsTowards member.now) found.new) }
+    requires { AreFound member.now found.old }
+    ensures { OnOk result (AreFound member.now found.new) }
 {
     for index in 0..routers {
         push_towards(found, alloc, member, area, RouterId::at(index))?;
@@ -181,11 +282,11 @@ fn push_area(
 }
 
 /// The first hops to each of so many routers inside each area of a router.
-fn all_towards(alloc: Global, member: &Member, routers: usize) -> Result<Items<Towards>, AllocError>
-    ensures { IfOk result (All (IsTowards member.now)) }
+fn all_towards(alloc: Global, member: &Member, routers: usize) -> Result<FoundHops, AllocError>
+    ensures { IfOk result (AreFound member.now) }
 {
     let areas = member.areas(StubAreas::Kept);
-    let mut found = Items::with_room(alloc, areas.len().saturating_mul(routers))?;
+    let mut found = FoundHops::with_room(alloc, areas.len().saturating_mul(routers))?;
     for own in areas {
         push_area(&mut found, alloc, member, own.area, routers)?;
     }
@@ -200,6 +301,19 @@ fn hops_anew(alloc: Global, member: &Member, offer: &Offer) -> Result<SharedHops
 {
     let hops = member.hops_to(alloc, offer.area(), offer.router())?;
     SharedHops::of(alloc, hops)
+}
+
+/// Where the first hops to a router inside one of some areas stand, where there are so many routers in each.
+#[inline(never)]
+fn place_in(areas: &[RouterArea], routers: usize, area: u32, router: RouterId) -> usize {
+    let mut start: usize = 0;
+    for own in areas {
+        if own.area == area {
+            return start.saturating_add(router.index());
+        }
+        start = start.saturating_add(routers);
+    }
+    start
 }
 
 impl<'m, 'w> FirstHops<'m, 'w> {
@@ -226,41 +340,23 @@ impl<'m, 'w> FirstHops<'m, 'w> {
         self.member
     }
 
-    /// Where the first hops to a router inside an area stand, if they do.
-    #[inline]
+    /// Where the first hops to a router inside an area stand, if they do. Most routers are in one area.
+    #[inline(always)]
     fn place(&self, area: u32, router: RouterId) -> usize {
-        let mut start: usize = 0;
-        for own in self.member.areas(StubAreas::Kept) {
-            if own.area == area {
-                return start.saturating_add(router.index());
-            }
-            start = start.saturating_add(self.routers);
-        }
-        start
-    }
-
-    /// What is found of the router of an offer inside its area, if it is.
-    #[inline]
-    fn towards(&self, offer: &Offer) -> Option<&Towards>
-        ensures { IfSome result (λ t. IsTowards self.now t.now × (t.now.area ≡ offer.now.area) × (t.now.router ≡ offer.now.router)) }
-    {
-        let place = self.place(offer.area(), offer.router());
-        let found = self.found.as_slice().get(place);
-        match found {
-            Some(found) if found.area == offer.area() && found.router == offer.router() => Some(
-                found,
-            ),
-            _ => None,
+        match self.member.areas(StubAreas::Kept) {
+            [only] if only.area == area => router.index(),
+            areas => place_in(areas, self.routers, area, router),
         }
     }
 
     /// The cost of the least walks to the router of an offer inside its area, below 2^26, where there are any.
-    #[inline]
+    #[inline(always)]
     fn walks_cost(&self, offer: &Offer) -> Option<u32>
         ensures value { result ≡ cost_of (reach_of self.now offer.now.area offer.now.router) }
         ensures small { IfSome result (λ c. c < 2 ^ 26) }
     {
-        match self.towards(offer) {
+        let place = self.place(offer.area(), offer.router());
+        match self.found.towards(place, offer) {
             Some(found) => found.cost,
             None => self.member.cost_to(offer.area(), offer.router()),
         }
@@ -273,8 +369,9 @@ impl<'m, 'w> FirstHops<'m, 'w> {
         ensures value { IfOk result (λ hops. hops ≡ hops_to (reach_of self.now) offer.now) }
         ensures in_order { IfOk result (IsStrictlySortedBy hop_cmp) }
     {
-        match self.towards(offer) {
-            Some(found) => found.hops.share(),
+        let place = self.place(offer.area(), offer.router());
+        match self.found.hops_towards(place, offer) {
+            Some(hops) => hops.share(),
             None => hops_anew(alloc, self.member, offer),
         }
     }

@@ -97,6 +97,7 @@ impl<T: Again> Filling<T> {
     }
 
     /// Makes a piece of what stands behind the full ones.
+    #[inline(never)]
     fn close(&mut self, alloc: Global) -> Result<(), AllocError>
         ensures { OnOk result (self.new ≡ self.old) }
     {
@@ -106,6 +107,7 @@ impl<T: Again> Filling<T> {
     }
 
     /// Puts an element at the end. It errs only where memory runs out, or behind as many as can be counted.
+    #[inline(always)]
     pub fn push(&mut self, alloc: Global, item: T) -> Result<(), AllocError>
         ensures { OnOk result (self.new ≡ self.old ++ item ∷ []) }
     {

@@ -61,9 +61,16 @@ impl SharedHops {
         ensures { IfOk result (λ shared. shared ≡ hops) }
     {
         match others {
-            Some(others) if are_same(&others.kept, &hops) => others.share(),
+            Some(others) if others.are(&hops) => others.share(),
             _ => SharedHops::of(alloc, hops),
         }
+    }
+
+    /// Whether they are these.
+    pub fn are(&self, hops: &Hops) -> bool
+        ensures { IsTrue result ↔ (self.now ≡ hops.now) }
+    {
+        are_same(&self.kept, hops)
     }
 
     /// The hops, in order.

@@ -23,17 +23,15 @@ fn sole(hops: &[Hop]) -> Option<Hop>
     }
 }
 
-/// Whether two lists are of one hop each, and of the same.
-fn is_repeated(one: &[Hop], other: &[Hop]) -> bool
-    ensures { result ≡ true → IsRepeated one.now other.now }
+/// Whether hops are this one alone.
+#[inline]
+fn is_alone(hop: &Hop, hops: &[Hop]) -> bool
+    ensures { result ≡ true → hops.now ≡ hop.now ∷ [] }
 {
-    let Some(one) = sole(one) else {
-        return false;
-    };
-    let Some(other) = sole(other) else {
-        return false;
-    };
-    same_hop(&one, &other)
+    match hops {
+        [only] => same_hop(only, hop),
+        _ => false,
+    }
 }
 
 /// How many of the next routes give the one hop of a first one.
@@ -42,8 +40,11 @@ fn repeats_of(first: &Entry, next: &[Entry]) -> usize
     ensures small { result + 1 < 2 ^ 64 }
     ensures repeat { AllByRecursion (λ (e : Row). IsRepeated first.now.hops e.hops) (take result next.now) }
 {
+    let Some(hop) = sole(first.hops.as_slice()) else {
+        return 0;
+    };
     for index in 0..next.len() {
-        if !is_repeated(first.hops.as_slice(), next[index].hops.as_slice()) {
+        if !is_alone(&hop, next[index].hops.as_slice()) {
             return index;
         }
     }

@@ -2,7 +2,7 @@ use Rattle.std.proofs.Common.{◌≡◌, ◌<◌, ◌^◌, drop, None}
 use Rattle.std.specs.Prelude.{IfSome}
 use Rattle.rc_ospf.specs.BestOffers.{best_from}
 use Rattle.rc_ospf.specs.Members.{reach_of}
-use Rattle.rc_ospf.proofs.best.best_way.Given as goal
+use Rattle.rc_ospf.proofs.best.best_of_many.Given as goal
 
 abbrev pub invariant-loop-index : goal.invariant-loop-index
 invariant-loop-index g l = record {
