@@ -234,7 +234,9 @@ impl<M: May> Work<M> {
         Ok(())
     }
 
-    /// Two sets combined, which test no bit below `from`: what both are at the least bit that one of them tests is combined, and joined.
+    /// Two sets combined, which test no bit below `from`. Half of all results are told at once: that is part of each step, and no call.
+    #[inline(always)]
+    #[cycle(combine)]
     fn combine(
         &mut self,
         nodes: &Nodes<M>,
@@ -254,6 +256,29 @@ impl<M: May> Work<M> {
         if let Some(known) = operation.at_once(left, right) {
             return Ok(known);
         }
+        self.combine_sides(nodes, operation, from, left, right)
+    }
+
+    /// The same where the result isn't told at once: what both are at the least bit that one of them tests is combined, and joined.
+    #[inline(never)]
+    #[cycle(combine)]
+    fn combine_sides(
+        &mut self,
+        nodes: &Nodes<M>,
+        operation: Operation,
+        from: u8,
+        left: Ref,
+        right: Ref,
+    ) -> Result<Ref, Full>
+        requires two { 2 ≤ right.index }
+        requires seat { IsSeatOf nodes.now self.old }
+        requires may { MayCombine nodes.now self.old (combined (truth operation)) left.index right.index }
+        requires from { IsFrom self.old from left.index × IsFrom self.old from right.index }
+        ensures seat { IsSeatOf nodes.now self.new }
+        ensures keeps { Keeps self.old self.new }
+        ensures combined { IfOk result (λ r. (s t : Tree) → SeatKnows self.old left.index s → SeatKnows self.old right.index t → SeatKnows self.new r.index (combined (truth operation) s t)) }
+        ensures full { IfErr result (λ _. IsFull nodes.now self.new) }
+    {
         let place = place_of(operation, left, right);
         if let Some(known) = self.recall(place, operation, left, right) {
             return Ok(known);
