@@ -13,4 +13,4 @@ mod workers;
 pub use collected::{Collected, push_ending, push_flow};
 pub use flow::{Ending, Flow, Prepared};
 pub use job::Job;
-pub use workers::{at_once_or_in_turn, by_workers, in_turn};
+pub use workers::{Pace, at_once_or_in_turn, by_workers, in_turn};

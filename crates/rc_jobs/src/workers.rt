@@ -59,6 +59,8 @@ fn both<T: Drop>(left: Result<T, SetError>, right: Result<T, SetError>) -> Resul
 struct OverTable<'a, M: May, J> {
     nodes: &'a Nodes<M>,
     job: &'a J,
+    /// So many items, or fewer, are left to one worker.
+    few: usize,
 }
 
 impl<'a, M: May + Send + Sync, J: Job> Shared for OverTable<'a, M, J> {
@@ -82,7 +84,7 @@ impl<'a, M: May + Send + Sync, J: Job> Shared for OverTable<'a, M, J> {
     }
 
     fn few(&self) -> usize {
-        1
+        self.few
     }
 
     /// With a memo of its own.
@@ -122,6 +124,34 @@ impl<'a, M: May + Send + Sync, J: Job> Shared for OverTable<'a, M, J> {
     }
 }
 
+/// The whole job by workers at once, of whom one does so many items or fewer alone. Each has a seat split off and a memo of its own.
+fn by_some<R: Threads + Sync, M: May + Send + Sync, J: Job, G: Gate>(
+    rt: &R,
+    alloc: Global,
+    nodes: &Nodes<M>,
+    seat: Seat<M>,
+    job: &J,
+    few: usize,
+    phase: u32,
+    workers: u32,
+    gate: &G,
+) -> (Seat<M>, Passed, Result<J::Made, SetError>)
+    requires seat { IsSeatOf nodes.now seat }
+    requires ready { J.ready job.now nodes.now seat }
+    requires few { J.count job.now ≤ 4294967295 }
+    requires some { 1 ≤ workers }
+    requires most { workers ≤ 64 }
+    ensures seat { IsSeatOf nodes.now result.0 }
+    ensures keeps { Keeps seat result.0 }
+    ensures passed { result.1 ≡ passage phase 0 workers }
+    ensures made { IfOk result.2 (J.knows job.now result.0 0 (J.count job.now)) }
+    ensures cause { IfErr result.2 (IsCause nodes.now result.0) }
+{
+    let shared = OverTable { nodes, job, few };
+    let (passed, (seat, made)) = at_once(rt, alloc, &shared, seat, workers, phase, gate);
+    (seat, passed, made)
+}
+
 /// The whole job by all workers at once, each with a seat split off and a memo of its own. Each passes the gate before its work.
 ///
 /// `workers` is from 1 to 64, and there are at most 4,294,967,295 items. It errs where memory runs out, and else where the table is full.
@@ -146,9 +176,7 @@ pub fn by_workers<R: Threads + Sync, M: May + Send + Sync, J: Job, G: Gate>(
     ensures made { IfOk result.2 (J.knows job.now result.0 0 (J.count job.now)) }
     ensures cause { IfErr result.2 (IsCause nodes.now result.0) }
 {
-    let shared = OverTable { nodes, job };
-    let (passed, (seat, made)) = at_once(rt, alloc, &shared, seat, workers, phase, gate);
-    (seat, passed, made)
+    by_some(rt, alloc, nodes, seat, job, 1, phase, workers, gate)
 }
 
 /// What the workers before made, with the share of one who has passed the gate. Where they failed, none is made.
@@ -222,6 +250,17 @@ pub fn in_turn<M: May, J: Job, G: Gate>(
     (passed, made)
 }
 
+/// How workers go about a job.
+#[derive(Clone, Copy)]
+pub enum Pace {
+    /// All side by side.
+    AtOnce,
+    /// One half of them beside the other one, each half in turn: there is little to do.
+    ByHalves,
+    /// One after another.
+    InTurn,
+}
+
 /// The whole job by workers at once, or in turn with the work that is there. Where they go at once the memo is lost.
 pub fn at_once_or_in_turn<R: Threads + Sync, M: May + Send + Sync, J: Job, G: Gate>(
     rt: &R,
@@ -229,7 +268,7 @@ pub fn at_once_or_in_turn<R: Threads + Sync, M: May + Send + Sync, J: Job, G: Ga
     nodes: &Nodes<M>,
     mut work: Work<M>,
     job: &J,
-    is_at_once: bool,
+    pace: Pace,
     phase: u32,
     workers: u32,
     gate: &G,
@@ -245,11 +284,15 @@ pub fn at_once_or_in_turn<R: Threads + Sync, M: May + Send + Sync, J: Job, G: Ga
     ensures made { IfOk result.2 (J.knows job.now result.0 0 (J.count job.now)) }
     ensures cause { IfErr result.2 (IsCause nodes.now result.0) }
 {
-    if is_at_once {
-        let seat = work.into_seat();
-        let (seat, passed, made) = by_workers(rt, alloc, nodes, seat, job, phase, workers, gate);
-        return (Work::new(alloc, seat), passed, made);
-    }
-    let (passed, made) = in_turn(alloc, &mut work, nodes, job, phase, workers, gate);
-    (work, passed, made)
+    let few = match pace {
+        Pace::AtOnce => 1,
+        Pace::ByHalves => job.items().div_ceil(2),
+        Pace::InTurn => {
+            let (passed, made) = in_turn(alloc, &mut work, nodes, job, phase, workers, gate);
+            return (work, passed, made);
+        }
+    };
+    let seat = work.into_seat();
+    let (seat, passed, made) = by_some(rt, alloc, nodes, seat, job, few, phase, workers, gate);
+    (Work::new(alloc, seat), passed, made)
 }

@@ -38,7 +38,9 @@ fn share_of<M: May, S: Spread>(
     ensures made { IfOk result (λ v. KnowsShare work.new v.items (S.set_after round.now.spread.now (round.now.number + 1)) from to) }
     ensures cause { IfErr result (IsCause nodes.now work.new) }
 {
-    let mut made = Vec::new(alloc);
+    let Ok(mut made) = Vec::with_capacity(alloc, to - from) else {
+        return Err(SetError::Memory);
+    };
     for q in from..to {
         let set = round
             .spread

@@ -9,7 +9,7 @@ use crate::first::mark;
 use crate::round::Round;
 use crate::spread::Spread;
 use rc_bdd::{SetError, Work};
-use rc_jobs::at_once_or_in_turn;
+use rc_jobs::{Pace, at_once_or_in_turn};
 use rc_nodes::{May, Nodes, Ref};
 use rc_outside::Gate;
 use std::alloc::Global;
@@ -22,9 +22,31 @@ const PHASE: u32 = 100_000;
 /// them.
 const WORTH_A_THREAD: usize = 32;
 
-/// Whether the workers of a round go at once: in the first round always, then where there is work for them.
-fn is_at_once(number: u32, fresh: usize, workers: u32) -> bool {
-    workers > 1 && (number == 0 || fresh / WORTH_A_THREAD >= workers as usize)
+/// How the workers of a round go about it, before which so many positions have something fresh: at once where there is work for them, and
+/// in the first round at least in two halves.
+fn pace_of(number: u32, fresh: usize, workers: u32) -> Pace {
+    if workers <= 1 {
+        return Pace::InTurn;
+    }
+    if fresh / WORTH_A_THREAD >= workers as usize {
+        return Pace::AtOnce;
+    }
+    if number == 0 {
+        Pace::ByHalves
+    } else {
+        Pace::InTurn
+    }
+}
+
+/// How many positions have something fresh.
+fn many_of(fresh: &[bool]) -> usize {
+    let mut many: usize = 0;
+    for is_fresh in fresh {
+        if *is_fresh {
+            many = many.saturating_add(1);
+        }
+    }
+    many
 }
 
 /// Marks the positions whose sets a round changed, and tells how many there are: none where it failed.
@@ -81,10 +103,10 @@ fn next_round<R: Threads + Sync, M: May + Send + Sync, S: Spread + Sync, G: Gate
         fresh: fresh.as_slice(),
         number,
     };
-    let at_once = is_at_once(number, many, workers);
+    let pace = pace_of(number, many, workers);
     let phase = PHASE + 1 + number;
     let (work, _passed, made) = at_once_or_in_turn(
-        rt, alloc, nodes, work, &round, at_once, phase, workers, gate,
+        rt, alloc, nodes, work, &round, pace, phase, workers, gate,
     );
     let changed = mark_made(sets.as_slice(), &made, fresh.as_mut_slice());
     (work, changed, made)
@@ -119,7 +141,7 @@ pub fn all_rounds<R: Threads + Sync, M: May + Send + Sync, S: Spread + Sync, G: 
 {
     let count = spread.positions();
     let mut made = Ok(sets);
-    let mut many = 1;
+    let mut many = many_of(fresh.as_slice());
     for number in 0..count as u32 {
         let (back, changed, next) = next_round(
             rt, alloc, nodes, work, spread, made, &mut fresh, many, number, workers, gate,

@@ -9,7 +9,7 @@ pub loop-q-init : goal.loop-q-init
 loop-q-init g c = record {
   mine = c.requires.seat;
   keeps = λ r t h. h;
-  known = no_share c.args.work.now c.new-made.result.items _ c.args.from (search rules);
+  known = no_share c.args.work.now c.in-Ok.made.items _ c.args.from c.in-Ok.ensures.items;
 }
 
 pub next_set-requires-clause-ready : goal.next_set-requires-clause-ready
