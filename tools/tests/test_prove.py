@@ -2,6 +2,7 @@
 import contextlib
 import os
 import re
+import shutil
 import signal
 import subprocess
 import tempfile
@@ -199,6 +200,47 @@ class LauncherTest(CompanionTest):
             self.assertEqual((done.status, self.asked(root)), (0, ["netcheck", "side"]))
             (root / "x/crates/low/src/lib.rt").write_text("// another\n")
             self.assertEqual((self.launch(root).status, self.asked(root)), (0, ["low", "mid", "netcheck", "side"]))
+
+    def test_checksums_only_where_something_was_touched(self):
+        with repository() as root:
+            counted = root / "kit/counted"
+            count = root / "kit/bin/cksum"
+            count.write_text(f'#!/bin/sh\n: >"$KIT/counted"\nexec {shutil.which("cksum")} "$@"\n')
+            count.chmod(0o755)
+
+            def is_counted():
+                self.assertEqual(self.launch(root, "routes", "x"), (0, "routes of 1\n", ""))
+                found = counted.exists()
+                counted.unlink(missing_ok=True)
+                return found
+
+            self.launch(root)
+            time.sleep(2.1)  # what was written in the last two seconds counts as touched
+            is_counted()
+            self.assertFalse(is_counted())
+            (root / "x/crates/low/src/lib.rt").touch()
+            self.assertTrue(is_counted())
+            (root / "x/crates/low/out").mkdir()
+            time.sleep(2.1)
+            self.assertTrue(is_counted())
+            (root / "x/crates/low/out/made").touch()
+            self.assertFalse(is_counted())
+            (root / "x/.netcheck/proved/seen").unlink()
+            self.assertTrue(is_counted())
+            self.asked(root)
+            lib, more = root / "x/crates/side/src/lib.rt", root / "x/crates/side/src/more.rt"
+            for change in (lambda: lib.write_text("// other\n"), lambda: more.write_text("// more\n"), more.unlink, lambda: lib.replace(more)):
+                change()
+                self.launch(root)
+                self.assertEqual(self.asked(root), ["netcheck", "side"])
+
+    def test_large_pages_are_asked_for(self):
+        with repository() as root:
+            self.launch(root)
+            (root / "x/.netcheck/proved/netcheck").write_text('#!/bin/sh\necho "$GLIBC_TUNABLES"\n')
+            asked = "glibc.malloc.hugetlb=1:glibc.malloc.mmap_threshold=67108864"
+            self.assertEqual(self.launch(root), (0, f"{asked}\n", ""))
+            self.assertEqual(self.launch(root, GLIBC_TUNABLES="glibc.malloc.check=1"), (0, f"{asked}:glibc.malloc.check=1\n", ""))
 
     def test_what_else_a_verdict_rests_on(self):
         with repository() as root:
