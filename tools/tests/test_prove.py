@@ -225,8 +225,11 @@ class LauncherTest(CompanionTest):
             self.assertTrue(is_counted())
             (root / "x/crates/low/out/made").touch()
             self.assertFalse(is_counted())
-            (root / "x/.netcheck/proved/seen").unlink()
-            self.assertTrue(is_counted())
+            seen = root / "x/.netcheck/proved/seen"
+            for other in ("", seen.read_text().replace(" 1", " 2", 1)):  # another time, be it an earlier or a later one
+                seen.write_text(other)
+                self.assertTrue(is_counted())
+                self.assertFalse(is_counted())
             self.asked(root)
             lib, more = root / "x/crates/side/src/lib.rt", root / "x/crates/side/src/more.rt"
             for change in (lambda: lib.write_text("// other\n"), lambda: more.write_text("// more\n"), more.unlink, lambda: lib.replace(more)):
