@@ -1,5 +1,5 @@
 -- How the program ends, by its words.
-use Rattle.std.specs.Prelude.{◌≡◌, ℕ, List, Option, Some, None, Result, Ok, Err, IfSome, IfNone, IsNone}
+use Rattle.std.specs.Prelude.{◌≡◌, ℕ, List, None, IfSome, IfNone, IsNone}
 use Rattle.rc_words.specs.Request.{request_of}
 use Rattle.rc_writing.specs.Texts.{usage_text}
 use Rattle.rc_writing.specs.Written.{IsWrittenOrMemory}

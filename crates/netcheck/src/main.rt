@@ -2,10 +2,11 @@
 //!
 //! It stands on rc_analyse, whose `run` decides all that is answered, and on the two adapters of rc_system, which are the
 //! edge to the system. These tell no content and count their failures, so the clauses of `run` on what is told say nothing
-//! of them, and those on causes hold. No text goes to standard error.
+//! of them, and those on causes hold. Lines are gathered before they are written, so that many go to the system at once. No text goes to
+//! standard error.
 #![tactic(auto)]
 
-ghost use Rattle.std.specs.Prelude.{◌≡◌, ◌≢◌, [], drop, map, string_bytes, IfErr, IfOk, IsErr};
+ghost use Rattle.std.specs.Prelude.{◌≡◌, ◌≢◌, ℕ, List, [], drop, map, string_bytes, IfErr, IfOk, IsErr};
 ghost use Rattle.std.specs.IoError.{error_kind};
 ghost use Rattle.std.specs.Process.{exit_status};
 ghost use Rattle.std.specs.Vec.Iter.{into_iter_items};
@@ -17,10 +18,13 @@ use rc_outside::OpenGate;
 use rc_system::{RealFolder, WriterSink};
 use std::alloc::{AllocError, Global};
 use std::env::{self, Args};
-use std::io::{self, ErrorKind, Write};
+use std::io::{self, BufWriter, ErrorKind, Write};
 use std::process::ExitCode;
 use std::rt::Files;
 use std::thread::Threads;
+
+/// So many bytes of an answer are gathered before they are written.
+const GATHERED: usize = 65_536;
 
 /// The words after the program's name, which is the first of those that are given.
 fn words_behind(alloc: Global, given: Args) -> Result<Vec<String>, AllocError>
@@ -49,6 +53,31 @@ fn words_of(alloc: Global, given: io::Result<Args>) -> Result<Vec<String>, Alloc
     }
 }
 
+/// Drops a sink. What its writer holds back stays unwritten.
+fn abandon<W: Write + Drop>(out: WriterSink<BufWriter<W>>) {
+    let _ = out.into_writer().into_parts();
+}
+
+/// How the program ends where a run ended by this status: what is held back is written, and where that fails writing failed. Where the run
+/// put nothing, or failed in writing, nothing more is written.
+fn ended<W: Write + Drop>(status: Status, mut out: WriterSink<BufWriter<W>>) -> Status
+    ensures { (words : List (List ℕ)) → EndsBy words status → EndsBy words result }
+{
+    match status {
+        Status::Nodes | Status::Source | Status::Memory | Status::Sink => {
+            abandon(out);
+            status
+        }
+        _ => match out.flush() {
+            Ok(()) => status,
+            Err(_) => {
+                abandon(out);
+                Status::Sink
+            }
+        },
+    }
+}
+
 /// Answers words over the folders of the system, to a writer.
 fn answer_to<R, W>(rt: &R, words: &[&str], writer: W) -> Result<Status, AllocError>
 where
@@ -56,9 +85,13 @@ where
     W: Write + Drop,
     ensures { IfOk result (EndsBy (map (λ w. w.now) words.now)) }
 {
+    let Ok(writer) = BufWriter::with_capacity(rt.alloc(), GATHERED, writer) else {
+        return Err(AllocError);
+    };
     let mut out = WriterSink::new(writer);
     let mut folder = RealFolder::new(rt.clone()?);
-    Ok(run(rt, words, &mut folder, &mut out, &OpenGate))
+    let status = run(rt, words, &mut folder, &mut out, &OpenGate);
+    Ok(ended(status, out))
 }
 
 /// Answers words to standard output.

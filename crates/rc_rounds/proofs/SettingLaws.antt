@@ -1,5 +1,5 @@
 -- What the routers of a round read, from what no round changes and the state before.
-use Rattle.std.proofs.Common.{◌≡◌, ◌∙◌, sym, subst, ℕ, zero, suc, Bool, true, false, List, [], All, Option, Some, None, IfSome, length}
+use Rattle.std.proofs.Common.{◌≡◌, ◌∙◌, sym, subst, ℕ, zero, suc, Bool, true, List, [], All, Option, Some, None, IfSome, length}
 use Rattle.std.specs.Prelude.{slice_get}
 use Rattle.std.specs.List.Sorted.{IsStrictlySortedBy}
 use Rattle.rc_base.specs.Prefix.{Cidr, prefix_cmp}

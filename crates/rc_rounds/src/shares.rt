@@ -24,23 +24,45 @@ use std::thread::Threads;
 /// So many routers, or fewer, are left to one worker, where a round does little for each.
 const FEW: usize = 64;
 
-/// Whether a round does little for a router: it merges routes, looks no gateway up, and decides nothing.
-fn is_light(net: &Network, router: RouterId) -> bool {
-    let found = net.router_at(router);
-    match found {
-        Some(file) => file.static_routes.is_empty() && file.bgp.is_none(),
-        None => true,
+/// So many static routes of a router, or fewer, are looked up in less time than a thread for some tens of such routers takes to start.
+const FEW_STATIC: usize = 16;
+
+/// How much a round does for a router.
+#[derive(Clone, Copy, PartialEq, Eq, PartialOrd, Ord)]
+enum Load {
+    /// It merges routes, looks no gateway up, and decides nothing.
+    Light,
+    /// It looks up a few gateways beside that.
+    Small,
+    /// It looks up many, or decides between paths.
+    Great,
+}
+
+/// How much a round does for a router.
+fn load_of(net: &Network, router: RouterId) -> Load {
+    match net.router_at(router) {
+        Some(file) if file.bgp.is_some() || file.static_routes.len() > FEW_STATIC => Load::Great,
+        Some(file) if !file.static_routes.is_empty() => Load::Small,
+        _ => Load::Light,
     }
 }
 
-/// Whether a round does little for each router.
-fn are_light(net: &Network) -> bool {
+/// The most that a round does for a router.
+fn greatest_load(net: &Network) -> Load {
+    let mut greatest = Load::Light;
     for index in 0..net.routers.len() {
-        if !is_light(net, RouterId::at(index)) {
-            return false;
-        }
+        greatest = greatest.max(load_of(net, RouterId::at(index)));
     }
-    true
+    greatest
+}
+
+/// So many of these routers, or fewer, are left to one worker. Where routers look gateways up, the first round goes at least in two halves.
+fn few_routers(net: &Network, has_earlier: bool) -> usize {
+    match greatest_load(net) {
+        Load::Small if !has_earlier => net.routers.len().div_ceil(2).min(FEW),
+        Load::Light | Load::Small => FEW,
+        Load::Great => 1,
+    }
 }
 
 /// A state and what changed since, where there was a round earlier yet.
@@ -144,7 +166,7 @@ impl<'a> Makes<Knowledge, Inside, Stayed> for Setting<'a> {
     }
 
     fn few(&self) -> usize {
-        if are_light(self.network) { FEW } else { 1 }
+        few_routers(self.network, self.has_earlier)
     }
 
     fn make(

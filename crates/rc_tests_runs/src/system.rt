@@ -3,7 +3,7 @@ use crate::answers::{BASE, CIRCLE};
 use rc_analyse::{Status, run};
 use rc_outside::{Folder, OpenGate, Sink, SinkFailed, SourceError};
 use rc_system::{RealFolder, WriterSink};
-use std::io::Write;
+use std::io::{BufWriter, Write};
 use std::os::unix::fs::symlink;
 use std::process::Abort;
 use std::rt::Files;
@@ -150,6 +150,18 @@ fn a_writer_that_takes_no_more(rt: HostRuntime) {
             && out.put(b"") == Ok(())
             && out.faults() == 1
     );
+}
+
+#[test]
+fn what_a_writer_holds_back(rt: HostRuntime) -> Result<(), Fail> {
+    let writer = BufWriter::with_capacity(rt.alloc(), 64, Narrow { room: 6 })?;
+    let mut out = WriterSink::new(writer);
+    assert!(rt; out.put(b"four") == Ok(()) && out.flush() == Ok(()));
+    assert!(rt; out.put(b"four") == Ok(()) && out.faults() == 0);
+    assert!(rt; out.flush() == Err(SinkFailed) && out.faults() == 1);
+    let (_, held_back) = out.into_writer().into_parts();
+    assert!(rt; held_back.as_slice() == b"ur".as_slice());
+    Ok(())
 }
 
 // ---- whole runs, as the program makes them

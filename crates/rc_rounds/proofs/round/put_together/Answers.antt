@@ -1,4 +1,4 @@
-use Rattle.std.proofs.Common.{◌≡◌, ◌∙◌, ◌++◌, ◌+◌, ◌∷◌, [], ap, sym, drop, length, map}
+use Rattle.std.proofs.Common.{◌≡◌, ◌∙◌, ap, drop, length}
 use Rattle.std.specs.Prelude.{slice_get, unwrap_or}
 use Rattle.rc_rib.specs.declared.made.Made.{Made}
 use Rattle.rc_rounds.specs.Renewing.{first_known, has_stayed, nothing_known, renewed}
