@@ -14,7 +14,7 @@ from pathlib import Path
 ROOT = Path(__file__).resolve().parent.parent
 LAUNCHER = ROOT / "netcheck"
 # Where the launcher keeps the program that it has built. To run it from there takes no look at the sources each time.
-KEPT = ROOT / "crates/netcheck/out/launcher/netcheck"
+KEPT = ROOT / ".netcheck/proved/netcheck"
 
 ENDINGS = ("accepted", "delivered", "exits", "denied-in", "denied-out", "no-route", "null-routed", "unreachable")
 # The fields of a header in the order in which patterns name them, each with its bits.

@@ -237,6 +237,13 @@ class LauncherTest(CompanionTest):
                 self.launch(root)
                 self.assertEqual(self.asked(root), ["netcheck", "side"])
 
+    def test_companions_run_the_program_that_is_kept(self):
+        with repository() as root:
+            kept = root / "x" / common.KEPT.relative_to(common.ROOT)
+            self.assertFalse(kept.exists())
+            self.launch(root)
+            self.assertTrue(os.access(kept, os.X_OK))
+
     def test_large_pages_are_asked_for(self):
         with repository() as root:
             self.launch(root)
