@@ -1,5 +1,5 @@
 -- Who isn't made anew knows the same again.
-use Rattle.std.proofs.Common.{refl, ◌≡◌, ap, sym, ◌∙◌, subst, ℕ, zero, suc, ◌+◌, Bool, true, List, [], ◌∷◌, ◌++◌, add-one, append_assoc, length-append, map, All, Option, Some, None, drop, length, arith}
+use Rattle.std.proofs.Common.{refl, ◌≡◌, ap, sym, ◌∙◌, subst, ℕ, zero, suc, ◌+◌, Bool, true, List, [], ◌∷◌, ◌++◌, add-one, append-nil, append_assoc, length-append, map, All, Option, Some, None, drop, length, arith}
 use Rattle.std.specs.Prelude.{slice_get, unwrap_or}
 use Rattle.std.specs.Option.{option_map_or}
 use Rattle.std.proofs.lemmas.Option.{same_Some}
@@ -42,8 +42,19 @@ behind_next known i = ap (λ n. drop n known) (add-one i) ∙ one_less known i
 pub one_longer : {X : Type 0} (xs ys : List X) (x : X) → ys ≡ xs ++ x ∷ [] → length ys ≡ length xs + 1
 one_longer xs ys x is = ap length is ∙ length-append xs (x ∷ [])
 
+drained : {X : Type 0} (left now : List X) → left ≡ now → now ≡ drop 1 left → left ≡ []
+drained [] now same rest = refl
+drained (x ∷ xs) now same rest = absurd (let longer : length (x ∷ xs) ≡ length xs = ap length (same ∙ rest) in omega arith)
+
 -- what is put together, and then what is left, is all
 module _ {X : Type 0} (f : Made → X) where
+  pub none_yet : {S : Type 0} (so_far : List X) (states : List S) (left all : List (Option Made)) (known : List RouterState) → so_far ≡ [] → states ≡ [] → left ≡ all → so_far ++ map f (all_renewed left (drop (length states) known)) ≡ map f (all_renewed all known)
+  none_yet so_far states left all known is none same = (λ i. is i ++ map f (all_renewed (same i) (drop (length (none i)) known)))
+
+  pub all_done : (so_far all : List X) (left now : List (Option Made)) (known : List RouterState) → left ≡ now → now ≡ drop 1 left → so_far ++ map f (all_renewed left known) ≡ all → so_far ≡ all
+  all_done so_far all left now known same rest before =
+      sym (append-nil so_far) ∙ ap (λ l. so_far ++ map f (all_renewed l known)) (sym (drained left now same rest)) ∙ before
+
   pub one_more : (so_far now all : List X) (made : Option Made) (m : Made) (left others : List (Option Made)) (known rest : List RouterState) → left ≡ made ∷ others → m ≡ renewed made (first_known known) → rest ≡ drop 1 known
       → now ≡ so_far ++ f m ∷ [] → so_far ++ map f (all_renewed left known) ≡ all → now ++ map f (all_renewed others rest) ≡ all
   one_more so_far now all made m left others known rest is_left is_made is_rest is_now before =
