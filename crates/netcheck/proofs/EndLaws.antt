@@ -1,5 +1,5 @@
 -- Where the last bytes of an answer can't be written, the run ends as one whose sink failed.
-use Rattle.std.proofs.Common.{refl, ◌≡◌, inl, inr, sym, subst, ℕ, List, [], Option, Some, None, IfSome, IfNone}
+use Rattle.std.proofs.Common.{refl, ◌≡◌, inl, inr, sym, subst, ℕ, List, [], Option, Some, None, Result, Ok, Err, IfOk, IfErr, IfSome, IfNone}
 use Rattle.rc_analyse.specs.Answer.{IsAnswer, IsLacking, IsSilent, files_asked}
 use Rattle.rc_outside.specs.Folder.{File}
 use Rattle.rc_outside.specs.Sink.{AppendsFront}
@@ -49,9 +49,14 @@ usage_fails : (asked : Option Request) → IfNone asked (IsWrittenOrMemory Usage
 usage_fails None = inl (inr (refl, front_of usage_text))
 usage_fails (Some r) = tt
 
-pub ends_by_sink : (words : List (List ℕ)) (status : Status) → ¬ IsSilent status → EndsBy words status → EndsBy words Sink
+ends_by_sink : (words : List (List ℕ)) (status : Status) → ¬ IsSilent status → EndsBy words status → EndsBy words Sink
 ends_by_sink words status speaks ends = record {
   usage = usage_fails (request_of words);
   usage_only = λ e. absurd (let none : ⊥ = cc (e) in none);
   made = if_request (request_of words) status speaks ends.made;
 }
+
+-- so it ends whether they are written or not
+pub ends_so : {A E : Type 0} (words : List (List ℕ)) (status result : Status) (written : Result A E) → ¬ IsSilent status → IfOk written (λ _. result ≡ status) → IfErr written (λ _. result ≡ Sink) → EndsBy words status → EndsBy words result
+ends_so words status result (Ok a) speaks whole failed ends = subst (EndsBy words) (sym whole) ends
+ends_so words status result (Err e) speaks whole failed ends = subst (EndsBy words) (sym failed) (ends_by_sink words status speaks ends)

@@ -14,7 +14,7 @@ ghost use Rattle.rc_writing.specs.Codes.{status_code};
 ghost use Rattle.netcheck.specs.Ends.{EndsBy};
 
 use rc_analyse::{Status, run};
-use rc_outside::OpenGate;
+use rc_outside::{OpenGate, SinkFailed};
 use rc_system::{RealFolder, WriterSink};
 use std::alloc::{AllocError, Global};
 use std::env::{self, Args};
@@ -58,9 +58,27 @@ fn abandon<W: Write + Drop>(out: WriterSink<BufWriter<W>>) {
     let _ = out.into_writer().into_parts();
 }
 
+/// Writes what the writer of a sink holds back, or drops what can't be written.
+fn write_rest<W: Write + Drop>(mut out: WriterSink<BufWriter<W>>) -> Result<(), SinkFailed> {
+    let written = out.flush();
+    abandon(out);
+    written
+}
+
+/// How the program ends where a run ended by this status, and its last bytes were written or not.
+fn ended_so(status: Status, written: Result<(), SinkFailed>) -> Status
+    ensures whole { IfOk written (λ _. result ≡ status) }
+    ensures failed { IfErr written (λ _. result ≡ Status.Sink) }
+{
+    match written {
+        Ok(()) => status,
+        Err(_) => Status::Sink,
+    }
+}
+
 /// How the program ends where a run ended by this status: what is held back is written, and where that fails writing failed. Where the run
 /// put nothing, or failed in writing, nothing more is written.
-fn ended<W: Write + Drop>(status: Status, mut out: WriterSink<BufWriter<W>>) -> Status
+fn ended<W: Write + Drop>(status: Status, out: WriterSink<BufWriter<W>>) -> Status
     ensures { (words : List (List ℕ)) → EndsBy words status → EndsBy words result }
 {
     match status {
@@ -68,13 +86,10 @@ fn ended<W: Write + Drop>(status: Status, mut out: WriterSink<BufWriter<W>>) -> 
             abandon(out);
             status
         }
-        _ => match out.flush() {
-            Ok(()) => status,
-            Err(_) => {
-                abandon(out);
-                Status::Sink
-            }
-        },
+        _ => {
+            let written = write_rest(out);
+            ended_so(status, written)
+        }
     }
 }
 

@@ -2,7 +2,7 @@ use Rattle.std.proofs.Common.{refl, ◌≡◌}
 use Rattle.rc_analyse.specs.Answer.{IsSilent}
 use Rattle.rc_writing.specs.declared.status.Status.TheVariants.{Done, Refused, Usage, Repeats, Limit, Nodes, Source, Sink, Memory, NoPlace}
 use Rattle.rc_writing.specs.declared.status.Status.{Status}
-use Rattle.netcheck.proofs.EndLaws.{ends_by_sink}
+use Rattle.netcheck.proofs.EndLaws.{ends_so}
 use Rattle.netcheck.proofs.ended.Goals as goal
 
 -- of all statuses three are those of runs that put nothing
@@ -21,8 +21,5 @@ speaks NoPlace nodes source memory silent = silent
 pub returns-in-Nodes : goal.returns-in-Nodes
 returns-in-Nodes g c = λ words ends. ends
 
-pub returns-in-Ok : goal.returns-in-Ok
-returns-in-Ok g c = λ words ends. ends
-
-pub returns-in-Err : goal.returns-in-Err
-returns-in-Err g c = λ words ends. ends_by_sink words c.args.status (speaks c.args.status c.in_default.not-Nodes c.in_default.not-Source c.in_default.not-Memory) ends
+pub returns-in_default : goal.returns-in_default
+returns-in_default g c = λ words ends. ends_so words c.args.status c.ended_so.result c.write_rest-written.result (speaks c.args.status c.in_default.not-Nodes c.in_default.not-Source c.in_default.not-Memory) c.ended_so.ensures.whole c.ended_so.ensures.failed ends
