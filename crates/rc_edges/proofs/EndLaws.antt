@@ -1,5 +1,5 @@
 -- What one hop gives to an ending, and the join over all of them.
-use Rattle.std.proofs.Common.{refl, ◌≡◌, ap, sym, ◌∙◌, subst, ℕ, zero, suc, ◌+◌, List, [], ◌∷◌, ◌++◌, append-nil, append_assoc, take, drop, Option, Some, None, inl, inr, ◌⊎◌}
+use Rattle.std.proofs.Common.{refl, ◌≡◌, ap, sym, ◌∙◌, subst, ℕ, zero, suc, ◌+◌, List, [], ◌∷◌, ◌++◌, append-nil, append_assoc, take, drop, Some, None, inl, inr, ◌⊎◌}
 use Rattle.std.specs.List.{flat_map, slice_get}
 use Rattle.rc_base.proofs.KeepLaws.{In}
 use Rattle.rc_base.specs.declared.ending.Kind.{Kind}
@@ -16,7 +16,7 @@ use Rattle.rc_route.specs.declared.route.Hop.{Hop}
 use Rattle.rc_route.specs.declared.route.Hop.TheVariants.{Null}
 use Rattle.rc_sets.specs.Regions.{hop_set}
 use Rattle.rc_trees.proofs.PartLaws.{minus-first}
-use Rattle.rc_trees.specs.Recipes.{Recipe, Uses, given, minus, or, parts, tree, without}
+use Rattle.rc_trees.specs.Recipes.{Recipe, Uses, given, minus, or, parts, without}
 use Rattle.rc_trees.specs.Trees.{Tree, never, HasNodes}
 use Rattle.rc_moves.specs.Moves.{DataPlane, fib_of, router_of}
 

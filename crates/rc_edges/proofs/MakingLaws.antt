@@ -33,12 +33,11 @@ use Rattle.rc_router_sets.specs.declared.router_sets.RouterSets.{RouterSets}
 use Rattle.rc_edges.specs.declared.position_sets.Sending.{Sending}
 use Rattle.rc_jobs.specs.declared.collected.Collected.{Collected}
 use Rattle.rc_bdd.specs.declared.work.SetError.{SetError}
-use Rattle.rc_fib.specs.declared.entry.Entry.{Entry}
+use Rattle.rc_fib.specs.Entry.{Entry}
 use Rattle.rc_jobs.specs.Flows.{KnowsFlows, edges_to, endings_of, flows_of, real}
 use Rattle.rc_nodes.specs.Seats.{TableView, SeatView, IsSeatOf, Keeps}
 use Rattle.rc_places.specs.Places.{position_at}
 use Rattle.rc_sets.specs.Regions.{hops_in}
-use Rattle.rc_sets.specs.Stretches.{AreStretches}
 use Rattle.rc_trees.specs.Recipes.{tree}
 use Rattle.rc_trees.specs.Trees.{Tree}
 use Rattle.rc_moves.specs.Moves.{DataPlane, fib_of, router_of}
@@ -66,15 +65,18 @@ no_part LetOut = refl
 no_part Taken = refl
 no_part Subnets = refl
 
-pub nothing_made : (nodes : TableView) (seat : SeatView) (plane : DataPlane) (q : Pos) (made : RouterSets) → IsSeatOf nodes seat → made.hops ≡ hops_at plane q → AreStretches made.stretches (fib_of plane (router_of q)) → made.parts.items ≡ replicate (length made.hops) no_parts → made.owned ≡ None → made.forwarded ≡ None → IsMade nodes seat plane q made
-nothing_made nodes seat plane q made table hops stretches parts owned none = record {
+pub nothing_made : (nodes : TableView) (seat : SeatView) (plane : DataPlane) (q : Pos) (made : RouterSets) → IsSeatOf nodes seat → made.hops ≡ hops_at plane q → made.parts.items ≡ replicate (length made.hops) no_parts → made.owned ≡ None → made.forwarded ≡ None → IsMade nodes seat plane q made
+nothing_made nodes seat plane q made table hops parts owned none = record {
   table = table;
   hops = hops;
-  stretches = stretches;
   parts = λ k x p at. subst (λ o. IsKnownIfMade seat o (fixed plane (router_of q) p x)) (sym (ap (λ xs. part_in (parts_of xs k) p) parts ∙ ap (λ s. part_in s p) (unmade (length made.hops) k) ∙ no_part p)) tt;
   owned = subst (λ o. IsKnownIfMade seat o (to_router plane (router_of q))) (sym owned) tt;
   forwarded = subst (λ o. IsKnownIfMade seat o (forwarded plane q)) (sym none) tt;
 }
+
+-- and of a router without a table
+pub without_table : (nodes : TableView) (seat : SeatView) (plane : DataPlane) (q : Pos) (made : RouterSets) → fib_of plane (router_of q) ≡ [] → IsSeatOf nodes seat → made.hops ≡ [] → made.parts.items ≡ [] → made.owned ≡ None → made.forwarded ≡ None → IsMade nodes seat plane q made
+without_table nodes seat plane q made no_fib table hops parts owned none = nothing_made nodes seat plane q made table (hops ∙ ap hops_in (sym no_fib)) (parts ∙ ap (λ hs. replicate (length hs) no_parts) (sym hops)) owned none
 
 pub made_for : (result : Result RouterSets SetError) (plane : DataPlane) (q : Pos) (entries : List Entry) → fib_of plane (router_of q) ≡ entries
     → IfOk result (λ (made : RouterSets). (nodes : TableView) (seat : SeatView) (plane : DataPlane) (q : Pos) → fib_of plane (router_of q) ≡ entries → IsSeatOf nodes seat → IsMade nodes seat plane q made)
@@ -83,11 +85,10 @@ made_for (Ok made) plane q entries is all = λ nodes seat table. all nodes seat 
 made_for (Err e) plane q entries is all = tt
 
 -- what is made of a router stays where only the position changes
-pub made_again : (nodes : TableView) (seat : SeatView) (plane : DataPlane) (q t : Pos) (made next : RouterSets) → router_of q ≡ router_of t → IsMade nodes seat plane q made → next.hops ≡ made.hops → next.stretches ≡ made.stretches → next.parts.items ≡ made.parts.items → next.owned ≡ made.owned → next.forwarded ≡ None → IsMade nodes seat plane t next
-made_again nodes seat plane q t made next same m hops stretches parts owned none = record {
+pub made_again : (nodes : TableView) (seat : SeatView) (plane : DataPlane) (q t : Pos) (made next : RouterSets) → router_of q ≡ router_of t → IsMade nodes seat plane q made → next.hops ≡ made.hops → next.parts.items ≡ made.parts.items → next.owned ≡ made.owned → next.forwarded ≡ None → IsMade nodes seat plane t next
+made_again nodes seat plane q t made next same m hops parts owned none = record {
   table = m.table;
   hops = hops ∙ m.hops ∙ ap (λ r. hops_in (fib_of plane r)) same;
-  stretches = subst (λ r. AreStretches next.stretches (fib_of plane r)) same (subst (λ ns. AreStretches ns (fib_of plane (router_of q))) (sym stretches) m.stretches);
   parts = λ k x p at.
       subst (λ r. IsKnownIfMade seat (part_in (parts_of next.parts.items k) p) (fixed plane r p x)) same
       (subst (λ all. IsKnownIfMade seat (part_in (parts_of all k) p) (fixed plane (router_of q) p x)) (sym parts) (m.parts k x p (ap (λ hs. slice_get hs k) (sym hops) ∙ at)));
@@ -123,7 +124,6 @@ module _ (nodes : TableView) (seat : SeatView) (plane : DataPlane) (ends : Ends)
     made = record {
       table = is.made.table;
       hops = is.made.hops ∙ hops_like plane q t like;
-      stretches = subst (λ r. AreStretches s.made.stretches (fib_of plane r)) like.router is.made.stretches;
       parts = λ k x p at. subst (λ r. IsKnownIfMade seat (part_in (parts_of s.made.parts.items k) p) (fixed plane r p x)) like.router (is.made.parts k x p at);
       owned = subst (λ r. IsKnownIfMade seat s.made.owned (to_router plane r)) like.router is.made.owned;
       forwarded = subst (IsKnownIfMade seat s.made.forwarded) (forwarded_like plane q t like) is.made.forwarded;

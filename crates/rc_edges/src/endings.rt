@@ -108,15 +108,7 @@ fn null_routed_set<M: May>(
     ensures cause { IfErr result (IsCause nodes.now work.new) }
 {
     let forwarded = forwarded_set(alloc, work, nodes, site, made)?;
-    let over = over_set(
-        alloc,
-        work,
-        nodes,
-        site.plane,
-        site.router(),
-        made.stretches.as_slice(),
-        &Hop::Null,
-    )?;
+    let over = over_set(alloc, work, nodes, site.plane, site.router(), &Hop::Null)?;
     work.and(nodes, forwarded, over)
 }
 

@@ -20,7 +20,7 @@ use crate::outgoing::{Row, flush};
 use crate::same_entry::is_like;
 use rc_base::{Ends, Pos, RouterId};
 use rc_bdd::{SetError, Work};
-use rc_fib::Entry;
+use rc_fib::Fib;
 use rc_jobs::Collected;
 use rc_moves::Plane;
 use rc_nodes::{May, Nodes};
@@ -48,11 +48,11 @@ impl Drop for Sending {
 }
 
 /// Nothing is made yet of a router with this table.
-fn made_of(alloc: Global, entries: &[Entry]) -> Result<RouterSets, SetError>
-    ensures sets { IfOk result (λ made. (nodes : TableView) (seat : SeatView) (plane : DataPlane) (q : Place) → fib_of plane (router_of q) ≡ entries.now → IsSeatOf nodes seat → IsMade nodes seat plane q made) }
+fn made_of(alloc: Global, fib: &Fib) -> Result<RouterSets, SetError>
+    ensures sets { IfOk result (λ made. (nodes : TableView) (seat : SeatView) (plane : DataPlane) (q : Place) → fib_of plane (router_of q) ≡ fib.now → IsSeatOf nodes seat → IsMade nodes seat plane q made) }
     ensures memory { IfErr result (λ e. e ≡ SetError.Memory) }
 {
-    match RouterSets::of(alloc, entries) {
+    match RouterSets::of(alloc, fib) {
         Ok(made) => Ok(made),
         Err(_) => Err(SetError::Memory),
     }
@@ -64,9 +64,9 @@ fn sets_of(alloc: Global, site: &Site<'_>) -> Result<RouterSets, SetError>
     ensures memory { IfErr result (λ e. e ≡ SetError.Memory) }
 {
     let Some(fib) = site.plane.fib(site.router()) else {
-        return made_of(alloc, &[]);
+        return Ok(RouterSets::without_table(alloc));
     };
-    made_of(alloc, fib.entries())
+    made_of(alloc, fib)
 }
 
 /// What is made of the router at a position stays, where it is that of the last one.

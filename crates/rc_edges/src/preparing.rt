@@ -47,7 +47,7 @@ fn lines_in(file: &RouterText) -> usize {
 /// How much work a router is, beside its positions: its routes, and the lines of its access lists.
 fn work_at(plane: &Plane<'_>, router: RouterId) -> usize {
     let routes = match plane.fib(router) {
-        Some(fib) => fib.entries().len(),
+        Some(fib) => fib.len(),
         None => 0,
     };
     let lines = match plane.network().router_at(router) {

@@ -9,7 +9,7 @@ use Rattle.rc_route.specs.declared.route.Hop.TheVariants.{Null, Dev, Via}
 use Rattle.rc_route.specs.declared.route.Route.{Route}
 use Rattle.rc_route.specs.Hops.{same_hop}
 use Rattle.rc_fib.specs.Forwarding.{is_resolved, with_gateway, resolve_hop, resolve_all, hops_within, hops_of, longest, resolved}
-use Rattle.rc_fib.specs.declared.entry.Entry.{Entry}
+use Rattle.rc_fib.specs.Entry.{Entry}
 
 abbrev IsResolved : Hop → Type 0
 IsResolved hop = is_resolved hop ≡ true

@@ -5,7 +5,7 @@ use Rattle.std.specs.Option.{option_map, option_map_or}
 use Rattle.rc_route.specs.declared.route.Hop.{Hop}
 use Rattle.rc_route.specs.declared.route.Route.{Route}
 use Rattle.rc_trie.proofs.ScanLaws.{longest_map}
-use Rattle.rc_fib.specs.declared.entry.Entry.{Entry}
+use Rattle.rc_fib.specs.Entry.{Entry}
 use Rattle.rc_fib.specs.Forwarding.{longest, resolve_all, hops_within, hops_of, resolved, resolved_within, entry_of, resolved_hops, resolved_prefix, resolves, has_interface}
 
 -- the hops of a route may be any function of it

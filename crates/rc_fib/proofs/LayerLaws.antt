@@ -1,22 +1,16 @@
 -- Layer upon layer of entries comes to the resolved table.
-use Rattle.std.proofs.Common.{refl, subst, All, rules, ◌≡◌, ap, sym, ◌∙◌, ℕ, zero, suc, ◌+◌, ◌-◌, ◌<◌, ◌≤◌, arith, List, [], ◌∷◌, ◌++◌, map, append_assoc, append-nil, length, get_or, take, drop, Bool, true, false, cond, not, ◌&&◌, ◌||◌, Some, None}
-use Rattle.std.specs.Arc.{arc_value}
+use Rattle.std.proofs.Common.{refl, subst, All, ◌≡◌, ap, sym, ◌∙◌, ℕ, zero, suc, ◌+◌, ◌-◌, ◌<◌, ◌≤◌, arith, List, [], ◌∷◌, ◌++◌, map, Bool, true, false, cond, not, ◌&&◌, ◌||◌, Some, None}
 use Rattle.std.specs.List.{list_all, flat_map}
-use Rattle.std.specs.declared.alloc.Global.{Global}
-use Rattle.std.specs.declared.sync.Arc.{Arc}
-use Rattle.std.proofs.lemmas.List.{map-append, take_more, drop_more, drop_all}
-use Rattle.std.proofs.lemmas.List.Elements.{All-push}
 use Rattle.std.specs.List.Sorted.{IsStrictlySortedBy}
 use Rattle.rc_base.specs.Prefix.{IsCidr, prefix_cmp}
-use Rattle.rc_route.specs.Parts.{joined_parts}
 use Rattle.rc_route.specs.Tables.{IsTable}
 use Rattle.rc_route.specs.declared.route.Route.{Route}
 use Rattle.rc_route.specs.declared.route.Hop.{Hop}
 use Rattle.rc_route.specs.declared.route.Hop.TheVariants.{Null, Dev, Via}
 use Rattle.rc_route.specs.Hops.{same_hop}
 use Rattle.rc_base.specs.Lists.{first_seen}
-use Rattle.rc_fib.specs.declared.entry.Entry.{Entry}
-use Rattle.rc_fib.specs.Entries.{IsFib, entry_over, entries_over, is_settled}
+use Rattle.rc_fib.specs.Entry.{Entry}
+use Rattle.rc_fib.specs.Entries.{IsFib, entries_over, is_settled}
 use Rattle.rc_fib.specs.Forwarding.{resolve_all, resolve_hop, resolved_hops, is_resolved, hops_within, resolved, resolved_within}
 use Rattle.rc_fib.proofs.ForwardingLaws.{resolved_hops-within}
 
@@ -115,11 +109,11 @@ entries_plain es fs (r ∷ rs) e =
     let rest = entries_plain es fs rs later in
     λ i. record { prefix = r.prefix; hops = first_seen same_hop (hops i) } ∷ rest i
 
--- one layer is enough for it
-pub plain_table : (table : List Route) (next : List Entry) → next ≡ entries_over [] table → list_all (λ (r : Route). list_all is_resolved r.hops) table ≡ true → next ≡ resolved table
+-- any layer is enough for it
+pub plain_layer : (table : List Route) (entries next : List Entry) → next ≡ entries_over entries table → list_all (λ (r : Route). list_all is_resolved r.hops) table ≡ true → next ≡ resolved table
 unfolding more_layers
-plain_table table next is plain =
-    is ∙ sym (layers_stay table 15 (entries_over [] table) (entries_plain (entries_over [] table) [] table plain)) ∙ all_layers table
+plain_layer table entries next is plain =
+    is ∙ entries_plain entries [] table plain ∙ sym (layers_stay table 15 (entries_over [] table) (entries_plain (entries_over [] table) [] table plain)) ∙ all_layers table
 
 -- ---- the order
 
@@ -133,31 +127,3 @@ in_order_over entries next table sorted is canonical = record {
   sorted = subst (IsStrictlySortedBy prefix_cmp) (sym (ap (map (λ (e : Entry). e.prefix)) is ∙ prefixes_over entries table)) sorted;
   canonical = canonical;
 }
-
--- one entry more behind others
-pub entries-behind : (entries front next more : List Entry) (table : List Route) (i : ℕ) (route : Route) → i < length table → route ≡ get_or table i route →
-    next ≡ front ++ entries_over entries (take i table) → more ≡ next ++ entry_over entries route ∷ [] → more ≡ front ++ entries_over entries (take (i + 1) table)
-entries-behind entries front next more table i route within at is push =
-    push ∙ (λ k. is k ++ entry_over entries (at k) ∷ [])
-    ∙ append_assoc front (entries_over entries (take i table)) (entry_over entries (get_or table i route) ∷ [])
-    ∙ ap (λ es. front ++ es) (sym (map-append (entry_over entries) (take i table) (get_or table i route ∷ [])) ∙ ap (entries_over entries) (sym (take_more table i route within)))
-
--- those of one part more, of the parts that are left
-pub part-more : (entries next more all : List Entry) (parts : List (Arc (List Route) Global)) (i : ℕ) (part : Arc (List Route) Global) → i < length parts → part ≡ get_or parts i part →
-    all ≡ next ++ entries_over entries (joined_parts (drop i parts)) → more ≡ next ++ entries_over entries (arc_value part) → all ≡ more ++ entries_over entries (joined_parts (drop (i + 1) parts))
-part-more entries next more all parts i part within at is push =
-    let rest = joined_parts (drop (i + 1) parts) in
-    is ∙ ap (λ ps. next ++ entries_over entries (joined_parts ps)) (drop_more parts i part within ∙ ap (λ (p : Arc (List Route) Global). p ∷ drop (i + 1) parts) (sym at))
-    ∙ ap (λ es. next ++ es) (map-append (entry_over entries) (arc_value part) rest)
-    ∙ sym (append_assoc next (entries_over entries (arc_value part)) (entries_over entries rest)) ∙ ap (λ es. es ++ entries_over entries rest) (sym push)
-
--- and when no part is left
-pub no-part : (entries next all : List Entry) (parts : List (Arc (List Route) Global)) (i : ℕ) → length parts ≤ i → all ≡ next ++ entries_over entries (joined_parts (drop i parts)) → next ≡ all
-no-part entries next all parts i past is = sym (is ∙ ap (λ ps. next ++ entries_over entries (joined_parts ps)) (drop_all i parts past) ∙ append-nil next)
-
-pub canonical-more : (next more : List Entry) (e : Entry) → All (λ (e : Entry). IsCidr e.prefix) next → IsCidr e.prefix → more ≡ next ++ e ∷ [] → All (λ (e : Entry). IsCidr e.prefix) more
-canonical-more next more e all is push = subst (All (λ (e : Entry). IsCidr e.prefix)) (sym push) (All-push (λ (e : Entry). IsCidr e.prefix) next e all is)
-
-pub none_in_order : IsFib []
-unfolding IsStrictlySortedBy
-none_in_order = record { sorted = tt; canonical = search rules }

@@ -2,3 +2,5 @@ pub mod ForwardingLaws
 pub mod EndLaws
 pub mod HopLaws
 pub mod LayerLaws
+pub mod StretchLaws
+mod GrowingLaws

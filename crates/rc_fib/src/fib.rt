@@ -1,46 +1,106 @@
 //! Tables prepared for look-ups.
-use crate::Entry;
+ghost use Rattle.std.specs.Prelude.{◌≡◌, [], IfOk, length, map, true};
+ghost use Rattle.rc_route.specs.Tables.{IsTable};
+ghost use Rattle.rc_fib.specs.Entry.{Entry};
+ghost use Rattle.rc_fib.specs.Entries.{IsFib};
+ghost use Rattle.rc_fib.specs.Forwarding as spec;
+ghost use Rattle.rc_fib.specs.Stretches.{AreStretches, Cover, Rise, hops_at, spread};
+
+use crate::growing::Growing;
 use crate::layers::resolve_table;
-use crate::longest::hops_of;
 use crate::resolve::some_interface;
-use crate::taken::take_table;
+use crate::stretch::Stretch;
 use rc_base::{Addr, Items, Prefix};
 use rc_route::{Hop, Parts, Route};
-use rc_trie::longest_in;
+use rc_trie::{longest_at, longest_in};
 use std::alloc::{AllocError, Global};
 use std::marker::Model;
 
 /// A route table with its hops resolved (RFC 1812 s.5.2.4.3), seen as the list of its entries: one for each route, in the
 /// table's order.
+///
+/// Routes side by side mostly have the same hops. So their prefixes stand in one list, and the hops of such a stretch once.
 pub struct Fib {
-    entries: Items<Entry>,
+    prefixes: Items<Prefix>,
+    stretches: Items<Stretch>,
 }
 
 /// By a function of its own, so that what holds tables drops each by one call.
 impl Drop for Fib {
     fn drop(self) {
-        let Fib { entries: _ } = self;
+        let Fib {
+            prefixes: _,
+            stretches: _,
+        } = self;
     }
 }
 
 impl Model for Fib {
     ghost use Rattle.std.specs.Prelude.{List};
-    ghost use Rattle.rc_fib.specs.declared.entry.Entry.{Entry};
+    ghost use Rattle.rc_fib.specs.Entry.{Entry};
     ghost use Rattle.rc_fib.specs.Entries.{IsFib};
+    ghost use Rattle.rc_fib.specs.Stretches.{Cover, spread};
 
     ghost Value = { List Entry };
 
-    ghost view = { λ f. f.entries };
+    ghost view = { λ f. spread 0 f.prefixes f.stretches };
 
-    ghost invariant = { λ f. IsFib f.entries };
+    ghost invariant = { λ f. Cover 0 f.prefixes f.stretches × IsFib (spread 0 f.prefixes f.stretches) };
 }
 
-ghost use Rattle.std.specs.Prelude.{◌≡◌, ◌≤◌, IfOk, MatchOption, Some, length, slice_get};
+/// The hops of the stretch in which a place stands.
+fn hops_of_place(stretches: &[Stretch], place: usize) -> &[Hop]
+    requires { Rise 0 stretches.now }
+    ensures { result.now ≡ hops_at stretches.now place }
+{
+    let before = stretches.partition_point(|stretch| stretch.end <= place);
+    match stretches.get(before) {
+        Some(stretch) => stretch.hops.as_slice(),
+        None => &[],
+    }
+}
+
+/// Whether these are the same prefixes.
+#[tactic(auto, using(crate::proofs::HopLaws::prefixes_decide))]
+fn same_prefixes(some: &[Prefix], others: &[Prefix]) -> bool
+    ensures { result ≡ true → some.now ≡ others.now }
+{
+    some == others
+}
+
+/// Whether these are the same stretches.
+#[tactic(auto, using(crate::proofs::HopLaws::stretches_decide))]
+fn same_stretches(some: &[Stretch], others: &[Stretch]) -> bool
+    ensures { result ≡ true → some.now ≡ others.now }
+{
+    some == others
+}
 
 impl Fib {
-    ghost use Rattle.rc_route.specs.Tables.{IsTable};
-    ghost use Rattle.rc_fib.specs.Entries.{IsFib};
-    ghost use Rattle.rc_fib.specs.Forwarding as spec;
+    /// The table without routes. It takes no memory.
+    pub(crate) fn none(alloc: Global) -> Fib
+        ensures { result ≡ [] }
+    {
+        Fib {
+            prefixes: Items::new(alloc),
+            stretches: Items::new(alloc),
+        }
+    }
+
+    /// The table that was made of routes, and whether each of their hops says where a packet goes, with no look-up.
+    pub(crate) fn grown(made: Growing) -> (Fib, bool)
+        requires covers { Cover 0 made.prefixes made.stretches }
+        requires in_order { IsFib (spread 0 made.prefixes made.stretches) }
+        ensures fib { result.0 ≡ spread 0 made.prefixes made.stretches }
+        ensures plain { result.1 ≡ made.is_plain }
+    {
+        let (prefixes, stretches, is_plain) = made.into_parts();
+        let fib = Fib {
+            prefixes,
+            stretches,
+        };
+        (fib, is_plain)
+    }
 
     /// Prepares a table (RFC 1812 s.5.2.4.3). It errs only where memory runs out.
     pub fn of(alloc: Global, table: &Parts<Route>) -> Result<Fib, AllocError>
@@ -48,43 +108,47 @@ impl Fib {
         ensures value { IfOk result (λ f. f ≡ spec.resolved table.now) }
         ensures in_order { IfOk result IsFib }
     {
-        let entries = resolve_table(alloc, table)?;
-        Ok(Fib { entries })
+        resolve_table(alloc, table)
     }
 
-    /// Prepares a table, which it takes over: what no other list shares of it needn't be copied. It errs only where memory runs out.
-    pub fn taking(alloc: Global, table: Parts<Route>) -> Result<Fib, AllocError>
-        requires { IsTable table }
-        ensures value { IfOk result (λ f. f ≡ spec.resolved table) }
-        ensures in_order { IfOk result IsFib }
+    /// How many routes it has.
+    pub fn len(&self) -> usize
+        ensures { result ≡ length self.now }
     {
-        let entries = take_table(alloc, table)?;
-        Ok(Fib { entries })
+        self.prefixes.len()
     }
 
-    /// Its entries: one for each route, by address, then length.
-    pub fn entries(&self) -> &[Entry]
-        ensures value { result.now ≡ self.now }
+    /// Their prefixes, by address, then length.
+    pub fn prefixes(&self) -> &[Prefix]
+        ensures value { result.now ≡ map (λ (e : Entry). e.prefix) self.now }
         ensures in_order { IsFib self.now }
     {
-        self.entries.as_slice()
+        self.prefixes.as_slice()
+    }
+
+    /// Its stretches, in order: routes side by side that have the same hops.
+    pub fn stretches(&self) -> &[Stretch]
+        ensures { AreStretches 0 result.now self.now }
+    {
+        self.stretches.as_slice()
+    }
+
+    /// Whether two tables are told at once to be the same.
+    pub(crate) fn is_same(&self, other: &Fib) -> bool
+        ensures { result ≡ true → self.now ≡ other.now }
+    {
+        same_prefixes(self.prefixes.as_slice(), other.prefixes.as_slice())
+            && same_stretches(self.stretches.as_slice(), other.stretches.as_slice())
     }
 
     /// The hops of an address: those of the longest prefix that holds it, none where no prefix does (RFC 1812 s.5.2.4.3).
     pub fn hops(&self, addr: Addr) -> &[Hop]
         ensures { result.now ≡ spec.resolved_hops self.now addr }
     {
-        hops_of(self.entries.as_slice(), addr)
-    }
-
-    /// The route at an index of the table with its resolved hops, or `None` exactly past the end.
-    pub fn route(&self, index: usize) -> Option<(Prefix, &[Hop])>
-        ensures { MatchOption result (length self.now ≤ index) (λ r. slice_get self.now index ≡ Some (record { prefix = r.0; hops = r.1.now })) }
-    {
-        let found = self.entries.as_slice().get(index);
-        match found {
-            Some(entry) => Some((entry.prefix, entry.hops.as_slice())),
-            None => None,
+        let place = longest_at(self.prefixes.as_slice(), addr);
+        match place {
+            Some(place) => hops_of_place(self.stretches.as_slice(), place),
+            None => &[],
         }
     }
 
@@ -92,9 +156,9 @@ impl Fib {
     pub fn longest(&self, addr: Addr) -> Option<Prefix>
         ensures { result ≡ spec.resolved_prefix self.now addr }
     {
-        let found = longest_in(self.entries.as_slice(), addr);
+        let found = longest_in(self.prefixes.as_slice(), addr);
         match found {
-            Some(entry) => Some(entry.prefix),
+            Some(prefix) => Some(*prefix),
             None => None,
         }
     }

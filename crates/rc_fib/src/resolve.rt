@@ -1,15 +1,13 @@
-//! The hops of a route, where other entries give those of its gateways.
+//! The hops of a route, where another table gives those of its gateways.
 ghost use Rattle.std.specs.Prelude.{◌≡◌, [], true, IfOk, OnOk, map};
 ghost use Rattle.std.specs.List.{fold, list_any};
 ghost use Rattle.indexmap.specs.IndexSet.{insert_key};
 ghost use Rattle.rc_route.specs.Hops.{same_hop};
 ghost use Rattle.rc_fib.specs.Entries as layer;
-ghost use Rattle.rc_fib.specs.Entries.{IsFib};
 ghost use Rattle.rc_fib.specs.Forwarding as spec;
 
-use crate::Entry;
+use crate::Fib;
 use crate::hop_set::HopSet;
-use crate::longest::hops_of;
 use rc_base::Addr;
 use rc_route::{Hop, Hops, same_hop};
 use std::alloc::{AllocError, Global};
@@ -51,30 +49,23 @@ fn insert_through(
 
 /// Puts what a hop resolves to, each hop once.
 #[tactic(auto, using(crate::proofs::HopLaws::resolve_by_gateway))]
-fn insert_resolved(
-    alloc: Global,
-    set: &mut HopSet,
-    entries: &[Entry],
-    hop: &Hop,
-) -> Result<(), AllocError>
-    requires { IsFib entries.now }
-    ensures { OnOk result (set.new ≡ fold (insert_key same_hop) set.old (spec.resolve_hop (spec.resolved_hops entries.now) hop.now)) }
+fn insert_resolved(alloc: Global, set: &mut HopSet, fib: &Fib, hop: &Hop) -> Result<(), AllocError>
+    ensures { OnOk result (set.new ≡ fold (insert_key same_hop) set.old (spec.resolve_hop (spec.resolved_hops fib.now) hop.now)) }
 {
     let gateway = gateway_of(hop);
     match gateway {
-        Some(gateway) => insert_through(alloc, set, gateway, hops_of(entries, gateway)),
+        Some(gateway) => insert_through(alloc, set, gateway, fib.hops(gateway)),
         None => set.insert(alloc, *hop),
     }
 }
 
 /// What hops resolve to, in order, without repeats after the first. It errs only where memory runs out.
-pub(crate) fn resolve(alloc: Global, entries: &[Entry], hops: &[Hop]) -> Result<Hops, AllocError>
-    requires { IsFib entries.now }
-    ensures { IfOk result (λ found. found ≡ spec.resolve_all (spec.resolved_hops entries.now) hops.now) }
+pub(crate) fn resolve(alloc: Global, fib: &Fib, hops: &[Hop]) -> Result<Hops, AllocError>
+    ensures { IfOk result (λ found. found ≡ spec.resolve_all (spec.resolved_hops fib.now) hops.now) }
 {
     let mut set = HopSet::new();
     for hop in hops {
-        insert_resolved(alloc, &mut set, entries, hop)?;
+        insert_resolved(alloc, &mut set, fib, hop)?;
     }
     set.into_hops(alloc)
 }

@@ -5,6 +5,8 @@
 //! more nodes are needed than the table may have.
 #![tactic(auto)]
 
+mod first_try;
+mod found;
 mod telling;
 
 pub use telling::idle_told;

@@ -1,63 +1,19 @@
-//! The lines of access lists that never decide are found, and told router by router.
-//!
-//! One table of nodes serves all lists that are asked about.
+//! The lines of access lists that never decide are told router by router.
 ghost use Rattle.std.specs.Prelude.{◌≡◌, ◌∷◌, ◌++◌, ◌<◌, ◌≤◌, ℕ, List, None, Some, IfOk, IfErr, IfSome, slice_get};
 ghost use Rattle.rc_bdd.specs.declared.work.SetError.TheVariants.{Full};
 ghost use Rattle.rc_config.specs.declared.access_list.AccessList.{AccessList};
-ghost use Rattle.rc_nodes.specs.Seats.{IsSeatOf};
-ghost use Rattle.rc_sets.specs.LinesQuery.{access_lists_at, asked_lists, idle_in, lists_nodes};
+ghost use Rattle.rc_sets.specs.LinesQuery.{access_lists_at, asked_lists, idle_in};
 ghost use Rattle.rc_idle.specs.Told.{AreIdleIn, AreTold, AreTooFewForLists, IsListTold, IsRouterTold};
 
+use crate::found::idle_found;
 use rc_base::{Items, RouterId};
 use rc_bdd::SetError;
 use rc_config::{AccessList, Named, Network};
-use rc_nodes::{Nodes, Seat};
 use rc_report::{ListIdle, RouterIdle};
-use rc_sets::{Idle, LinesQuery, idle_of_lists};
+use rc_sets::Idle;
 use std::alloc::{AllocError, AllocGlobal, Global};
 use std::collections::VecDeque;
 use std::thread::Threads;
-
-/// A table of so many nodes for the access lists of a router, or of all, with its first seat.
-fn table_for<'a>(
-    alloc: Global,
-    most: u32,
-    network: &'a Network,
-    router: &Option<RouterId>,
-) -> Result<(Nodes<LinesQuery<'a>>, Seat<LinesQuery<'a>>), AllocError>
-    requires low { 0 < most }
-    requires high { most ≤ 16777216 }
-    ensures seat { IfOk result (λ p. IsSeatOf p.0 p.1) }
-    ensures table { IfOk result (λ p. (p.0.capacity ≡ most) × (p.0.may ≡ lists_nodes (asked_lists network.entry.now router.now))) }
-{
-    let query = LinesQuery {
-        network,
-        router: *router,
-    };
-    Nodes::new(alloc, most, &query)
-}
-
-/// The idle lines of the lists that are asked about, list by list.
-fn idle_within<R: Threads + Sync + AllocGlobal>(
-    rt: &R,
-    network: &Network,
-    router: &Option<RouterId>,
-    most: u32,
-    workers: u32,
-) -> Result<Items<Idle>, SetError>
-    requires low { 0 < most }
-    requires high { most ≤ 16777216 }
-    requires some_workers { 1 ≤ workers }
-    requires few_workers { workers ≤ 64 }
-    ensures idle { IfOk result (λ idle. idle ≡ idle_in (asked_lists network.now router.now)) }
-    ensures full { IfErr result (λ e. e ≡ Full → AreTooFewForLists most network.now router.now) }
-{
-    let Ok((nodes, seat)) = table_for(rt.alloc(), most, network, router) else {
-        return Err(SetError::Memory);
-    };
-    let (_seat, idle) = idle_of_lists(rt, network, *router, &nodes, seat, workers);
-    idle
-}
 
 /// The list at an index with its idle lines, which stand in front of those that are left. There are always such.
 fn list_told(lists: &Named<AccessList>, index: usize, left: &mut VecDeque<Idle>) -> Option<ListIdle>
@@ -158,7 +114,7 @@ fn routers_told(
 
 /// Which lines of the access lists of a router, or of all, never decide, router by router.
 ///
-/// The table of nodes has room for `most`, at most 16,777,216, and from 1 to 64 workers share the lists. It errs with Full only where the
+/// The largest table of nodes has room for `most`, at most 16,777,216, and from 1 to 64 workers share the lists. It errs with Full only where the
 /// operations on these lists have more different trees than that.
 pub fn idle_told<R: Threads + Sync + AllocGlobal>(
     rt: &R,
@@ -174,7 +130,7 @@ pub fn idle_told<R: Threads + Sync + AllocGlobal>(
     ensures told { IfOk result (AreIdleIn network.now router.now) }
     ensures full { IfErr result (λ e. e ≡ Full → AreTooFewForLists most network.now router.now) }
 {
-    let idle = match idle_within(rt, network, router, most, workers) {
+    let idle = match idle_found(rt, network, router, most, workers) {
         Ok(idle) => idle,
         Err(error) => return Err(error),
     };

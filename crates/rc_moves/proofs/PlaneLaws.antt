@@ -3,7 +3,7 @@ use Rattle.std.proofs.Common.{◌≡◌, true, List, All, map, get_or}
 use Rattle.std.proofs.lemmas.List.Elements.{All-map}
 use Rattle.rc_route.specs.declared.route.Hop.{Hop}
 use Rattle.rc_route.specs.declared.state.RouterState.{RouterState}
-use Rattle.rc_fib.specs.declared.entry.Entry.{Entry}
+use Rattle.rc_fib.specs.Entry.{Entry}
 use Rattle.rc_fib.specs.Forwarding.{is_resolved, resolved}
 use Rattle.rc_fib.proofs.EndLaws.{resolved-resolved}
 use Rattle.rc_moves.specs.Moves.{HasResolvedHops}

@@ -14,7 +14,7 @@ use Rattle.rc_topology.specs.Links.{linked, takers, is_own, holds, port_is}
 use Rattle.rc_route.specs.declared.route.Hop.{Hop}
 use Rattle.rc_route.specs.declared.route.Hop.TheVariants.{Null, Dev, Via}
 use Rattle.rc_route.specs.declared.state.RouterState.{RouterState}
-use Rattle.rc_fib.specs.declared.entry.Entry.{Entry}
+use Rattle.rc_fib.specs.Entry.{Entry}
 use Rattle.rc_fib.specs.Entries.{IsFib}
 use Rattle.rc_fib.specs.Forwarding.{is_resolved, resolved, resolved_hops}
 use Rattle.rc_moves.specs.declared.walk.Move.{Move}

@@ -31,7 +31,7 @@ impl Drop for Tables {
 
 impl Model for Tables {
     ghost use Rattle.std.specs.Prelude.{List};
-    ghost use Rattle.rc_fib.specs.declared.entry.Entry.{Entry};
+    ghost use Rattle.rc_fib.specs.Entry.{Entry};
     ghost use Rattle.rc_moves.specs.Moves.{ArePrepared};
 
     ghost Value = { List (List Entry) };
@@ -41,7 +41,7 @@ impl Model for Tables {
     ghost invariant = { λ t. ArePrepared t.fibs };
 }
 
-/// The tables of a state, prepared for look-ups. Each takes over that of its router, whose paths are dropped behind it.
+/// The tables of a state, prepared for look-ups. What a router knows is dropped behind its table.
 fn fibs_of(alloc: Global, state: State) -> Result<Items<Fib>, AllocError>
     requires { All IsRouterState state }
     ensures value { IfOk result (λ fibs. fibs ≡ map (λ (s : Known). resolved s.table) state) }
@@ -50,7 +50,7 @@ fn fibs_of(alloc: Global, state: State) -> Result<Items<Fib>, AllocError>
     let mut fibs = Vec::with_capacity(alloc, state.len())?;
     let mut left = VecDeque::from(state.into_vec());
     while let Some(known) = left.pop_front() {
-        fibs.push(Fib::taking(alloc, known.into_table())?)?;
+        fibs.push(Fib::of(alloc, &known.table)?)?;
     }
     Ok(Items::from_vec(fibs))
 }

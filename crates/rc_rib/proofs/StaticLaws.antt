@@ -12,7 +12,7 @@ use Rattle.rc_config.specs.Down.{Entries}
 use Rattle.rc_config.specs.declared.static_route.StaticRoute.{StaticRoute}
 use Rattle.rc_config.specs.declared.static_route.Target.{Target}
 use Rattle.rc_config.specs.declared.static_route.Target.TheVariants as target
-use Rattle.rc_fib.specs.declared.entry.Entry.{Entry}
+use Rattle.rc_fib.specs.Entry.{Entry}
 use Rattle.rc_route.specs.Ways.{Way, then_way, with_way}
 use Rattle.rc_route.proofs.WayLaws.{best_is}
 use Rattle.rc_base.specs.Groups.{grouped, value_of, value_at}

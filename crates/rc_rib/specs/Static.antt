@@ -12,7 +12,7 @@ use Rattle.rc_config.specs.declared.static_route.StaticRoute.{StaticRoute}
 use Rattle.rc_config.specs.declared.static_route.Target.{Target}
 use Rattle.rc_config.specs.declared.static_route.Target.TheVariants as target
 use Rattle.rc_fib.specs.Forwarding.{resolves, resolved_prefix}
-use Rattle.rc_fib.specs.declared.entry.Entry.{Entry}
+use Rattle.rc_fib.specs.Entry.{Entry}
 use Rattle.rc_route.specs.Hops.{hop_cmp}
 use Rattle.rc_route.specs.Ways.{Way, best_of}
 use Rattle.rc_route.specs.declared.route.Hop.{Hop}

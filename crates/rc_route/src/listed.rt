@@ -19,6 +19,15 @@ pub trait HasPrefix {
         ensures { result ≡ prefix_of self.now };
 }
 
+/// A prefix by itself.
+impl HasPrefix for Prefix {
+    ghost prefix_of = { λ (p : Cidr). p };
+
+    fn prefix(&self) -> Prefix {
+        *self
+    }
+}
+
 impl HasPrefix for Route {
     ghost prefix_of = { λ (x : declared_route.Route). x.prefix };
 

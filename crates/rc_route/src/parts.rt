@@ -61,14 +61,6 @@ impl<T: Drop> Parts<T> {
         self.len
     }
 
-    /// Its parts, in order, which are the caller's from then on.
-    pub fn into_parts(self) -> Items<Arc<Items<T>, Global>>
-        ensures { joined_parts result ≡ self }
-    {
-        let Parts { parts, len: _ } = self;
-        parts
-    }
-
     /// Its parts, in order.
     pub fn parts(&self) -> &[Arc<Items<T>, Global>]
         ensures { joined_parts result.now ≡ self.now }

@@ -86,20 +86,6 @@ impl Route {
             hops,
         })
     }
-
-    /// The prefix and the hops, which are the caller's from then on.
-    pub fn into_hops(self) -> (Prefix, SharedHops)
-        ensures { result ≡ (self.prefix, self.hops) }
-    {
-        let Route {
-            prefix,
-            source: _,
-            distance: _,
-            metric: _,
-            hops,
-        } = self;
-        (prefix, hops)
-    }
 }
 
 /// Hops in the order in which those of a route stand, which is that of `Hop` as a key of std's maps and sorts too.

@@ -1,6 +1,4 @@
 //! What the routers know after a round.
-ghost use Rattle.std.specs.Prelude.{◌≡◌};
-
 use crate::{Best, Parts, Route};
 use rc_base::Items;
 
@@ -14,16 +12,6 @@ pub struct RouterState {
 impl Drop for RouterState {
     fn drop(self) {
         let RouterState { table: _, paths: _ } = self;
-    }
-}
-
-impl RouterState {
-    /// The table, which is the caller's from then on.
-    pub fn into_table(self) -> Parts<Route>
-        ensures { result ≡ self.table }
-    {
-        let RouterState { table, paths: _ } = self;
-        table
     }
 }
 

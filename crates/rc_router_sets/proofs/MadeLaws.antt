@@ -14,8 +14,7 @@ use Rattle.rc_nodes.specs.Seats.{TableView, SeatView, IsSeatOf, Keeps, SeatKnows
 use Rattle.rc_nodes.specs.declared.words.Ref.{Ref}
 use Rattle.rc_route.specs.declared.route.Hop.{Hop}
 use Rattle.rc_trees.specs.Recipes.{Recipe, tree}
-use Rattle.rc_sets.specs.Stretches.{AreStretches}
-use Rattle.rc_moves.specs.Moves.{DataPlane, fib_of, router_of}
+use Rattle.rc_moves.specs.Moves.{DataPlane, router_of}
 
 pub known_kept : (v w : SeatView) → Keeps v w → (made : Option Ref) (r : Recipe) → IsKnownIfMade v made r → IsKnownIfMade w made r
 known_kept v w keeps None r known = tt
@@ -67,19 +66,17 @@ module _ (nodes : TableView) (plane : DataPlane) (q : Pos) where
   made_kept made v w m table keeps = record {
     table = table;
     hops = m.hops;
-    stretches = m.stretches;
     parts = λ k x p at. known_kept v w keeps (part_in (parts_of made.parts.items k) p) (fixed plane r p x) (m.parts k x p at);
     owned = known_kept v w keeps made.owned (to_router plane r) m.owned;
     forwarded = known_kept v w keeps made.forwarded (forwarded plane q) m.forwarded;
   }
 
-  module _ (made next : RouterSets) (v : SeatView) (m : IsMade nodes v plane q made) (hops : next.hops ≡ made.hops) (stretches : next.stretches ≡ made.stretches) where
+  module _ (made next : RouterSets) (v : SeatView) (m : IsMade nodes v plane q made) (hops : next.hops ≡ made.hops) where
     -- with the set of the own addresses
     pub with_owned : next.parts.items ≡ made.parts.items → next.forwarded ≡ made.forwarded → (s : Ref) → next.owned ≡ Some s → SeatKnows v s.index (tree (to_router plane r)) → IsMade nodes v plane q next
     with_owned same still s is known = record {
       table = m.table;
       hops = hops ∙ m.hops;
-      stretches = subst (λ ns. AreStretches ns (fib_of plane r)) (sym stretches) m.stretches;
       parts = λ k x p at. subst (λ o. IsKnownIfMade v (part_in (parts_of o k) p) (fixed plane r p x)) (sym same) (m.parts k x p (ap (λ hs. slice_get hs k) (sym hops) ∙ at));
       owned = subst (λ o. IsKnownIfMade v o (to_router plane r)) (sym is) known;
       forwarded = subst (λ o. IsKnownIfMade v o (forwarded plane q)) (sym still) m.forwarded;
@@ -90,7 +87,6 @@ module _ (nodes : TableView) (plane : DataPlane) (q : Pos) where
     with_forwarded same still s is known = record {
       table = m.table;
       hops = hops ∙ m.hops;
-      stretches = subst (λ ns. AreStretches ns (fib_of plane r)) (sym stretches) m.stretches;
       parts = λ k x p at. subst (λ o. IsKnownIfMade v (part_in (parts_of o k) p) (fixed plane r p x)) (sym same) (m.parts k x p (ap (λ hs. slice_get hs k) (sym hops) ∙ at));
       owned = subst (λ o. IsKnownIfMade v o (to_router plane r)) (sym still) m.owned;
       forwarded = subst (λ o. IsKnownIfMade v o (forwarded plane q)) (sym is) known;
@@ -102,7 +98,6 @@ module _ (nodes : TableView) (plane : DataPlane) (q : Pos) where
     noted same still i x p s here is known = record {
       table = m.table;
       hops = hops ∙ m.hops;
-      stretches = subst (λ ns. AreStretches ns (fib_of plane r)) (sym stretches) m.stretches;
       parts = λ k y o at. subst (λ all. IsKnownIfMade v (part_in (parts_of all k) o) (fixed plane r o y)) (sym is) (by k y o (ap (λ hs. slice_get hs k) (sym hops) ∙ at) (get-set made.parts.items k i new));
       owned = subst (λ o. IsKnownIfMade v o (to_router plane r)) (sym same) m.owned;
       forwarded = subst (λ o. IsKnownIfMade v o (forwarded plane q)) (sym still) m.forwarded;

@@ -19,7 +19,7 @@ use Rattle.rc_config.specs.declared.interface.Interface.{Interface}
 use Rattle.rc_config.specs.declared.network.Network.{Network}
 use Rattle.rc_config.specs.declared.router_text.RouterText.{RouterText}
 use Rattle.rc_fib.specs.Entries.{IsFib}
-use Rattle.rc_fib.specs.declared.entry.Entry.{Entry}
+use Rattle.rc_fib.specs.Entry.{Entry}
 use Rattle.rc_topology.specs.Links as topology
 use Rattle.rc_topology.specs.Ports.{block_addresses, links_of, port_addr, port_of, ports_of}
 use Rattle.rc_topology.specs.Topology.{Topology}

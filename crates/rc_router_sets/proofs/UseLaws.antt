@@ -6,7 +6,7 @@ use Rattle.rc_base.specs.declared.position.Pos.{Pos}
 use Rattle.rc_base.specs.declared.ending.Kind.TheVariants.{DeniedIn, Accepted}
 use Rattle.rc_router_sets.specs.Endings.{end}
 use Rattle.rc_router_sets.specs.Sent.{forwarded, let_in, sent, to_router}
-use Rattle.rc_fib.specs.declared.entry.Entry.{Entry}
+use Rattle.rc_fib.specs.Entry.{Entry}
 use Rattle.rc_route.specs.declared.route.Hop.{Hop}
 use Rattle.rc_sets.specs.Regions.{hop_set}
 use Rattle.rc_trees.specs.Recipes.{given, and, minus, tree}

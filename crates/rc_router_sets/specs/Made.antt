@@ -12,12 +12,11 @@ use Rattle.rc_router_sets.specs.declared.router_sets.RouterSets.{RouterSets}
 use Rattle.rc_nodes.specs.Seats.{TableView, SeatView, IsSeatOf, SeatKnows}
 use Rattle.rc_nodes.specs.declared.words.Ref.{Ref}
 use Rattle.rc_route.specs.declared.route.Hop.{Hop}
-use Rattle.rc_sets.specs.Stretches.{AreStretches}
 use Rattle.rc_topology.specs.Links.{port_at}
 use Rattle.rc_topology.specs.declared.port.Port.{Port}
 use Rattle.rc_topology.specs.declared.port.PortAddr.{PortAddr}
 use Rattle.rc_trees.specs.Recipes.{Recipe, tree}
-use Rattle.rc_moves.specs.Moves.{DataPlane, fib_of, router_of}
+use Rattle.rc_moves.specs.Moves.{DataPlane, router_of}
 
 -- the addresses of an interface with their prefixes
 abbrev pub owned_at : DataPlane → IfId → List PortAddr
@@ -35,7 +34,6 @@ IsKnownIfMade seat set r = IfSome set (λ s. SeatKnows seat s.index (tree r))
 pub record IsMade (nodes : TableView) (seat : SeatView) (plane : DataPlane) (q : Pos) (made : RouterSets) : Type 0 where
   pub table : IsSeatOf nodes seat
   pub hops : made.hops ≡ hops_at plane q
-  pub stretches : AreStretches made.stretches (fib_of plane (router_of q))
   pub parts : (k : ℕ) (x : Hop) (p : Part) → slice_get made.hops k ≡ Some x → IsKnownIfMade seat (part_in (parts_of made.parts.items k) p) (fixed plane (router_of q) p x)
   pub owned : IsKnownIfMade seat made.owned (to_router plane (router_of q))
   pub forwarded : IsKnownIfMade seat made.forwarded (forwarded plane q)

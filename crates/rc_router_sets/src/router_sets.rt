@@ -1,5 +1,5 @@
 //! What is made once for a router.
-ghost use Rattle.std.specs.Prelude.{◌≡◌, IfOk, IfErr, Some, length, replicate, slice_get, slice_set};
+ghost use Rattle.std.specs.Prelude.{◌≡◌, [], IfOk, IfErr, Some, length, replicate, slice_get, slice_set};
 ghost use Rattle.rc_bdd.specs.Work.{IsCause};
 ghost use Rattle.rc_router_sets.specs.HopParts as spec;
 ghost use Rattle.rc_router_sets.specs.Made.{IsMade};
@@ -7,7 +7,6 @@ ghost use Rattle.rc_router_sets.specs.Sent.{hops_at, to_router};
 ghost use Rattle.rc_router_sets.specs.Steps.{fixed, part_at};
 ghost use Rattle.rc_nodes.specs.Seats.{IsSeatOf, Keeps, SeatKnows};
 ghost use Rattle.rc_sets.specs.Regions.{hop_set, hops_in};
-ghost use Rattle.rc_sets.specs.Stretches.{AreStretches};
 ghost use Rattle.rc_trees.specs.Recipes.{parts, tree};
 ghost use Rattle.rc_trees.specs.Trees.{HasNodes};
 ghost use Rattle.rc_moves.specs.Moves.{fib_of, router_of};
@@ -18,11 +17,11 @@ use crate::hop_sets::{HopAt, Site};
 use crate::hop_steps::{Part, device, is_everything};
 use rc_base::{Items, RouterId};
 use rc_bdd::{SetError, Work};
-use rc_fib::Entry;
+use rc_fib::Fib;
 use rc_moves::Plane;
 use rc_nodes::{ALWAYS, May, NEVER, Nodes, Ref};
 use rc_route::Hop;
-use rc_sets::{TableHops, hop_set_by};
+use rc_sets::{hop_set, hops_in};
 use std::alloc::{AllocError, Global};
 
 /// The parts of a hop that were made so far.
@@ -77,8 +76,6 @@ impl HopParts {
 pub struct RouterSets {
     /// The hops of its table, in their order.
     pub hops: Items<Hop>,
-    /// How many routes stand in each stretch of its table.
-    pub stretches: Items<usize>,
     /// For each hop its parts.
     pub parts: Vec<HopParts>,
     /// The headers to an own address.
@@ -92,7 +89,6 @@ impl Drop for RouterSets {
     fn drop(self) {
         let RouterSets {
             hops: _,
-            stretches: _,
             parts: _,
             owned: _,
             forwarded: _,
@@ -102,20 +98,31 @@ impl Drop for RouterSets {
 
 impl RouterSets {
     /// Nothing is made yet of a router with this table.
-    pub fn of(alloc: Global, entries: &[Entry]) -> Result<RouterSets, AllocError>
-        ensures hops { IfOk result (λ made. made.hops ≡ hops_in entries.now) }
-        ensures stretches { IfOk result (λ made. AreStretches made.stretches entries.now) }
+    pub fn of(alloc: Global, fib: &Fib) -> Result<RouterSets, AllocError>
+        ensures hops { IfOk result (λ made. made.hops ≡ hops_in fib.now) }
         ensures nothing { IfOk result (λ made. (made.parts.items ≡ replicate (length made.hops) spec.no_parts) × (made.owned ≡ None) × (made.forwarded ≡ None)) }
     {
-        let TableHops { hops, stretches } = TableHops::of(alloc, entries)?;
+        let hops = hops_in(alloc, fib)?;
         let parts = vec![in alloc; no_parts(); hops.len()]?;
         Ok(RouterSets {
             hops,
-            stretches,
             parts,
             owned: None,
             forwarded: None,
         })
+    }
+
+    /// Nothing is made yet of a router without a table: there are no hops. It takes no memory.
+    pub fn without_table(alloc: Global) -> RouterSets
+        ensures hops { result.hops ≡ [] }
+        ensures nothing { (result.parts.items ≡ []) × (result.owned ≡ None) × (result.forwarded ≡ None) }
+    {
+        RouterSets {
+            hops: Items::new(alloc),
+            parts: Vec::new(alloc),
+            owned: None,
+            forwarded: None,
+        }
     }
 }
 
@@ -150,11 +157,9 @@ pub fn over_set<M: May>(
     nodes: &Nodes<M>,
     plane: &Plane<'_>,
     router: RouterId,
-    stretches: &[usize],
     hop: &Hop,
 ) -> Result<Ref, SetError>
     requires seat { IsSeatOf nodes.now work.old }
-    requires stretches { AreStretches stretches.now (fib_of plane.now router) }
     requires may { HasNodes nodes.now.may (parts (hop_set (fib_of plane.now router) hop.now)) }
     ensures seat { IsSeatOf nodes.now work.new }
     ensures keeps { Keeps work.old work.new }
@@ -164,7 +169,7 @@ pub fn over_set<M: May>(
     let Some(fib) = plane.fib(router) else {
         return Ok(NEVER);
     };
-    hop_set_by(alloc, work, nodes, fib, stretches, hop)
+    hop_set(alloc, work, nodes, fib, hop)
 }
 
 /// A part of a router's hop.
@@ -174,12 +179,10 @@ fn new_part<M: May>(
     nodes: &Nodes<M>,
     plane: &Plane<'_>,
     router: RouterId,
-    stretches: &[usize],
     hop: &Hop,
     part: Part,
 ) -> Result<Ref, SetError>
     requires seat { IsSeatOf nodes.now work.old }
-    requires stretches { AreStretches stretches.now (fib_of plane.now router) }
     requires may { HasNodes nodes.now.may (parts (fixed plane.now router part hop.now)) }
     ensures seat { IsSeatOf nodes.now work.new }
     ensures keeps { Keeps work.old work.new }
@@ -188,7 +191,7 @@ fn new_part<M: May>(
 {
     let interface = device(hop);
     match part {
-        Part::Over => over_set(alloc, work, nodes, plane, router, stretches, hop),
+        Part::Over => over_set(alloc, work, nodes, plane, router, hop),
         Part::LetOut => let_out_set(work, nodes, plane.network(), &interface),
         Part::Taken => taken_set(alloc, work, nodes, plane, &interface),
         Part::Subnets => subnets_set(alloc, work, nodes, plane, &interface),
@@ -241,16 +244,7 @@ pub fn part_set<M: May>(
     if let Some(set) = parts_at(made.parts.as_slice(), at.index).part(part) {
         return Ok(set);
     }
-    let set = new_part(
-        alloc,
-        work,
-        nodes,
-        site.plane,
-        site.router(),
-        made.stretches.as_slice(),
-        &at.hop,
-        part,
-    )?;
+    let set = new_part(alloc, work, nodes, site.plane, site.router(), &at.hop, part)?;
     note(&mut made.parts, at.index, part, set);
     Ok(set)
 }

@@ -285,25 +285,25 @@ before_le : (p q : Cidr) → Before p q → p.network ≤ q.network
 before_le p q (inl lt) = omega arith
 before_le p q (inr e) = let f = e.0 in omega arith
 
--- things with prefixes, each of which stands before those after it
-abbrev pub RisesBy : {A : Type 0} → (A → Cidr) → List A → Type 0
-RisesBy f [] = Unit {0}
-RisesBy f (x ∷ xs) = AllByRecursion (λ y. Before (f x) (f y)) xs × RisesBy f xs
+-- each prefix stands before those after it
+abbrev pub Rising : List Cidr → Type 0
+Rising [] = Unit {0}
+Rising (p ∷ ps) = AllByRecursion (Before p) ps × Rising ps
 
 abbrev pub IsBelow : ℕ → (ℕ → Bool) → Cidr → Type 0
 IsBelow d way p = IsPrefix p × (d < p.len) × (leading_bits d p.network ≡ lead way d)
 
-module _ {A : Type 0} (f : A → Cidr) (d : ℕ) (way : ℕ → Bool) (short : d < 32) where
-  pub parted : (xs : List A) → AllByRecursion (λ x. IsBelow d way (f x)) xs → RisesBy f xs → IsPartitionedBy (λ x. not (address_bit (f x).network d)) xs
-  parted [] all rises i j x le within e = absurd (omega arith)
-  parted (y ∷ ys) all rises zero zero x le within e = e
-  parted (y ∷ ys) all rises zero (suc j) x le within e =
-      let b = at_place (λ z. Before (f y) (f z)) ys j x (omega arith) rises.0 in
-      let g = at_place (λ z. IsBelow d way (f z)) ys j x (omega arith) all.1 in
+module _ (d : ℕ) (way : ℕ → Bool) (short : d < 32) where
+  pub parted : (ps : List Cidr) → AllByRecursion (IsBelow d way) ps → Rising ps → IsPartitionedBy (λ (p : Cidr). not (address_bit p.network d)) ps
+  parted [] all rises i j p le within e = absurd (omega arith)
+  parted (q ∷ qs) all rises zero zero p le within e = e
+  parted (q ∷ qs) all rises zero (suc j) p le within e =
+      let b = at_place (Before q) qs j p (omega arith) rises.0 in
+      let g = at_place (IsBelow d way) qs j p (omega arith) all.1 in
       let h = all.0 in
-      bit_falls d (f y).network (f (get_or ys j x)).network short (before_le (f y) (f (get_or ys j x)) b) (h.2 ∙ sym g.2) e
-  parted (y ∷ ys) all rises (suc i) zero x le within e = absurd (omega arith)
-  parted (y ∷ ys) all rises (suc i) (suc j) x le within e = parted ys all.1 rises.1 i j x (omega arith) (omega arith) e
+      bit_falls d q.network (get_or qs j p).network short (before_le q (get_or qs j p) b) (h.2 ∙ sym g.2) e
+  parted (q ∷ qs) all rises (suc i) zero p le within e = absurd (omega arith)
+  parted (q ∷ qs) all rises (suc i) (suc j) p le within e = parted qs all.1 rises.1 i j p (omega arith) (omega arith) e
 
 pub is_zero_bit : (b : Bool) → not b ≡ true → b ≡ false
 is_zero_bit true e = absurd (cc e)

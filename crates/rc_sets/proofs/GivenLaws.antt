@@ -1,46 +1,67 @@
--- The prefixes of the routes that give a hop, beside the marks of all routes.
+-- The prefixes of the routes that give a hop, beside those of all routes.
 use Rattle.std.proofs.Common.{◌≡◌, ℕ, zero, suc, ◌<◌, ◌≤◌, ◌==◌, ◌&&◌, Bool, true, false, cond, refl, sym, ap, ◌∙◌, arith, eq-eqb, ne_eqb, List, [], ◌∷◌, ◌++◌, length, map, filter, take, drop}
 use Rattle.std.specs.Bool.{beq}
 use Rattle.std.specs.List.{AllByRecursion, list_all}
+use Rattle.std.proofs.lemmas.List.{map-append}
+use Rattle.std.proofs.lemmas.List.Elements.{filter-append}
 use Rattle.std.proofs.Math.Decide.{ℕ_discrete}
 use Rattle.rc_base.specs.Prefix.{Cidr}
-use Rattle.rc_fib.specs.declared.entry.Entry.{Entry}
+use Rattle.rc_fib.specs.Entry.{Entry}
 use Rattle.rc_route.specs.declared.route.Hop.{Hop}
-use Rattle.rc_sets.specs.Marks.{Mark, mark_of, marks, prefixes_over, Before, Rises, AreOn, begins, known_at, entries_below, prefixes_below}
+use Rattle.rc_sets.specs.Marks.{Mark, mark_of, marks, prefixes, giving, prefixes_over, Before, Rises, AreOn, begins, known_at, prefixes_below}
 use Rattle.rc_sets.specs.Regions.{gives}
-use Rattle.rc_sets.proofs.BuildLaws.{IsBelow, RisesBy, all_longer, own_known, own_rest}
+use Rattle.rc_sets.proofs.BuildLaws.{IsBelow, Rising, all_longer, own_known, own_rest}
 
--- ---- what holds of all routes holds of those that give the hop
+-- ---- the marks of a table
 
-module _ (x : Hop) (P : Cidr → Type 0) where
-  pub all_entries : (es : List Entry) → AllByRecursion (λ (m : Mark). P m.prefix) (marks x es) → AllByRecursion (λ (e : Entry). P e.prefix) es
-  all_entries [] h = tt
-  all_entries (e ∷ es) h = (h.0, all_entries es h.1)
+module _ (x : Hop) where
+  pub routes_marked : (es : List Entry) → map (λ (e : Entry). e.prefix) es ≡ prefixes (marks x es)
+  routes_marked [] = refl
+  routes_marked (e ∷ es) = ap (λ ps. e.prefix ∷ ps) (routes_marked es)
 
-  pub all_marks : (es : List Entry) → AllByRecursion (λ (e : Entry). P e.prefix) es → AllByRecursion (λ (m : Mark). P m.prefix) (marks x es)
-  all_marks [] h = tt
-  all_marks (e ∷ es) h = (h.0, all_marks es h.1)
-
-  pub all_given : (es : List Entry) → AllByRecursion (λ (e : Entry). P e.prefix) es → AllByRecursion P (prefixes_over x es)
-  all_given [] h = tt
-  all_given (e ∷ es) h = by (gives x e) (all_given es h.1)
+  pub given_marked : (es : List Entry) → prefixes_over x es ≡ giving (marks x es)
+  given_marked [] = refl
+  given_marked (e ∷ es) = by (gives x e) (given_marked es)
     where
-      by : (b : Bool) → AllByRecursion P (prefixes_over x es) → AllByRecursion P (map (λ (f : Entry). f.prefix) (cond b (e ∷ filter (gives x) es) (filter (gives x) es)))
+      by : (b : Bool) → prefixes_over x es ≡ giving (marks x es)
+          → map (λ (f : Entry). f.prefix) (cond b (e ∷ filter (gives x) es) (filter (gives x) es)) ≡ prefixes (cond b (mark_of x e ∷ filter (λ (m : Mark). m.gives) (marks x es)) (filter (λ (m : Mark). m.gives) (marks x es)))
+      by true later = ap (λ ps. e.prefix ∷ ps) later
+      by false later = later
+
+-- ---- what holds of all marks holds of their prefixes, and of those of the routes that give the hop
+
+-- those of a list with one mark more
+abbrev with_mark : Mark → List Mark → Bool → List Cidr
+with_mark m ms b = prefixes (cond b (m ∷ filter (λ (n : Mark). n.gives) ms) (filter (λ (n : Mark). n.gives) ms))
+
+module _ (P : Cidr → Type 0) where
+  pub all_prefixes : (ms : List Mark) → AllByRecursion (λ (m : Mark). P m.prefix) ms → AllByRecursion P (prefixes ms)
+  all_prefixes [] h = tt
+  all_prefixes (m ∷ ms) h = (h.0, all_prefixes ms h.1)
+
+  pub all_marks : (ms : List Mark) → AllByRecursion P (prefixes ms) → AllByRecursion (λ (m : Mark). P m.prefix) ms
+  all_marks [] h = tt
+  all_marks (m ∷ ms) h = (h.0, all_marks ms h.1)
+
+  pub all_given : (ms : List Mark) → AllByRecursion (λ (m : Mark). P m.prefix) ms → AllByRecursion P (giving ms)
+  all_given [] h = tt
+  all_given (m ∷ ms) h = by m.gives (all_given ms h.1)
+    where
+      by : (b : Bool) → AllByRecursion P (giving ms) → AllByRecursion P (with_mark m ms b)
       by true later = (h.0, later)
       by false later = later
 
-module _ (x : Hop) where
-  pub rises_entries : (es : List Entry) → Rises (marks x es) → RisesBy (λ (e : Entry). e.prefix) es
-  rises_entries [] r = tt
-  rises_entries (e ∷ es) r = (all_entries x (Before e.prefix) es r.0, rises_entries es r.1)
+pub rises_prefixes : (ms : List Mark) → Rises ms → Rising (prefixes ms)
+rises_prefixes [] r = tt
+rises_prefixes (m ∷ ms) r = (all_prefixes (Before m.prefix) ms r.0, rises_prefixes ms r.1)
 
-  pub rises_given : (es : List Entry) → RisesBy (λ (e : Entry). e.prefix) es → RisesBy (λ (p : Cidr). p) (prefixes_over x es)
-  rises_given [] r = tt
-  rises_given (e ∷ es) r = by (gives x e) (rises_given es r.1)
-    where
-      by : (b : Bool) → RisesBy (λ (p : Cidr). p) (prefixes_over x es) → RisesBy (λ (p : Cidr). p) (map (λ (f : Entry). f.prefix) (cond b (e ∷ filter (gives x) es) (filter (gives x) es)))
-      by true later = (all_given x (Before e.prefix) es r.0, later)
-      by false later = later
+pub rises_given : (ms : List Mark) → Rises ms → Rising (giving ms)
+rises_given [] r = tt
+rises_given (m ∷ ms) r = by m.gives (rises_given ms r.1)
+  where
+    by : (b : Bool) → Rising (giving ms) → Rising (with_mark m ms b)
+    by true later = (all_given (Before m.prefix) ms r.0, later)
+    by false later = later
 
 -- ---- the route of the way itself
 
@@ -52,100 +73,89 @@ all_below : (d : ℕ) (ps : List Cidr) → AllByRecursion (λ (p : Cidr). d < p.
 all_below d [] h = refl
 all_below d (p ∷ ps) h = ap (λ b. cond b ps (p ∷ ps)) (ne_eqb p.len d (λ e. let less : d < p.len = h.0 in absurd (omega arith)))
 
-module _ (x : Hop) (d : ℕ) where
-  pub marks_below : (es : List Entry) → marks x (entries_below d es) ≡ own_rest d (marks x es)
-  marks_below [] = refl
-  marks_below (e ∷ es) = by (e.prefix.len == d)
+module _ (d : ℕ) where
+  pub routes_below : (ms : List Mark) → prefixes_below d (prefixes ms) ≡ prefixes (own_rest d ms)
+  routes_below [] = refl
+  routes_below (m ∷ ms) = by (m.prefix.len == d)
     where
-      by : (b : Bool) → map (mark_of x) (cond b es (e ∷ es)) ≡ cond b (map (mark_of x) es) (map (mark_of x) (e ∷ es))
+      by : (b : Bool) → cond b (prefixes ms) (m.prefix ∷ prefixes ms) ≡ prefixes (cond b ms (m ∷ ms))
       by true = refl
       by false = refl
 
-  module _ (e : Entry) (es : List Entry) (later : AllByRecursion (λ (f : Entry). d < f.prefix.len) es) where
-    abbrev behind : List Cidr
-    behind = prefixes_over x es
+  module _ (m : Mark) (ms : List Mark) (later : AllByRecursion (λ (n : Mark). d < n.prefix.len) ms) where
+    longer : AllByRecursion (λ (p : Cidr). d < p.len) (giving ms)
+    longer = all_given (λ p. d < p.len) ms later
 
-    longer : AllByRecursion (λ (p : Cidr). d < p.len) behind
-    longer = all_given x (λ p. d < p.len) es later
+    begins_is : m.prefix.len ≡ d → (b : Bool) → begins d (with_mark m ms b) ≡ b
+    begins_is same true = eq-eqb m.prefix.len d same
+    begins_is same false = none_begins d (giving ms) longer
 
-    begins_is : e.prefix.len ≡ d → (b : Bool) → begins d (map (λ (f : Entry). f.prefix) (cond b (e ∷ filter (gives x) es) (filter (gives x) es))) ≡ b
-    begins_is same true = eq-eqb e.prefix.len d same
-    begins_is same false = none_begins d behind longer
+    below_is : m.prefix.len ≡ d → (b : Bool) → prefixes_below d (with_mark m ms b) ≡ giving ms
+    below_is same true = ap (λ c. cond c (giving ms) (m.prefix ∷ giving ms)) (eq-eqb m.prefix.len d same)
+    below_is same false = all_below d (giving ms) longer
 
-    below_is : e.prefix.len ≡ d → (b : Bool) → prefixes_below d (map (λ (f : Entry). f.prefix) (cond b (e ∷ filter (gives x) es) (filter (gives x) es))) ≡ behind
-    below_is same true = ap (λ c. cond c behind (e.prefix ∷ behind)) (eq-eqb e.prefix.len d same)
-    below_is same false = all_below d behind longer
+    below_other : d < m.prefix.len → (b : Bool) → prefixes_below d (with_mark m ms b) ≡ with_mark m ms b
+    below_other less true = all_below d (m.prefix ∷ giving ms) (less, longer)
+    below_other less false = all_below d (giving ms) longer
 
-    below_other : d < e.prefix.len → (b : Bool) → prefixes_below d (map (λ (f : Entry). f.prefix) (cond b (e ∷ filter (gives x) es) (filter (gives x) es))) ≡ map (λ (f : Entry). f.prefix) (cond b (e ∷ filter (gives x) es) (filter (gives x) es))
-    below_other less true = all_below d (e.prefix ∷ behind) (less, longer)
-    below_other less false = all_below d behind longer
-
-  module _ (way : ℕ → Bool) (known : Bool) where
-    later_of : (e : Entry) (es : List Entry) → AreOn d way (marks x (e ∷ es)) → AllByRecursion (λ (f : Entry). d < f.prefix.len) es
-    later_of e es o =
+  module _ (way : ℕ → Bool) where
+    later_of : (m : Mark) (ms : List Mark) → AreOn d way (m ∷ ms) → AllByRecursion (λ (n : Mark). d < n.prefix.len) ms
+    later_of m ms o =
         let (i, le, same) = o.all.0 in
-        let all = all_longer d way (mark_of x e) (marks x es) le same o.all.1 o.rises.0 in
-        lengths es (all_entries x (IsBelow d way) es all)
+        lengths ms (all_longer d way m ms le same o.all.1 o.rises.0)
       where
-        lengths : (fs : List Entry) → AllByRecursion (λ (f : Entry). IsBelow d way f.prefix) fs → AllByRecursion (λ (f : Entry). d < f.prefix.len) fs
+        lengths : (ns : List Mark) → AllByRecursion (λ (n : Mark). IsBelow d way n.prefix) ns → AllByRecursion (λ (n : Mark). d < n.prefix.len) ns
         lengths [] h = tt
-        lengths (f ∷ fs) h = (h.0.1, lengths fs h.1)
+        lengths (n ∷ ns) h = (h.0.1, lengths ns h.1)
 
-    pub known_is : (es : List Entry) → AreOn d way (marks x es) → known_at d known es (prefixes_over x es) ≡ own_known d known (marks x es)
-    known_is [] o = refl
-    known_is (e ∷ es) o = elim (ℕ_discrete e.prefix.len d) [
-      | yes same ↦ ap (λ b. cond (e.prefix.len == d) b known) (begins_is e es (later_of e es o) same (gives x e))
-      | no ne ↦ ap (λ b. cond b (begins d (prefixes_over x (e ∷ es))) known) (ne_eqb e.prefix.len d ne) ∙ sym (ap (λ b. cond b (gives x e) known) (ne_eqb e.prefix.len d ne))
+    pub known_is : (known : Bool) (ms : List Mark) → AreOn d way ms → known_at d known (prefixes ms) (giving ms) ≡ own_known d known ms
+    known_is known [] o = refl
+    known_is known (m ∷ ms) o = elim (ℕ_discrete m.prefix.len d) [
+      | yes same ↦ ap (λ b. cond (m.prefix.len == d) b known) (begins_is m ms (later_of m ms o) same m.gives)
+      | no ne ↦ ap (λ b. cond b (begins d (giving (m ∷ ms))) known) (ne_eqb m.prefix.len d ne) ∙ sym (ap (λ b. cond b m.gives known) (ne_eqb m.prefix.len d ne))
     ]
 
-    pub given_below : (es : List Entry) → AreOn d way (marks x es) → prefixes_below d (prefixes_over x es) ≡ prefixes_over x (entries_below d es)
+    pub given_below : (ms : List Mark) → AreOn d way ms → prefixes_below d (giving ms) ≡ giving (own_rest d ms)
     given_below [] o = refl
-    given_below (e ∷ es) o =
+    given_below (m ∷ ms) o =
         let (i, le, same) = o.all.0 in
-        elim (ℕ_discrete e.prefix.len d) [
-          | yes equal ↦ below_is e es (later_of e es o) equal (gives x e) ∙ ap (λ b. prefixes_over x (cond b es (e ∷ es))) (sym (eq-eqb e.prefix.len d equal))
-          | no ne ↦ below_other e es (later_of e es o) (omega arith) (gives x e) ∙ ap (λ b. prefixes_over x (cond b es (e ∷ es))) (sym (ne_eqb e.prefix.len d ne))
+        elim (ℕ_discrete m.prefix.len d) [
+          | yes equal ↦ below_is m ms (later_of m ms o) equal m.gives ∙ ap (λ b. giving (cond b ms (m ∷ ms))) (sym (eq-eqb m.prefix.len d equal))
+          | no ne ↦ below_other m ms (later_of m ms o) (omega arith) m.gives ∙ ap (λ b. giving (cond b ms (m ∷ ms))) (sym (ne_eqb m.prefix.len d ne))
         ]
 
 -- ---- how many routes give the hop
 
-module _ (x : Hop) where
-  pub few : (es : List Entry) → length (prefixes_over x es) ≤ length es
-  few [] = omega arith
-  few (e ∷ es) = by (gives x e) (few es)
-    where
-      by : (b : Bool) → length (prefixes_over x es) ≤ length es → length (map (λ (f : Entry). f.prefix) (cond b (e ∷ filter (gives x) es) (filter (gives x) es))) ≤ suc (length es)
-      by true less = omega arith
-      by false less = omega arith
+pub few : (ms : List Mark) → length (giving ms) ≤ length ms
+few [] = omega arith
+few (m ∷ ms) = by m.gives (few ms)
+  where
+    by : (b : Bool) → length (giving ms) ≤ length ms → length (with_mark m ms b) ≤ suc (length ms)
+    by true less = omega arith
+    by false less = omega arith
 
-  pub each_gives : (es : List Entry) → length (prefixes_over x es) ≡ length es → list_all (λ (m : Mark). beq m.gives true) (marks x es) ≡ true
-  each_gives [] same = refl
-  each_gives (e ∷ es) same = by (gives x e) (each_gives es) same
-    where
-      by : (b : Bool) → (length (prefixes_over x es) ≡ length es → list_all (λ (m : Mark). beq m.gives true) (marks x es) ≡ true) → length (map (λ (f : Entry). f.prefix) (cond b (e ∷ filter (gives x) es) (filter (gives x) es))) ≡ suc (length es)
-          → (beq b true && list_all (λ (m : Mark). beq m.gives true) (marks x es)) ≡ true
-      by true later as_many = later (omega arith)
-      by false later as_many = let less = few es in absurd (omega arith)
+pub each_gives : (ms : List Mark) → length (giving ms) ≡ length ms → list_all (λ (m : Mark). beq m.gives true) ms ≡ true
+each_gives [] same = refl
+each_gives (m ∷ ms) same = by m.gives (each_gives ms) same
+  where
+    by : (b : Bool) → (length (giving ms) ≡ length ms → list_all (λ (n : Mark). beq n.gives true) ms ≡ true) → length (with_mark m ms b) ≡ suc (length ms) → (beq b true && list_all (λ (n : Mark). beq n.gives true) ms) ≡ true
+    by true later as_many = later (omega arith)
+    by false later as_many = let less = few ms in absurd (omega arith)
 
-  pub none_gives : (es : List Entry) → length (prefixes_over x es) ≡ 0 → list_all (λ (m : Mark). beq m.gives false) (marks x es) ≡ true
-  none_gives [] same = refl
-  none_gives (e ∷ es) same = by (gives x e) (none_gives es) same
-    where
-      by : (b : Bool) → (length (prefixes_over x es) ≡ 0 → list_all (λ (m : Mark). beq m.gives false) (marks x es) ≡ true) → length (map (λ (f : Entry). f.prefix) (cond b (e ∷ filter (gives x) es) (filter (gives x) es))) ≡ 0
-          → (beq b false && list_all (λ (m : Mark). beq m.gives false) (marks x es)) ≡ true
-      by true later as_many = absurd (omega arith)
-      by false later as_many = later as_many
+pub none_gives : (ms : List Mark) → length (giving ms) ≡ 0 → list_all (λ (m : Mark). beq m.gives false) ms ≡ true
+none_gives [] same = refl
+none_gives (m ∷ ms) same = by m.gives (none_gives ms) same
+  where
+    by : (b : Bool) → (length (giving ms) ≡ 0 → list_all (λ (n : Mark). beq n.gives false) ms ≡ true) → length (with_mark m ms b) ≡ 0 → (beq b false && list_all (λ (n : Mark). beq n.gives false) ms) ≡ true
+    by true later as_many = absurd (omega arith)
+    by false later as_many = later as_many
 
-  -- ---- the routes before a place, and those from it on
+-- ---- the routes before a place, and those from it on
 
-  pub given-append : (es fs : List Entry) → prefixes_over x (es ++ fs) ≡ prefixes_over x es ++ prefixes_over x fs
-  given-append [] fs = refl
-  given-append (e ∷ es) fs = by (gives x e) (given-append es fs)
-    where
-      by : (b : Bool) → prefixes_over x (es ++ fs) ≡ prefixes_over x es ++ prefixes_over x fs → map (λ (f : Entry). f.prefix) (cond b (e ∷ filter (gives x) (es ++ fs)) (filter (gives x) (es ++ fs)))
-          ≡ map (λ (f : Entry). f.prefix) (cond b (e ∷ filter (gives x) es) (filter (gives x) es)) ++ prefixes_over x fs
-      by true later = ap (λ ps. e.prefix ∷ ps) later
-      by false later = later
+pub given-append : (ms ns : List Mark) → giving (ms ++ ns) ≡ giving ms ++ giving ns
+given-append ms ns =
+    ap prefixes (filter-append (λ (m : Mark). m.gives) ms ns)
+    ∙ map-append (λ (m : Mark). m.prefix) (filter (λ (m : Mark). m.gives) ms) (filter (λ (m : Mark). m.gives) ns)
 
 -- a list is parted at one place only
 module _ (P Q : Cidr → Type 0) (apart : (p : Cidr) → P p → Q p → ⊥) where

@@ -9,6 +9,7 @@ mod DecidingLaws
 mod FullLaws
 mod GivenLaws
 mod IntervalLaws
+mod KeyLaws
 mod LeadLaws
 mod LineLaws
 pub mod LongestLaws

@@ -13,7 +13,7 @@ use Rattle.rc_route.proofs.HopLaws.{same_hop-Decides}
 use Rattle.rc_route.specs.Hops.{hop_cmp, same_hop}
 use Rattle.rc_route.specs.declared.route.Hop.{Hop}
 use Rattle.rc_fib.specs.Forwarding.{entry_of, resolved_hops}
-use Rattle.rc_fib.specs.declared.entry.Entry.{Entry}
+use Rattle.rc_fib.specs.Entry.{Entry}
 use Rattle.rc_trees.specs.Recipes.{has}
 use Rattle.rc_trees.specs.Fields.{chain}
 use Rattle.rc_fib.specs.Entries.{IsFib}

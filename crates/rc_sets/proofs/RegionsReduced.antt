@@ -5,7 +5,7 @@ use Rattle.std.proofs.lemmas.List.Elements.{recursion_from_All}
 use Rattle.rc_base.specs.Prefix.{Cidr, IsCidr}
 use Rattle.rc_route.specs.declared.route.Hop.{Hop}
 use Rattle.rc_fib.specs.Entries.{IsFib}
-use Rattle.rc_fib.specs.declared.entry.Entry.{Entry}
+use Rattle.rc_fib.specs.Entry.{Entry}
 use Rattle.rc_trees.specs.Recipes.{IsOfReduced}
 use Rattle.rc_trees.specs.Fields.{chain}
 use Rattle.rc_trees.proofs.FieldsReduced.{of_reduced-chain}

@@ -3,10 +3,8 @@ use Rattle.std.proofs.Common.{◌≡◌, ◌≢◌, ℕ, ◌+◌, ◌<◌, ◌�
 use Rattle.std.specs.List.{AllByRecursion, list_all}
 use Rattle.std.specs.Bool.{beq}
 use Rattle.std.specs.List.Sorted.{IsPartitionedBy, IsPartitionPoint}
-use Rattle.std.proofs.lemmas.List.{drop-map, take-map, take-append-drop}
+use Rattle.std.proofs.lemmas.List.{drop-map, length-map, take-map, take-append-drop}
 use Rattle.rc_base.specs.Prefix.{Cidr}
-use Rattle.rc_fib.specs.declared.entry.Entry.{Entry}
-use Rattle.rc_route.specs.declared.route.Hop.{Hop}
 use Rattle.rc_trees.specs.Trees.{Tree}
 use Rattle.rc_nodes.specs.Seats.{TableView, SeatView, SeatKnows}
 use Rattle.rc_nodes.specs.declared.words.Ref.{Ref}
@@ -17,29 +15,29 @@ use Rattle.rc_trees.specs.Combine.{joined, constant}
 use Rattle.rc_trees.specs.Trees.{low_side, high_side}
 use Rattle.rc_sets.proofs.LeadLaws.{with_bit}
 use Rattle.rc_trees.proofs.SideLaws.{low_top, high_top, joined_low, joined_high, rejoined}
-use Rattle.rc_sets.specs.Marks.{Mark, address_bit, mark_of, marks, prefixes_over, AreOn, IsSetOf, IsHopSet, MayBuild, known_at, entries_below, prefixes_below, decided, held}
+use Rattle.rc_sets.specs.Marks.{Mark, address_bit, prefixes, giving, AreOn, IsSetOf, IsHopSet, MayBuild, known_at, prefixes_below, decided, held}
 use Rattle.rc_sets.proofs.BuildLaws.{AreBelow, IsBelow, rest_below, rest_set, short, nothing_left, parted, front_all, behind_all, low_on, high_on, low_set, high_set, own_known, own_rest}
-use Rattle.rc_sets.proofs.GivenLaws.{all_entries, all_given, all_marks, rises_entries, rises_given, marks_below, known_is, given_below, each_gives, none_gives, given-append, one_place}
+use Rattle.rc_sets.proofs.GivenLaws.{all_prefixes, all_given, all_marks, rises_prefixes, rises_given, routes_below, known_is, given_below, each_gives, none_gives, given-append, one_place}
 
 -- the routes of a way, without that of the way itself, the prefixes of those that give the hop, and the set that they decide
-pub record IsPart (d : ℕ) (known : Bool) (rest : List Entry) (left : List Cidr) (t : Tree) : Type 0 where
-  pub hop : Hop
+pub record IsPart (d : ℕ) (known : Bool) (rest left : List Cidr) (t : Tree) : Type 0 where
+  pub marked : List Mark
   pub way : ℕ → Bool
-  pub given : left ≡ prefixes_over hop rest
-  pub below : AreBelow d way (marks hop rest)
-  pub set : IsSetOf d way known (marks hop rest) t
+  pub routes : rest ≡ prefixes marked
+  pub given : left ≡ giving marked
+  pub below : AreBelow d way marked
+  pub set : IsSetOf d way known marked t
 
-pub part_of : (d : ℕ) (known : Bool) (es : List Entry) (gs : List Cidr) (t : Tree) → IsHopSet d known es gs t → (k : Bool) → k ≡ known_at d known es gs → (rest : List Entry) → rest ≡ entries_below d es → (left : List Cidr) → left ≡ prefixes_below d gs → IsPart d k rest left t
-part_of d known es gs t s k ek rest er left el =
-    let x : Hop = s.hop in
-    let decides : k ≡ own_known d known (marks x es) = ek ∙ ap (known_at d known es) s.is_given ∙ known_is x d s.way known es s.on in
-    let others : marks x rest ≡ own_rest d (marks x es) = ap (marks x) er ∙ marks_below x d es in
+pub part_of : (d : ℕ) (known : Bool) (rs gs : List Cidr) (t : Tree) → IsHopSet d known rs gs t → (k : Bool) → k ≡ known_at d known rs gs → (rest : List Cidr) → rest ≡ prefixes_below d rs → (left : List Cidr) → left ≡ prefixes_below d gs → IsPart d k rest left t
+part_of d known rs gs t s k ek rest er left el =
+    let decides : k ≡ own_known d known s.marked = ek ∙ (λ i. known_at d known (s.are_routes i) (s.are_given i)) ∙ known_is d s.way known s.marked s.on in
     record {
-      hop = x;
+      marked = own_rest d s.marked;
       way = s.way;
-      given = el ∙ ap (prefixes_below d) s.is_given ∙ given_below x d s.way known es s.on ∙ ap (prefixes_over x) (sym er);
-      below = subst (AreBelow d s.way) (sym others) (rest_below d s.way (marks x es) s.on);
-      set = subst (λ ms. IsSetOf d s.way k ms t) (sym others) (subst (λ b. IsSetOf d s.way b (own_rest d (marks x es)) t) (sym decides) (rest_set d s.way known (marks x es) t s.on s.set));
+      routes = er ∙ ap (prefixes_below d) s.are_routes ∙ routes_below d s.marked;
+      given = el ∙ ap (prefixes_below d) s.are_given ∙ given_below d s.way s.marked s.on;
+      below = rest_below d s.way s.marked s.on;
+      set = subst (λ b. IsSetOf d s.way b (own_rest d s.marked) t) (sym decides) (rest_set d s.way known s.marked t s.on s.set);
     }
 
 pub and_true : (a b : Bool) → (a && b) ≡ true → (a ≡ true) × (b ≡ true)
@@ -63,47 +61,51 @@ decided_same known (m ∷ ms) bits e =
 
 -- ---- whether routes are left that say otherwise
 
-pub each_says : (x : Hop) (known : Bool) (es : List Entry) → length (prefixes_over x es) ≡ cond known (length es) 0 → list_all (λ (m : Mark). beq m.gives known) (marks x es) ≡ true
-each_says x true es same = each_gives x es same
-each_says x false es same = none_gives x es same
+each_says : (known : Bool) (ms : List Mark) → length (giving ms) ≡ cond known (length ms) 0 → list_all (λ (m : Mark). beq m.gives known) ms ≡ true
+each_says true ms same = each_gives ms same
+each_says false ms same = none_gives ms same
 
-pub settled_part : (d : ℕ) (known : Bool) (rest : List Entry) (left : List Cidr) (t : Tree) → IsPart d known rest left t → (length left == cond known (length rest) 0) ≡ true → t ≡ constant known
+module _ {d : ℕ} {known : Bool} {rest left : List Cidr} {t : Tree} (p : IsPart d known rest left t) where
+  pub as_many : length p.marked ≡ length rest
+  as_many = sym (length-map p.marked (λ (m : Mark). m.prefix)) ∙ ap length (sym p.routes)
+
+  -- where so many of them give the hop, each says the same
+  pub all_say : (b : Bool) → (length left == cond b (length rest) 0) ≡ true → list_all (λ (m : Mark). beq m.gives b) p.marked ≡ true
+  all_say b e = each_says b p.marked (ap length (sym p.given) ∙ eqb-true (length left) (cond b (length rest) 0) e ∙ ap (λ n. cond b n 0) (sym as_many))
+
+pub settled_part : (d : ℕ) (known : Bool) (rest left : List Cidr) (t : Tree) → IsPart d known rest left t → (length left == cond known (length rest) 0) ≡ true → t ≡ constant known
 settled_part d known rest left t p e = nothing_left d p.way known t (record {
   reduced = p.set.reduced;
   above = p.set.above;
-  values = λ bits on.
-      let as_many : length (prefixes_over p.hop rest) ≡ cond known (length rest) 0 = ap length (sym p.given) ∙ eqb-true (length left) (cond known (length rest) 0) e in
-      p.set.values bits on ∙ decided_same known (marks p.hop rest) bits (each_says p.hop known rest as_many);
+  values = λ bits on. p.set.values bits on ∙ decided_same known p.marked bits (all_say p known e);
 })
 
 none_is_settled : (known : Bool) → (0 == cond known 0 0) ≡ true
 none_is_settled true = refl
 none_is_settled false = refl
 
-some_marks : (x : Hop) (es : List Entry) → es ≢ [] → marks x es ≢ []
-some_marks x [] some e = some refl
-some_marks x (f ∷ es) some e = absurd (cc e)
+no_marks : (ms : List Mark) → prefixes ms ≡ [] → ms ≡ []
+no_marks [] none = refl
+no_marks (m ∷ ms) none = absurd (cc none)
 
-pub is_something : (d : ℕ) (known : Bool) (rest : List Entry) (left : List Cidr) (t : Tree) → IsPart d known rest left t → (b : Bool) → b ≡ (length left == cond known (length rest) 0) → b ≡ false → rest ≢ []
+pub is_something : (d : ℕ) (known : Bool) (rest left : List Cidr) (t : Tree) → IsPart d known rest left t → (b : Bool) → b ≡ (length left == cond known (length rest) 0) → b ≡ false → rest ≢ []
 is_something d known rest left t p b e f none =
-    let nothing : left ≡ [] = p.given ∙ ap (prefixes_over p.hop) none in
+    let nothing : left ≡ [] = p.given ∙ ap giving (no_marks p.marked (sym p.routes ∙ none)) in
     let same : (length left == cond known (length rest) 0) ≡ (0 == cond known 0 0) = (λ i. length (nothing i) == cond known (length (none i)) 0) in
     let clash : true ≡ false = sym (e ∙ same ∙ none_is_settled known) ∙ f in
     absurd (cc clash)
 
-module _ {d : ℕ} {known : Bool} {rest : List Entry} {left : List Cidr} {t : Tree} (p : IsPart d known rest left t) (some : rest ≢ []) where
+module _ {d : ℕ} {known : Bool} {rest left : List Cidr} {t : Tree} (p : IsPart d known rest left t) (some : rest ≢ []) where
   pub is_short : d < 32
-  is_short = short d p.way (marks p.hop rest) p.below (some_marks p.hop rest some)
+  is_short = short d p.way p.marked p.below (λ none. some (p.routes ∙ ap prefixes none))
 
-  entries_are : AllByRecursion (λ (e : Entry). IsBelow d p.way e.prefix) rest
-  entries_are = all_entries p.hop (IsBelow d p.way) rest p.below.all
-
-  pub turns : IsPartitionedBy (λ (e : Entry). not (address_bit e.prefix.network d)) rest
-  turns = parted (λ (e : Entry). e.prefix) d p.way is_short rest entries_are (rises_entries p.hop rest p.below.rises)
+  pub turns : IsPartitionedBy (λ (g : Cidr). not (address_bit g.network d)) rest
+  turns = subst (IsPartitionedBy (λ (g : Cidr). not (address_bit g.network d))) (sym p.routes)
+      (parted d p.way is_short (prefixes p.marked) (all_prefixes (IsBelow d p.way) p.marked p.below.all) (rises_prefixes p.marked p.below.rises))
 
   pub given_turns : IsPartitionedBy (λ (g : Cidr). not (address_bit g.network d)) left
   given_turns = subst (IsPartitionedBy (λ (g : Cidr). not (address_bit g.network d))) (sym p.given)
-      (parted (λ (g : Cidr). g) d p.way is_short (prefixes_over p.hop rest) (all_given p.hop (IsBelow d p.way) rest entries_are) (rises_given p.hop rest (rises_entries p.hop rest p.below.rises)))
+      (parted d p.way is_short (giving p.marked) (all_given (IsBelow d p.way) p.marked p.below.all) (rises_given p.marked p.below.rises))
 
 abbrev Zero : ℕ → Cidr → Type 0
 Zero d g = address_bit g.network d ≡ false
@@ -115,72 +117,68 @@ apart : (d : ℕ) (g : Cidr) → Zero d g → One d g → ⊥
 apart d g zero one = let clash : false ≡ true = sym zero ∙ one in absurd (cc clash)
 
 -- where the routes and the prefixes are parted
-pub record ArePoints (d : ℕ) (rest : List Entry) (left : List Cidr) (n m : ℕ) : Type 0 where
+pub record ArePoints (d : ℕ) (rest left : List Cidr) (n m : ℕ) : Type 0 where
   pub within : n ≤ length rest
-  pub point : IsPartitionPoint (λ (e : Entry). Zero d e.prefix) (λ (e : Entry). One d e.prefix) rest n
+  pub point : IsPartitionPoint (Zero d) (One d) rest n
   pub given_within : m ≤ length left
   pub given_point : IsPartitionPoint (Zero d) (One d) left m
 
 -- the parts on both sides
-pub record AreSides (rest : List Entry) (left : List Cidr) (n m : ℕ) (front back : List Entry) (given_front given_back : List Cidr) : Type 0 where
+pub record AreSides (rest left : List Cidr) (n m : ℕ) (front back given_front given_back : List Cidr) : Type 0 where
   pub front_is : front ≡ take n rest
   pub back_is : back ≡ drop n rest
   pub given_front_is : given_front ≡ take m left
   pub given_back_is : given_back ≡ drop m left
 
-module _ {d : ℕ} {known : Bool} {rest : List Entry} {left : List Cidr} {t : Tree} (p : IsPart d known rest left t) (some : rest ≢ []) {n m : ℕ} (at : ArePoints d rest left n m)
-    {front back : List Entry} {given_front given_back : List Cidr} (sides : AreSides rest left n m front back given_front given_back) where
-  abbrev x : Hop
-  x = p.hop
+module _ {d : ℕ} {known : Bool} {rest left : List Cidr} {t : Tree} (p : IsPart d known rest left t) (some : rest ≢ []) {n m : ℕ} (at : ArePoints d rest left n m)
+    {front back given_front given_back : List Cidr} (sides : AreSides rest left n m front back given_front given_back) where
+  abbrev ms : List Mark
+  ms = p.marked
 
   abbrev way : ℕ → Bool
   way = p.way
 
-  front_zeros : AllByRecursion (λ (e : Entry). Zero d e.prefix) (take n rest)
-  front_zeros = front_all (λ (e : Entry). Zero d e.prefix) n rest at.within at.point.0
+  front_routes : take n rest ≡ prefixes (take n ms)
+  front_routes = ap (take n) p.routes ∙ take-map (λ (k : Mark). k.prefix) n ms
 
-  back_ones : AllByRecursion (λ (e : Entry). One d e.prefix) (drop n rest)
-  back_ones = behind_all (λ (e : Entry). One d e.prefix) n rest at.point.1
+  back_routes : drop n rest ≡ prefixes (drop n ms)
+  back_routes = ap (drop n) p.routes ∙ drop-map (λ (k : Mark). k.prefix) n ms
 
-  zeros : AllByRecursion (λ (k : Mark). Zero d k.prefix) (take n (marks x rest))
-  zeros = subst (AllByRecursion (λ (k : Mark). Zero d k.prefix)) (sym (take-map (mark_of x) n rest)) (all_marks x (Zero d) (take n rest) front_zeros)
+  zeros : AllByRecursion (λ (k : Mark). Zero d k.prefix) (take n ms)
+  zeros = all_marks (Zero d) (take n ms) (subst (AllByRecursion (Zero d)) front_routes (front_all (Zero d) n rest at.within at.point.0))
 
-  ones : AllByRecursion (λ (k : Mark). One d k.prefix) (drop n (marks x rest))
-  ones = subst (AllByRecursion (λ (k : Mark). One d k.prefix)) (sym (drop-map (mark_of x) n rest)) (all_marks x (One d) (drop n rest) back_ones)
+  ones : AllByRecursion (λ (k : Mark). One d k.prefix) (drop n ms)
+  ones = all_marks (One d) (drop n ms) (subst (AllByRecursion (One d)) back_routes (behind_all (One d) n rest at.point.1))
 
-  both : left ≡ prefixes_over x (take n rest) ++ prefixes_over x (drop n rest)
-  both = p.given ∙ ap (prefixes_over x) (sym (take-append-drop n rest)) ∙ given-append x (take n rest) (drop n rest)
+  both : left ≡ giving (take n ms) ++ giving (drop n ms)
+  both = p.given ∙ ap giving (sym (take-append-drop n ms)) ∙ given-append (take n ms) (drop n ms)
 
-  place : (take m left ≡ prefixes_over x (take n rest)) × (drop m left ≡ prefixes_over x (drop n rest))
+  place : (take m left ≡ giving (take n ms)) × (drop m left ≡ giving (drop n ms))
   place =
       let low : AllByRecursion (Zero d) (take m left) = front_all (Zero d) m left at.given_within at.given_point.0 in
       let high : AllByRecursion (One d) (drop m left) = behind_all (One d) m left at.given_point.1 in
-      let (before, after) = one_place (Zero d) (One d) (apart d) m (prefixes_over x (take n rest)) (prefixes_over x (drop n rest)) (all_given x (Zero d) (take n rest) front_zeros) (all_given x (One d) (drop n rest) back_ones)
+      let (before, after) = one_place (Zero d) (One d) (apart d) m (giving (take n ms)) (giving (drop n ms)) (all_given (Zero d) (take n ms) zeros) (all_given (One d) (drop n ms) ones)
       (subst (λ gs. AllByRecursion (Zero d) (take m gs)) both low) (subst (λ gs. AllByRecursion (One d) (drop m gs)) both high) in
       (ap (take m) both ∙ before, ap (drop m) both ∙ after)
 
-  low_marks : marks x front ≡ take n (marks x rest)
-  low_marks = ap (marks x) sides.front_is ∙ sym (take-map (mark_of x) n rest)
-
-  high_marks : marks x back ≡ drop n (marks x rest)
-  high_marks = ap (marks x) sides.back_is ∙ sym (drop-map (mark_of x) n rest)
-
   pub low_part : IsHopSet (d + 1) known front given_front (low_side d t)
   low_part = record {
-    hop = x;
+    marked = take n ms;
     way = with_bit way d false;
-    is_given = sides.given_front_is ∙ place.0 ∙ ap (prefixes_over x) (sym sides.front_is);
-    on = subst (λ ms. AreOn (d + 1) (with_bit way d false) ms) (sym low_marks) (subst (λ k. AreOn k (with_bit way d false) (take n (marks x rest))) (sym (add-one d)) (low_on d way known (marks x rest) t p.below p.set (is_short p some) n zeros ones));
-    set = subst (λ ms. IsSetOf (d + 1) (with_bit way d false) known ms (low_side d t)) (sym low_marks) (subst (λ k. IsSetOf k (with_bit way d false) known (take n (marks x rest)) (low_side d t)) (sym (add-one d)) (low_set d way known (marks x rest) t p.below p.set (is_short p some) n zeros ones));
+    are_routes = sides.front_is ∙ front_routes;
+    are_given = sides.given_front_is ∙ place.0;
+    on = subst (λ k. AreOn k (with_bit way d false) (take n ms)) (sym (add-one d)) (low_on d way known ms t p.below p.set (is_short p some) n zeros ones);
+    set = subst (λ k. IsSetOf k (with_bit way d false) known (take n ms) (low_side d t)) (sym (add-one d)) (low_set d way known ms t p.below p.set (is_short p some) n zeros ones);
   }
 
   pub high_part : IsHopSet (d + 1) known back given_back (high_side d t)
   high_part = record {
-    hop = x;
+    marked = drop n ms;
     way = with_bit way d true;
-    is_given = sides.given_back_is ∙ place.1 ∙ ap (prefixes_over x) (sym sides.back_is);
-    on = subst (λ ms. AreOn (d + 1) (with_bit way d true) ms) (sym high_marks) (subst (λ k. AreOn k (with_bit way d true) (drop n (marks x rest))) (sym (add-one d)) (high_on d way known (marks x rest) t p.below p.set (is_short p some) n zeros ones));
-    set = subst (λ ms. IsSetOf (d + 1) (with_bit way d true) known ms (high_side d t)) (sym high_marks) (subst (λ k. IsSetOf k (with_bit way d true) known (drop n (marks x rest)) (high_side d t)) (sym (add-one d)) (high_set d way known (marks x rest) t p.below p.set (is_short p some) n zeros ones));
+    are_routes = sides.back_is ∙ back_routes;
+    are_given = sides.given_back_is ∙ place.1;
+    on = subst (λ k. AreOn k (with_bit way d true) (drop n ms)) (sym (add-one d)) (high_on d way known ms t p.below p.set (is_short p some) n zeros ones);
+    set = subst (λ k. IsSetOf k (with_bit way d true) known (drop n ms) (high_side d t)) (sym (add-one d)) (high_set d way known ms t p.below p.set (is_short p some) n zeros ones);
   }
 
   again : joined d (low_side d t) (high_side d t) ≡ t
@@ -214,12 +212,12 @@ module _ {d : ℕ} {known : Bool} {rest : List Entry} {left : List Cidr} {t : Tr
     known_result last r joined = subst (SeatKnows last r) again (joined (low_side d t) (high_side d t) (low (low_side d t) low_part) (high (high_side d t) high_part))
 
 -- the whole contract of the step, from that of the join
-pub built_result : (d : ℕ) (known : Bool) (es : List Entry) (gs : List Cidr) (k : Bool) → k ≡ known_at d known es gs → (rest : List Entry) → rest ≡ entries_below d es → (left : List Cidr) → left ≡ prefixes_below d gs → rest ≢ [] → (n m : ℕ)
-    → ArePoints d rest left n m → (front back : List Entry) (given_front given_back : List Cidr) → AreSides rest left n m front back given_front given_back → (seat last : SeatView) (lo hi : ℕ)
+pub built_result : (d : ℕ) (known : Bool) (rs gs : List Cidr) (k : Bool) → k ≡ known_at d known rs gs → (rest : List Cidr) → rest ≡ prefixes_below d rs → (left : List Cidr) → left ≡ prefixes_below d gs → rest ≢ [] → (n m : ℕ)
+    → ArePoints d rest left n m → (front back given_front given_back : List Cidr) → AreSides rest left n m front back given_front given_back → (seat last : SeatView) (lo hi : ℕ)
     → ((u : Tree) → IsHopSet (d + 1) k front given_front u → SeatKnows seat lo u)
     → ((u : Tree) → IsHopSet (d + 1) k back given_back u → SeatKnows seat hi u)
     → (result : Result Ref Full) → IfOk result (λ r. (l h : Tree) → SeatKnows seat lo l → SeatKnows seat hi h → SeatKnows last r.index (joined d l h))
-    → IfOk result (λ r. (t : Tree) → IsHopSet d known es gs t → SeatKnows last r.index t)
-built_result d known es gs k ek rest er left el some n m at front back given_front given_back sides seat last lo hi low high (Ok r) joined = λ t s.
-    known_result (part_of d known es gs t s k ek rest er left el) some at sides seat lo hi low high last r.index joined
-built_result d known es gs k ek rest er left el some n m at front back given_front given_back sides seat last lo hi low high (Err e) joined = tt
+    → IfOk result (λ r. (t : Tree) → IsHopSet d known rs gs t → SeatKnows last r.index t)
+built_result d known rs gs k ek rest er left el some n m at front back given_front given_back sides seat last lo hi low high (Ok r) joined = λ t s.
+    known_result (part_of d known rs gs t s k ek rest er left el) some at sides seat lo hi low high last r.index joined
+built_result d known rs gs k ek rest er left el some n m at front back given_front given_back sides seat last lo hi low high (Err e) joined = tt

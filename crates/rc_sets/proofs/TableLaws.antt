@@ -1,5 +1,5 @@
 -- What the marks of a table decide: the last mark that holds a destination is that of its longest prefix.
-use Rattle.std.proofs.Common.{◌≡◌, ℕ, zero, suc, ◌+◌, ◌-◌, ◌*◌, ◌^◌, ◌<◌, ◌≤◌, ◌==◌, Bool, true, false, cond, refl, sym, ap, subst, ◌∙◌, arith, List, [], ◌∷◌, map, nat_lt, Option}
+use Rattle.std.proofs.Common.{◌≡◌, ℕ, zero, suc, ◌+◌, ◌-◌, ◌*◌, ◌^◌, ◌<◌, ◌≤◌, ◌==◌, Bool, true, false, cond, refl, sym, ap, ◌∙◌, arith, List, [], ◌∷◌, map, nat_lt, Option}
 use Rattle.std.specs.Prelude.{if◌then◌else◌}
 use Rattle.std.specs.List.{AllByRecursion, list_any, filter, fold, reduce}
 use Rattle.std.specs.List.Sorted.{IsStrictlySortedBy}
@@ -14,7 +14,7 @@ use Rattle.rc_base.specs.declared.field.Field.TheVariants.{Dst}
 use Rattle.rc_base.specs.declared.header.Header.{Header}
 use Rattle.rc_base.proofs.HeaderLaws.{headers_are_bits}
 use Rattle.rc_fib.specs.Entries.{IsFib}
-use Rattle.rc_fib.specs.declared.entry.Entry.{Entry}
+use Rattle.rc_fib.specs.Entry.{Entry}
 use Rattle.rc_route.specs.Hops.{same_hop}
 use Rattle.rc_route.specs.declared.route.Hop.{Hop}
 use Rattle.rc_trees.specs.Recipes.{tree}
@@ -24,6 +24,7 @@ use Rattle.rc_trees.proofs.OneTree.{by_bits}
 use Rattle.rc_trees.proofs.RecipeLaws.{reduced-tree}
 use Rattle.rc_sets.specs.Marks.{Mark, address_bit, mark_of, prefixes_over, digit, lead, inside, Before, IsPrefix, AreMarks, Rises, held, decided, IsHopSet, MayBuild}
 use Rattle.rc_sets.specs.Regions.{hop_set}
+use Rattle.rc_sets.proofs.GivenLaws.{given_marked, routes_marked}
 use Rattle.rc_sets.proofs.LeadLaws.{leading_more, same_lead}
 use Rattle.rc_sets.proofs.MarkLaws.{before_is, later_longer}
 use Rattle.rc_sets.proofs.RegionLaws.{has-hop_set}
@@ -164,20 +165,16 @@ module _ (fib : List Entry) (o : IsFib fib) (x : Hop) where
           ∙ on_header has.header has.fits
           ∙ same_decided (bit has.header) bits has.same false (map (mark_of x) fib) marks
 
-  all : IsHopSet 0 false fib (prefixes_over x fib) whole
-  all = record {
-    hop = x;
-    way = no_way;
-    is_given = refl;
-    on = record { all = on_no_way (map (mark_of x) fib) marks; rises = rises };
-    set = record { reduced = reduced; above = omega arith; values = λ bits on. values bits };
-  }
+  module _ (rs : List Cidr) (are : rs ≡ map (λ (e : Entry). e.prefix) fib) (gs : List Cidr) (given : gs ≡ prefixes_over x fib) where
+    pub set_all : IsHopSet 0 false rs gs whole
+    set_all = record {
+      marked = map (mark_of x) fib;
+      way = no_way;
+      are_routes = are ∙ routes_marked x fib;
+      are_given = given ∙ given_marked x fib;
+      on = record { all = on_no_way (map (mark_of x) fib) marks; rises = rises };
+      set = record { reduced = reduced; above = omega arith; values = λ bits on. values bits };
+    }
 
-  module _ (es : List Entry) (is : es ≡ fib) (gs : List Cidr) (given : gs ≡ prefixes_over x es) where
-    pub set_all : IsHopSet 0 false es gs whole
-    set_all =
-        subst (λ l. IsHopSet 0 false l gs whole) (sym is)
-        (subst (λ l. IsHopSet 0 false fib l whole) (sym (given ∙ ap (prefixes_over x) is)) all)
-
-    pub may_all : (may : List Tree) → HasNodesOf may whole → MayBuild may 0 false es gs
+    pub may_all : (may : List Tree) → HasNodesOf may whole → MayBuild may 0 false rs gs
     may_all may allowed = record { tree = whole; set = set_all; allowed = allowed }

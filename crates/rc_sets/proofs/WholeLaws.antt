@@ -1,21 +1,19 @@
 -- Routes that hold all that is on a way: what each of them says is said of all of it.
-use Rattle.std.proofs.Common.{◌≡◌, ℕ, zero, suc, ◌+◌, ◌-◌, ◌*◌, ◌^◌, ◌<◌, ◌≤◌, ◌==◌, ◌||◌, inl, inr, Bool, true, false, not, cond, refl, sym, ap, subst, ◌∙◌, arith, eqb-true, eq-eqb, ne_eqb, zero-add, List, [], ◌∷◌, length}
+use Rattle.std.proofs.Common.{◌≡◌, ℕ, zero, suc, ◌+◌, ◌-◌, ◌*◌, ◌^◌, ◌<◌, ◌≤◌, ◌==◌, ◌||◌, inl, inr, Bool, true, false, not, cond, refl, sym, ap, subst, ◌∙◌, arith, eq-eqb, ne_eqb, zero-add, List, [], ◌∷◌, length}
 use Rattle.std.specs.Bool.{beq}
 use Rattle.std.specs.List.{AllByRecursion, list_all, list_any}
-use Rattle.std.proofs.lemmas.List.{length-map}
 use Rattle.std.proofs.lemmas.Nat.{pow_pos}
 use Rattle.std.proofs.Math.Decide.{ℕ_discrete, dec_lt}
 use Rattle.std.proofs.Math.Nat.{pow-suc, suc-add}
 use Rattle.rc_base.specs.Addr.{leading_bits}
 use Rattle.rc_base.specs.Prefix.{Cidr, IsCidr}
-use Rattle.rc_fib.specs.declared.entry.Entry.{Entry}
 use Rattle.rc_trees.specs.Combine.{constant}
 use Rattle.rc_trees.specs.Trees.{Tree}
-use Rattle.rc_sets.specs.Marks.{Mark, address_bit, digit, lead, marks, mark_of, prefixes_over, Before, IsPrefix, Rises, IsWhole, decided, held}
+use Rattle.rc_sets.specs.Marks.{Mark, address_bit, digit, lead, Before, IsPrefix, Rises, IsWhole, decided, held}
 use Rattle.rc_sets.proofs.BuildLaws.{AreBelow, network_low, nothing_left}
 use Rattle.rc_sets.proofs.GivenLaws.{all_marks}
 use Rattle.rc_sets.proofs.LeadLaws.{leading_more, digit_small}
-use Rattle.rc_sets.proofs.StepLaws.{IsPart, and_true, decided_same, each_says}
+use Rattle.rc_sets.proofs.StepLaws.{IsPart, all_say, and_true, as_many, decided_same}
 
 -- ---- as many rising numbers as a stretch has are all of them
 
@@ -182,14 +180,12 @@ decided_other known (m ∷ ms) bits says any =
     by false gives here later others any = others any
 
 -- routes that hold all, each of which says otherwise than what was known, decide for all that is on the way
-pub whole_part : (d : ℕ) (known : Bool) (rest : List Entry) (left : List Cidr) (t : Tree) → IsPart d known rest left t → (length left == cond (not known) (length rest) 0) ≡ true → IsWhole d rest → t ≡ constant (not known)
+pub whole_part : (d : ℕ) (known : Bool) (rest left : List Cidr) (t : Tree) → IsPart d known rest left t → (length left == cond (not known) (length rest) 0) ≡ true → IsWhole d rest → t ≡ constant (not known)
 whole_part d known rest left t p e w = nothing_left d p.way (not known) t (record {
   reduced = p.set.reduced;
   above = p.set.above;
   values = λ bits on.
-      let x = p.hop in
-      let as_many : length (prefixes_over x rest) ≡ cond (not known) (length rest) 0 = ap length (sym p.given) ∙ eqb-true (length left) (cond (not known) (length rest) 0) e in
-      let alike : AllByRecursion (λ (m : Mark). m.prefix.len ≡ w.len) (marks x rest) = all_marks x (λ q. q.len ≡ w.len) rest w.alike in
-      let many : length (marks x rest) ≡ 2 ^ (w.len - d) = length-map rest (mark_of x) ∙ w.many in
-      p.set.values bits on ∙ decided_other known (marks x rest) bits (each_says x (not known) rest as_many) (holds d p.way w.len (marks x rest) p.below alike many bits on);
+      let alike : AllByRecursion (λ (m : Mark). m.prefix.len ≡ w.len) p.marked = all_marks (λ q. q.len ≡ w.len) p.marked (subst (AllByRecursion (λ (q : Cidr). q.len ≡ w.len)) p.routes w.alike) in
+      let many : length p.marked ≡ 2 ^ (w.len - d) = as_many p ∙ w.many in
+      p.set.values bits on ∙ decided_other known p.marked bits (all_say p (not known) e) (holds d p.way w.len p.marked p.below alike many bits on);
 })

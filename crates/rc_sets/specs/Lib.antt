@@ -9,4 +9,3 @@ pub mod Intervals
 pub mod Marks
 pub mod Regions
 pub mod Rows
-pub mod Stretches

@@ -6,7 +6,7 @@ use Rattle.rc_base.specs.Prefix.{Cidr, IsCidr}
 use Rattle.rc_trees.specs.Trees.{Tree, top, IsReduced}
 use Rattle.rc_trees.specs.Trees.{value, HasNodesOf}
 use Rattle.std.specs.Int.{bit_at}
-use Rattle.rc_fib.specs.declared.entry.Entry.{Entry}
+use Rattle.rc_fib.specs.Entry.{Entry}
 use Rattle.rc_route.specs.Hops.{same_hop}
 use Rattle.rc_route.specs.declared.route.Hop.{Hop}
 use Rattle.rc_sets.specs.Regions.{gives}
@@ -27,7 +27,15 @@ mark_of x e = record { prefix = e.prefix; gives = list_any (same_hop x) e.hops }
 abbrev pub marks : Hop → List Entry → List Mark
 marks x es = map (mark_of x) es
 
--- the prefixes of the routes that give the hop
+-- the prefixes of all routes
+abbrev pub prefixes : List Mark → List Cidr
+prefixes ms = map (λ (m : Mark). m.prefix) ms
+
+-- and of those that give the hop
+abbrev pub giving : List Mark → List Cidr
+giving ms = prefixes (filter (λ (m : Mark). m.gives) ms)
+
+-- the same, of a table
 abbrev pub prefixes_over : Hop → List Entry → List Cidr
 prefixes_over x es = map (λ (e : Entry). e.prefix) (filter (gives x) es)
 
@@ -86,18 +94,19 @@ pub record IsSetOf (depth : ℕ) (way : ℕ → Bool) (known : Bool) (marks : Li
   pub above : depth ≤ top t
   pub values : (bits : ℕ → Bool) → lead bits depth ≡ lead way depth → value t bits ≡ decided known marks bits
 
--- of the routes on some way these prefixes are those that give some hop, and the tree is its set on that way
-pub record IsHopSet (depth : ℕ) (known : Bool) (entries : List Entry) (given : List Cidr) (t : Tree) : Type 0 where
-  pub hop : Hop
+-- these are the prefixes of the routes on some way, these those of the routes that give a hop, and the tree is its set on that way
+pub record IsHopSet (depth : ℕ) (known : Bool) (routes given : List Cidr) (t : Tree) : Type 0 where
+  pub marked : List Mark
   pub way : ℕ → Bool
-  pub is_given : given ≡ prefixes_over hop entries
-  pub on : AreOn depth way (marks hop entries)
-  pub set : IsSetOf depth way known (marks hop entries) t
+  pub are_routes : routes ≡ prefixes marked
+  pub are_given : given ≡ giving marked
+  pub on : AreOn depth way marked
+  pub set : IsSetOf depth way known marked t
 
 -- and that set may be made
-pub record MayBuild (may : List Tree) (depth : ℕ) (known : Bool) (entries : List Entry) (given : List Cidr) : Type 0 where
+pub record MayBuild (may : List Tree) (depth : ℕ) (known : Bool) (routes given : List Cidr) : Type 0 where
   pub tree : Tree
-  pub set : IsHopSet depth known entries given tree
+  pub set : IsHopSet depth known routes given tree
   pub allowed : HasNodesOf may tree
 
 -- ---- a step
@@ -108,15 +117,11 @@ begins depth [] = false
 begins depth (p ∷ ps) = p.len == depth
 
 -- the route of the way itself, if any, decides for all that is on it
-abbrev pub known_at : ℕ → Bool → List Entry → List Cidr → Bool
+abbrev pub known_at : ℕ → Bool → List Cidr → List Cidr → Bool
 known_at depth known [] given = known
-known_at depth known (e ∷ es) given = cond (e.prefix.len == depth) (begins depth given) known
+known_at depth known (p ∷ ps) given = cond (p.len == depth) (begins depth given) known
 
 -- and the others are longer
-abbrev pub entries_below : ℕ → List Entry → List Entry
-entries_below depth [] = []
-entries_below depth (e ∷ es) = cond (e.prefix.len == depth) es (e ∷ es)
-
 abbrev pub prefixes_below : ℕ → List Cidr → List Cidr
 prefixes_below depth [] = []
 prefixes_below depth (p ∷ ps) = cond (p.len == depth) ps (p ∷ ps)
@@ -124,7 +129,7 @@ prefixes_below depth (p ∷ ps) = cond (p.len == depth) ps (p ∷ ps)
 -- ---- all that is on a way
 
 -- routes of one length, as many as there are prefixes of it on a way of so many bits: so each address there is in one of them
-pub record IsWhole (depth : ℕ) (entries : List Entry) : Type 0 where
+pub record IsWhole (depth : ℕ) (routes : List Cidr) : Type 0 where
   pub len : ℕ
-  pub alike : AllByRecursion (λ (e : Entry). e.prefix.len ≡ len) entries
-  pub many : length entries ≡ 2 ^ (len - depth)
+  pub alike : AllByRecursion (λ (p : Cidr). p.len ≡ len) routes
+  pub many : length routes ≡ 2 ^ (len - depth)

@@ -5,7 +5,7 @@ use Rattle.rc_base.specs.Lists.{in_order}
 use Rattle.rc_base.specs.Prefix.{Cidr, covers}
 use Rattle.rc_route.specs.Hops.{hop_cmp, same_hop}
 use Rattle.rc_route.specs.declared.route.Hop.{Hop}
-use Rattle.rc_fib.specs.declared.entry.Entry.{Entry}
+use Rattle.rc_fib.specs.Entry.{Entry}
 use Rattle.rc_trees.specs.Recipes.{Recipe, union_of, without}
 use Rattle.rc_trees.specs.Fields.{chain}
 

@@ -14,7 +14,7 @@ use Rattle.rc_config.specs.declared.access_list.FurtherTest.TheVariants as furth
 use Rattle.rc_config.specs.declared.access_list.PortTest.TheVariants.{Any, Below, Above, Within}
 use Rattle.rc_config.specs.declared.access_list.ProtocolTest.{ProtocolTest}
 use Rattle.rc_config.specs.declared.access_list.ProtocolTest.TheVariants as protocol
-use Rattle.rc_fib.specs.declared.entry.Entry.{Entry}
+use Rattle.rc_fib.specs.Entry.{Entry}
 use Rattle.rc_route.specs.declared.route.Hop.TheVariants.{Null}
 use Rattle.rc_trees.specs.Trees.{never, always}
 use Rattle.rc_trees.specs.Combine as trees

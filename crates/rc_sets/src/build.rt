@@ -2,16 +2,14 @@
 ghost use Rattle.std.specs.Prelude.{◌≡◌, ℕ, ◌+◌, ◌<◌, ◌≤◌, ◌==◌, [], IfOk, IfErr, Bool, true, false, cond, not, length};
 ghost use Rattle.std.specs.List.Sorted.{IsPartitionedBy, IsPartitionPoint};
 ghost use Rattle.rc_base.specs.Prefix.{Cidr};
-ghost use Rattle.rc_fib.specs.declared.entry.Entry.{Entry as Row};
 ghost use Rattle.rc_trees.specs.Trees.{Tree};
 ghost use Rattle.rc_nodes.specs.Seats.{IsFull, IsSeatOf, Keeps, SeatKnows, SeatView};
 ghost use Rattle.rc_trees.specs.Combine.{constant};
 ghost use Rattle.std.specs.List.{AllByRecursion};
-ghost use Rattle.rc_sets.specs.Marks.{address_bit, begins, entries_below, known_at, prefixes_below, IsHopSet, IsWhole, MayBuild};
+ghost use Rattle.rc_sets.specs.Marks.{address_bit, begins, known_at, prefixes_below, IsHopSet, IsWhole, MayBuild};
 
 use rc_base::{Addr, Prefix};
 use rc_bdd::Work;
-use rc_fib::Entry;
 use rc_nodes::{ALWAYS, Full, May, NEVER, Nodes, Ref};
 
 /// Whether a bit of an address is 1, the most significant first.
@@ -20,16 +18,6 @@ fn has_bit(addr: Addr, place: u8) -> bool
     ensures { result ≡ address_bit addr place }
 {
     (addr.bits() >> (31 - place)) % 2 == 1
-}
-
-/// Where the first route stands whose bit is 1.
-fn first_one(entries: &[Entry], place: u8) -> usize
-    requires place { place < 32 }
-    requires turns { IsPartitionedBy (λ (e : Row). not (address_bit e.prefix.network place)) entries.now }
-    ensures bound { result ≤ length entries.now }
-    ensures turns { IsPartitionPoint (λ (e : Row). address_bit e.prefix.network place ≡ false) (λ (e : Row). address_bit e.prefix.network place ≡ true) entries.now result }
-{
-    entries.partition_point(|entry| !has_bit(entry.prefix.network(), place))
 }
 
 /// Where the first prefix stands whose bit is 1.
@@ -53,22 +41,12 @@ fn begins(prefixes: &[Prefix], depth: u8) -> bool
 }
 
 /// Whether the route of this length gives the hop, if the first one is it.
-fn known_at(entries: &[Entry], given: &[Prefix], depth: u8, known: bool) -> bool
-    ensures { result ≡ known_at depth known entries.now given.now }
+fn known_at(routes: &[Prefix], given: &[Prefix], depth: u8, known: bool) -> bool
+    ensures { result ≡ known_at depth known routes.now given.now }
 {
-    match entries {
-        [entry, ..] if entry.prefix.len() == depth => begins(given, depth),
+    match routes {
+        [first, ..] if first.len() == depth => begins(given, depth),
         _ => known,
-    }
-}
-
-/// The routes without that of this length.
-fn entries_below(entries: &[Entry], depth: u8) -> &[Entry]
-    ensures { result.now ≡ entries_below depth entries.now }
-{
-    match entries {
-        [entry, rest @ ..] if entry.prefix.len() == depth => rest,
-        _ => entries,
     }
 }
 
@@ -90,11 +68,11 @@ fn is_settled(routes: usize, given: usize, known: bool) -> bool
 }
 
 /// Whether all of these routes are of one length.
-fn are_alike(routes: &[Entry], len: u8) -> bool
-    ensures { result ≡ true → AllByRecursion (λ (e : Row). e.prefix.len ≡ len) routes.now }
+fn are_alike(routes: &[Prefix], len: u8) -> bool
+    ensures { result ≡ true → AllByRecursion (λ (p : Cidr). p.len ≡ len) routes.now }
 {
     for route in routes {
-        if route.prefix.len() != len {
+        if route.len() != len {
             return false;
         }
     }
@@ -102,13 +80,13 @@ fn are_alike(routes: &[Entry], len: u8) -> bool
 }
 
 /// Whether these routes are told at once to hold all that is on a way of so many bits.
-fn is_whole(routes: &[Entry], depth: u8) -> bool
+fn is_whole(routes: &[Prefix], depth: u8) -> bool
     ensures { result ≡ true → IsWhole depth routes.now }
 {
     let [first, ..] = routes else {
         return false;
     };
-    let len = first.prefix.len();
+    let len = first.len();
     let further = len.saturating_sub(depth);
     routes.len() as u64 == 1 << further && are_alike(routes, len)
 }
@@ -120,25 +98,25 @@ fn constant_of(known: bool) -> Ref
     if known { ALWAYS } else { NEVER }
 }
 
-/// The set of a hop on a way of so many bits, from the routes there and the prefixes of those that give it, where `known` is what holds
+/// The set of a hop on a way of so many bits, from the prefixes of the routes there and of those that give it, where `known` is what holds
 /// without them.
 pub(crate) fn build<M: May>(
     work: &mut Work<M>,
     nodes: &Nodes<M>,
-    entries: &[Entry],
+    routes: &[Prefix],
     given: &[Prefix],
     depth: u8,
     known: bool,
 ) -> Result<Ref, Full>
     requires seat { IsSeatOf nodes.now work.old }
-    requires may { MayBuild nodes.now.may depth known entries.now given.now }
+    requires may { MayBuild nodes.now.may depth known routes.now given.now }
     ensures seat { IsSeatOf nodes.now work.new }
     ensures keeps { Keeps work.old work.new }
-    ensures built { IfOk result (λ r. (t : Tree) → IsHopSet depth known entries.now given.now t → SeatKnows work.new r.index t) }
+    ensures built { IfOk result (λ r. (t : Tree) → IsHopSet depth known routes.now given.now t → SeatKnows work.new r.index t) }
     ensures full { IfErr result (λ _. IsFull nodes.now work.new) }
 {
-    let known = known_at(entries, given, depth, known);
-    let rest = entries_below(entries, depth);
+    let known = known_at(routes, given, depth, known);
+    let rest = prefixes_below(routes, depth);
     let left = prefixes_below(given, depth);
     if is_settled(rest.len(), left.len(), known) {
         return Ok(constant_of(known));
@@ -146,7 +124,7 @@ pub(crate) fn build<M: May>(
     if is_settled(rest.len(), left.len(), !known) && is_whole(rest, depth) {
         return Ok(constant_of(!known));
     }
-    let middle = first_one(rest, depth);
+    let middle = first_prefix(rest, depth);
     let (zeros, ones) = rest.split_at(middle);
     let turn = first_prefix(left, depth);
     let (given_zeros, given_ones) = left.split_at(turn);

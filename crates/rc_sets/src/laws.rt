@@ -7,7 +7,7 @@ ghost use Rattle.rc_config.specs.declared.access_list.AccessList.{AccessList};
 ghost use Rattle.rc_config.specs.declared.access_list.AccessListLine.{AccessListLine};
 ghost use Rattle.rc_fib.specs.Entries.{IsFib};
 ghost use Rattle.rc_fib.specs.Forwarding.{resolved_hops};
-ghost use Rattle.rc_fib.specs.declared.entry.Entry.{Entry};
+ghost use Rattle.rc_fib.specs.Entry.{Entry};
 ghost use Rattle.rc_filter.specs.Verdict.{first_action, matches, passes};
 ghost use Rattle.rc_route.specs.Hops.{same_hop};
 ghost use Rattle.rc_route.specs.declared.route.Hop.{Hop};

@@ -19,11 +19,11 @@ mod lines_query;
 mod number;
 mod ports;
 mod prefix;
-mod stretches;
+mod table_hops;
 
 pub use access_list::filter_set;
 pub use asked_lists::idle_of_lists;
-pub use hops::{hop_set, hop_set_by};
+pub use hops::hop_set;
 pub use idle_line::{Idle, IdleLine};
 pub use idle_lines::idle;
 pub use laws::{
@@ -32,4 +32,4 @@ pub use laws::{
 };
 pub use lines_query::LinesQuery;
 pub use prefix::prefix_set;
-pub use stretches::TableHops;
+pub use table_hops::hops_in;

@@ -1,16 +1,23 @@
 -- The longest as a scan.
-use Rattle.std.proofs.Common.{refl, ◌≡◌, ap, sym, ◌∙◌, ℕ, zero, suc, ◌<◌, ◌≤◌, Bool, true, false, ◌&&◌, cond, List, [], ◌∷◌, length, map, get_or, Option, Some, None, nat_lt, arith}
+use Rattle.std.proofs.Common.{refl, ◌≡◌, ap, sym, ◌∙◌, ℕ, zero, suc, ◌<◌, ◌≤◌, Bool, true, false, ◌&&◌, cond, List, [], ◌∷◌, length, map, get_or, slice_get, subst, Option, Some, None, nat_lt, arith}
 use Rattle.std.specs.List.{filter, fold, reduce}
 use Rattle.std.specs.Option.{option_map}
 use Rattle.std.proofs.lemmas.Bool.Decides.{nat_tests}
+use Rattle.std.proofs.Math.ListN.{get_or-map}
+use Rattle.std.proofs.lemmas.List.{length-map}
+use Rattle.std.proofs.lemmas.Option.{get_or_from_slice_get, same_Some, slice_get-map, slice_get_within}
 use Rattle.rc_base.specs.Prefix.{Cidr, contains}
-use Rattle.rc_trie.specs.Tree.{longest_by}
+use Rattle.rc_trie.specs.Tree.{IsLongestAt, longest_by}
 
 not_lt : (m n : ℕ) → n ≤ m → nat_lt m n ≡ false
 not_lt m n le = grind (arith, nat_tests)
 
 is_lt : (m n : ℕ) → m < n → nat_lt m n ≡ true
 is_lt m n less = grind (arith, nat_tests)
+
+-- a thing that stands at a place
+read_at : {X : Type 0} (xs : List X) (i : ℕ) (x : X) → slice_get xs i ≡ Some x → (i < length xs) × (x ≡ get_or xs i x)
+read_at xs i x is = (slice_get_within xs i x is, sym (get_or_from_slice_get xs i x x is))
 
 -- ---- the longest as a scan
 
@@ -100,6 +107,12 @@ module _ {A : Type 0} (prefix : A → Cidr) (a : ℕ) where
       → longest_by prefix xs a ≡ Some e
   best_at xs i e within is holds before all = sym (from_none xs) ∙ reached xs i e None within is holds before all tt
 
+  -- the thing that is told to be the longest at its place
+  pub longest_is_at : (xs : List A) (i : ℕ) → IsLongestAt prefix xs a i → longest_by prefix xs a ≡ slice_get xs i
+  longest_is_at xs i l =
+      let (within, reads) = read_at xs i l.thing l.is in
+      best_at xs i l.thing within reads l.holds l.before l.others ∙ sym l.is
+
   none_scanned : (xs : List A) → ((k : ℕ) (d : A) → k < length xs → contains (prefix (get_or xs k d)) a ≡ true → ⊥) → fold longer None xs ≡ None
   none_scanned [] h = refl
   none_scanned (x ∷ xs) h =
@@ -143,3 +156,31 @@ module _ {X Y : Type 0} (g : X → Y) (f : Y → Cidr) (a : ℕ) where
 
   pub longest_map : (xs : List X) → longest_by f (map g xs) a ≡ option_map g (longest_by (λ x. f (g x)) xs a)
   longest_map xs = ap (reduce pick_y) (filtered xs) ∙ reduced (filter (λ x. contains (f (g x)) a) xs)
+
+-- ---- at a place of what is made of other things
+
+module _ {X : Type 0} (f : X → Cidr) (a : ℕ) where
+  pub longest_among_made : (xs : List X) (i : ℕ) → IsLongestAt (λ (p : Cidr). p) (map f xs) a i → longest_by f xs a ≡ slice_get xs i
+  longest_among_made xs i l = at (slice_get xs i) refl
+    where
+      made : (o : Option X) → slice_get xs i ≡ o → option_map f o ≡ Some l.thing
+      made o is = ap (option_map f) (sym is) ∙ sym (slice_get-map f xs i) ∙ l.is
+
+      at : (o : Option X) → slice_get xs i ≡ o → longest_by f xs a ≡ o
+      at None is = absurd (let none : None ≡ Some l.thing = made None is in cc none)
+      at (Some x) is =
+          let same : f x ≡ l.thing = same_Some (f x) l.thing (made (Some x) is) in
+          longest_is_at f a xs i (record {
+            thing = x;
+            is = is;
+            holds = ap (λ p. contains p a) same ∙ l.holds;
+            before = λ k d less holds. subst (λ (p : Cidr). (f (get_or xs k d)).len < p.len) (sym same) (subst (λ (p : Cidr). p.len < l.thing.len) (get_or-map f xs k d) (l.before k (f d) less (ap (λ p. contains p a) (get_or-map f xs k d) ∙ holds)));
+            others = λ k d less holds. subst (λ (p : Cidr). (f (get_or xs k d)).len ≤ p.len) (sym same) (subst (λ (p : Cidr). p.len ≤ l.thing.len) (get_or-map f xs k d) (l.others k (f d) (subst (λ n. k < n) (sym (length-map xs f)) less) (ap (λ p. contains p a) (get_or-map f xs k d) ∙ holds)));
+          }) ∙ is
+
+  pub none_among_made : (xs : List X) → longest_by (λ (p : Cidr). p) (map f xs) a ≡ None → longest_by f xs a ≡ None
+  none_among_made xs none = at (longest_by f xs a) (sym (longest_map f (λ (p : Cidr). p) a xs) ∙ none)
+    where
+      at : (o : Option X) → option_map f o ≡ None → o ≡ None
+      at None e = refl
+      at (Some x) e = absurd (cc e)

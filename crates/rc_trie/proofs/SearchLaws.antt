@@ -1,5 +1,5 @@
 -- Look-ups in a list that is in order of prefix.
-use Rattle.std.proofs.Common.{refl, ◌≡◌, ap, sym, ◌∙◌, subst, ℕ, ◌+◌, ◌-◌, ◌*◌, ◌/◌, ◌^◌, ◌<◌, ◌≤◌, min, div-mul-le_self, eqb-true, pow_pos, Bool, true, false, List, length, map, get_or, Some, None, nat_le, inl, inr, leb-true, le-leb, arith}
+use Rattle.std.proofs.Common.{refl, ◌≡◌, ap, sym, ◌∙◌, subst, ℕ, ◌+◌, ◌-◌, ◌*◌, ◌/◌, ◌^◌, ◌<◌, ◌≤◌, min, div-mul-le_self, eqb-true, pow_pos, Bool, true, false, List, length, map, get_or, None, nat_le, inl, inr, leb-true, le-leb, arith}
 use Rattle.std.specs.List.Sorted.{IsPartitionedBy, IsPartitionPoint}
 use Rattle.std.specs.Int.Bits.{bit_xor, xor_self}
 use Rattle.std.specs.Int.Count.{count_leading_zeros}
@@ -9,13 +9,14 @@ use Rattle.std.proofs.lemmas.Nat.{leading_le, leading_length, pow-add, xor_of_32
 use Rattle.std.proofs.lemmas.Bool.Decides.{nat_tests}
 use Rattle.std.specs.declared.cmp.Ordering.TheVariants.{Less}
 use Rattle.std.proofs.lemmas.List.{get_or-map, get_or_default, length-map}
+use Rattle.std.proofs.lemmas.Option.{slice_get_read}
 use Rattle.std.proofs.lemmas.Map.Keys.{Less-from_sorted}
 use Rattle.rc_base.specs.Prefix.{Cidr, IsCidr, contains, prefix_at, prefix_cmp}
 use Rattle.rc_route.specs.Tables.{IsListed}
-use Rattle.rc_trie.specs.Tree.{AreInOrder, longest_by}
+use Rattle.rc_trie.specs.Tree.{AreInOrder, IsLongestAt, longest_by}
 use Rattle.rc_trie.specs.Search.{IsReach, IsShared, NoneHolds}
 use Rattle.rc_trie.proofs.OrderLaws.{begins_at, begins_before, holds_between, holds_is, later_longer, networks_rise}
-use Rattle.rc_trie.proofs.ScanLaws.{best_at, none_holds}
+use Rattle.rc_trie.proofs.ScanLaws.{none_holds}
 
 either : (b : Bool) → (b ≡ true → ⊥) → b ≡ false
 either true h = absurd (h refl)
@@ -132,8 +133,9 @@ module _ {X : Type 0} (f : X → Cidr) (rows : List X) (are : AreInOrder f rows)
             ];
           }
 
-      pub found : contains (f r) a ≡ true → Some r ≡ longest_by f rows a
-      found holds =
+      -- it is the longest that holds the address, at its place
+      pub found_at : contains (f r) a ≡ true → IsLongestAt f rows a (end - 1)
+      found_at holds =
           let w = within_rows in
           let canonical : IsCidr (f r) = subst (λ (x : X). IsCidr (f x)) (sym is) (canonical_at (end - 1) r w) in
           let before : (k : ℕ) (d : X) → k < end - 1 → contains (f (get_or rows k d)) a ≡ true → (f (get_or rows k d)).len < (f r).len =
@@ -152,7 +154,7 @@ module _ {X : Type 0} (f : X → Cidr) (rows : List X) (are : AreInOrder f rows)
             ]
           ]
           in
-          sym (best_at f a rows (end - 1) r w is holds before all)
+          record { thing = r; is = slice_get_read rows (length rows) (end - 1) r refl w is; holds = holds; before = before; others = all }
 
     pub none_found : (end : ℕ) → end ≡ 0 → IsLeft f rows a end → None ≡ longest_by f rows a
     none_found end is left = sym (none_holds f a rows (λ k d less there. both_ways (contains (f (get_or rows k d)) a) there (left.none k d (omega arith) less)))

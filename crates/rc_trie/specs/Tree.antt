@@ -1,5 +1,5 @@
 -- A map from prefixes to values as the list of its rows, by address, then length; and the row of the longest prefix that holds an address.
-use Rattle.std.specs.Prelude.{ℕ, if◌then◌else◌, nat_lt, List, All, Option, filter}
+use Rattle.std.specs.Prelude.{◌≡◌, ℕ, ◌<◌, ◌≤◌, true, if◌then◌else◌, nat_lt, List, All, Option, Some, filter, length, slice_get, slice_index_or}
 use Rattle.std.specs.List.{reduce}
 use Rattle.std.specs.BTreeMap.{insert_entry}
 use Rattle.rc_base.specs.Prefix.{Cidr, IsCidr, contains, prefix_cmp}
@@ -14,6 +14,14 @@ pub record AreInOrder {A : Type 0} (prefix : A → Cidr) (xs : List A) : Type 0 
 abbrev pub longest_by : {A : Type 0} → (A → Cidr) → List A → ℕ → Option A
 longest_by prefix xs a =
     reduce (λ x y. if nat_lt (prefix x).len (prefix y).len then y else x) (filter (λ x. contains (prefix x) a) xs)
+
+-- the thing at a place holds the address; of the others that do, those before it are shorter, and none is longer
+pub record IsLongestAt {A : Type 0} (prefix : A → Cidr) (xs : List A) (a place : ℕ) : Type 0 where
+  pub thing : A
+  pub is : slice_get xs place ≡ Some thing
+  pub holds : contains (prefix thing) a ≡ true
+  pub before : (k : ℕ) (d : A) → k < place → contains (prefix (slice_index_or xs k d)) a ≡ true → (prefix (slice_index_or xs k d)).len < (prefix thing).len
+  pub others : (k : ℕ) (d : A) → k < length xs → contains (prefix (slice_index_or xs k d)) a ≡ true → (prefix (slice_index_or xs k d)).len ≤ (prefix thing).len
 
 -- the row of the longest prefix that holds the address (RFC 1812 s.5.2.4.3)
 abbrev pub longest_row : List (Cidr × ℕ) → ℕ → Option (Cidr × ℕ)

@@ -9,5 +9,5 @@ mod row;
 mod search;
 mod tree;
 
-pub use search::{longest_in, read_prefixes};
+pub use search::{longest_at, longest_in, read_prefixes};
 pub use tree::PrefixTree;

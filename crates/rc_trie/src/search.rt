@@ -1,10 +1,10 @@
 //! Look-ups in lists that are in order of prefix.
-ghost use Rattle.std.specs.Prelude.{◌≡◌, ◌≤◌};
+ghost use Rattle.std.specs.Prelude.{◌≡◌, ◌≤◌, MatchOption, None};
 ghost use Rattle.std.specs.Option.{option_copied};
 ghost use Rattle.rc_base.specs.Prefix.{prefix_at};
 ghost use Rattle.rc_route.specs.Tables.{IsListed};
 ghost use Rattle.rc_trie.specs.Search.{AreRows, IsPlace, IsReach, IsShared, ends_before};
-ghost use Rattle.rc_trie.specs.Tree.{AreInOrder, longest_by};
+ghost use Rattle.rc_trie.specs.Tree.{AreInOrder, IsLongestAt, longest_by};
 
 use crate::row::Row;
 use rc_base::{Addr, Prefix};
@@ -44,25 +44,37 @@ pub fn read_prefixes<T: HasPrefix>(rows: &[T])
     }
 }
 
-/// The row of the longest prefix that holds an address, or `None` exactly where no row's prefix does (RFC 1812 s.5.2.4.3).
+/// Where the row of the longest prefix stands that holds an address, or `None` exactly where no row's prefix does (RFC 1812 s.5.2.4.3).
 ///
 /// Of the rows that begin at the address or before it the last one holds it, or none does that begins behind the longest prefix of both
 /// its first address and this one. So a look-up takes a bisection for each step, and mostly one. It takes no memory.
-pub fn longest_in<T: HasPrefix>(rows: &[T], addr: Addr) -> Option<&T>
+pub fn longest_at<T: HasPrefix>(rows: &[T], addr: Addr) -> Option<usize>
     requires { AreInOrder T.prefix_of rows.now }
-    ensures { option_copied result ≡ longest_by T.prefix_of rows.now addr }
+    ensures { MatchOption result (longest_by T.prefix_of rows.now addr ≡ None) (IsLongestAt T.prefix_of rows.now addr) }
 {
     let mut end = reach(rows, addr);
     while end > 0 {
-        let row = &rows[end - 1];
-        let prefix = row.prefix();
+        let prefix = rows[end - 1].prefix();
         if prefix.contains(addr) {
-            return Some(row);
+            return Some(end - 1);
         }
         let both = shared(prefix.network(), addr);
         end = reach(rows, both).min(end - 1);
     }
     None
+}
+
+/// The row of the longest prefix that holds an address, or `None` exactly where no row's prefix does (RFC 1812 s.5.2.4.3). It takes no
+/// memory.
+pub fn longest_in<T: HasPrefix>(rows: &[T], addr: Addr) -> Option<&T>
+    requires { AreInOrder T.prefix_of rows.now }
+    ensures { option_copied result ≡ longest_by T.prefix_of rows.now addr }
+{
+    let place = longest_at(rows, addr);
+    match place {
+        Some(place) => Some(&rows[place]),
+        None => None,
+    }
 }
 
 /// Whether all rows stand before a prefix, by the last of them.

@@ -1,11 +1,10 @@
-use Rattle.std.proofs.Common.{ℕ, List, sym, subst}
+use Rattle.std.proofs.Common.{sym, subst}
 use Rattle.rc_router_sets.proofs.JoinLaws.{known_like, may_like, may_and, operated, piece}
 use Rattle.rc_router_sets.proofs.MadeLaws.{made_kept, whenever}
 use Rattle.rc_router_sets.proofs.UseLaws.{sent_is}
 use Rattle.rc_router_sets.specs.Sent.{forwarded, sent}
 use Rattle.rc_route.specs.declared.route.Hop.TheVariants.{Null}
 use Rattle.rc_sets.specs.Regions.{hop_set}
-use Rattle.rc_sets.specs.Stretches.{AreStretches}
 use Rattle.rc_nodes.specs.Seats.{SeatKnows}
 use Rattle.rc_trees.proofs.PartLaws.{and-first, and-second}
 use Rattle.rc_trees.specs.Combine as trees
@@ -17,12 +16,6 @@ use Rattle.rc_edges.proofs.endings.null_routed_set.Goals as goal
 
 pub forwarded_set-requires-clause-may : goal.forwarded_set-requires-clause-may
 forwarded_set-requires-clause-may g c = (piece c.args.nodes.now.may (recipes.and (forwarded c.args.site.now.plane.now c.args.site.now.position) (hop_set (fib_of c.args.site.now.plane.now (router_of c.args.site.now.position)) Null)) (forwarded c.args.site.now.plane.now c.args.site.now.position) (and-first (forwarded c.args.site.now.plane.now c.args.site.now.position) (hop_set (fib_of c.args.site.now.plane.now (router_of c.args.site.now.position)) Null)) (may_like c.args.nodes.now.may (sent c.args.site.now.plane.now c.args.site.now.position Null) (recipes.and (forwarded c.args.site.now.plane.now c.args.site.now.position) (hop_set (fib_of c.args.site.now.plane.now (router_of c.args.site.now.position)) Null)) (sym (sent_is c.args.site.now.plane.now c.args.site.now.position Null)) c.requires.may))
-
-pub over_set-requires-clause-stretches : goal.over_set-requires-clause-stretches
-over_set-requires-clause-stretches g c =
-    let plane = c.args.site.now.plane.now in
-    subst (λ (ns : List ℕ). AreStretches ns (fib_of plane c.router.result)) (sym c.as_slice.ensures)
-    (subst (λ r. AreStretches c.forwarded_set.new.made.stretches (fib_of plane r)) (sym c.router.ensures) c.in_ok-forwarded.ensures.made.stretches)
 
 pub over_set-requires-clause-may : goal.over_set-requires-clause-may
 over_set-requires-clause-may g c = subst (λ r. HasNodes c.args.nodes.now.may (parts (hop_set (fib_of c.args.site.now.plane.now r) Null))) (sym c.router.ensures) (piece c.args.nodes.now.may (recipes.and (forwarded c.args.site.now.plane.now c.args.site.now.position) (hop_set (fib_of c.args.site.now.plane.now (router_of c.args.site.now.position)) Null)) (hop_set (fib_of c.args.site.now.plane.now (router_of c.args.site.now.position)) Null) (and-second (forwarded c.args.site.now.plane.now c.args.site.now.position) (hop_set (fib_of c.args.site.now.plane.now (router_of c.args.site.now.position)) Null)) (may_like c.args.nodes.now.may (sent c.args.site.now.plane.now c.args.site.now.position Null) (recipes.and (forwarded c.args.site.now.plane.now c.args.site.now.position) (hop_set (fib_of c.args.site.now.plane.now (router_of c.args.site.now.position)) Null)) (sym (sent_is c.args.site.now.plane.now c.args.site.now.position Null)) c.requires.may))

@@ -1,11 +1,8 @@
-use Rattle.std.proofs.Common.{◌≡◌, ◌++◌, All, drop}
+use Rattle.std.proofs.Common.{drop}
 use Rattle.rc_route.specs.Parts.{joined_parts}
-use Rattle.rc_fib.specs.Entries.{entries_over, HasCidr}
+use Rattle.rc_fib.proofs.GrowingLaws.{Grown}
 use Rattle.rc_fib.proofs.layers.push_parts.Given as goal
 
--- what is made, and then the entries of the parts that are left
+-- the routes of the parts before those that are left are made
 abbrev pub invariant-loop-part : goal.invariant-loop-part
-invariant-loop-part l = record {
-  value : l.initial.made ++ entries_over l.entries (joined_parts l.parts) ≡ l.made ++ entries_over l.entries (joined_parts (drop l.part-index l.parts));
-  canonical : All HasCidr l.made;
-}
+invariant-loop-part l = Grown l.fib l.fn.made (joined_parts (drop l.part-index l.parts)) (joined_parts l.parts) l.made

@@ -7,4 +7,4 @@ use Rattle.rc_fib.proofs.resolve.resolve.Given as goal
 
 -- the hops so far are resolved
 abbrev pub invariant-loop-hop : goal.invariant-loop-hop
-invariant-loop-hop l = l.set ≡ fold (insert_key same_hop) [] (flat_map (resolve_hop (resolved_hops l.entries)) (take l.hop-index l.hops))
+invariant-loop-hop l = l.set ≡ fold (insert_key same_hop) [] (flat_map (resolve_hop (resolved_hops l.fib)) (take l.hop-index l.hops))

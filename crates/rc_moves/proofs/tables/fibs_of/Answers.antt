@@ -11,7 +11,7 @@ loop-known-preserved c =
     let before = c.loop-known.invariant in
     let known = c.in-Some.known in
     let rest = c.pop_front.new.self.items in
-    let fib = c.in_ok-taking.field-0 in
+    let fib = c.in_ok-of.field-0 in
     let first : c.loop-known.left.items ≡ known ∷ rest = c.in-Some.ensures.items in
     let pushed : c.push.new.self.items ≡ c.loop-known.fibs.items ++ fib ∷ [] = search rules in
     let is : fib ≡ resolved known.table = search rules in
@@ -21,6 +21,6 @@ loop-known-preserved c =
           ∙ ap (λ (table : _). c.loop-known.fibs.items ++ table ∷ map (λ (s : RouterState). resolved s.table) rest) (sym is)
           ∙ sym (append_assoc c.loop-known.fibs.items (fib ∷ []) (map (λ (s : RouterState). resolved s.table) rest))
           ∙ ap (λ (fibs : _). fibs ++ map (λ (s : RouterState). resolved s.table) rest) (sym pushed);
-      in_order = subst (All IsFib) (sym pushed) (All-push IsFib c.loop-known.fibs.items fib before.in_order c.in_ok-taking.ensures.in_order);
+      in_order = subst (All IsFib) (sym pushed) (All-push IsFib c.loop-known.fibs.items fib before.in_order c.in_ok-of.ensures.in_order);
       left = All-from_recursion IsRouterState rest all.1;
     }

@@ -51,7 +51,7 @@ returns-clause-made g c =
     let left = let_in plane.network q in
     let right = to_router plane (router_of q) in
     let m = made_kept c.args.nodes.now plane q c.owned_set.new.made c.owned_set.new.work c.minus.new.self c.in_ok-owned.ensures.made c.in_ok-set.ensures.seat c.in_ok-set.ensures.keeps in
-    with_forwarded c.args.nodes.now plane q c.owned_set.new.made _ c.minus.new.self m refl refl refl refl c.in_ok-set.set refl
+    with_forwarded c.args.nodes.now plane q c.owned_set.new.made _ c.minus.new.self m refl refl refl c.in_ok-set.set refl
     (subst (λ r. SeatKnows c.minus.new.self c.in_ok-set.set.index (tree r)) (forwarded_is plane q)
     (c.in_ok-set.ensures.minus (tree left) (tree right) (c.in_ok-owned.ensures.keeps c.in_ok-let_in.let_in.index (tree left) (subst (λ n. SeatKnows c.let_in_set.new.work c.in_ok-let_in.let_in.index (tree (let_in n q))) c.network.ensures c.in_ok-let_in.ensures.set)) c.in_ok-owned.ensures.set))
 

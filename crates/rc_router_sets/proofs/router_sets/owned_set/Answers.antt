@@ -7,4 +7,4 @@ returns-clause-made g c =
     let plane = c.args.site.now.plane.now in
     let q = c.args.site.now.position in
     let m = made_kept c.args.nodes.now plane q c.args.made.now c.args.work.now c.router_set.new.work c.requires.made c.in_ok-set.ensures.seat c.in_ok-set.ensures.keeps in
-    with_owned c.args.nodes.now plane q c.args.made.now _ c.router_set.new.work m refl refl refl refl c.in_ok-set.set refl c.in_ok-set.ensures.set
+    with_owned c.args.nodes.now plane q c.args.made.now _ c.router_set.new.work m refl refl refl c.in_ok-set.set refl c.in_ok-set.ensures.set

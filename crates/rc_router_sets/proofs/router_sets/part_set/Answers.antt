@@ -1,4 +1,4 @@
-use Rattle.std.proofs.Common.{refl, ℕ, List, ap, sym, ◌∙◌, subst}
+use Rattle.std.proofs.Common.{refl, ap, sym, ◌∙◌, subst}
 use Rattle.rc_router_sets.proofs.GroupLaws.{everything}
 use Rattle.rc_router_sets.proofs.JoinLaws.{may_like}
 use Rattle.rc_router_sets.proofs.MadeLaws.{known_some, made_kept, noted}
@@ -10,8 +10,7 @@ use Rattle.rc_nodes.specs.Seats.{SeatKnows}
 use Rattle.rc_trees.specs.Recipes.{parts, tree}
 use Rattle.rc_trees.specs.Trees.{HasNodes}
 use Rattle.std.specs.Prelude.{slice_get}
-use Rattle.rc_sets.specs.Stretches.{AreStretches}
-use Rattle.rc_moves.specs.Moves.{fib_of, router_of}
+use Rattle.rc_moves.specs.Moves.{router_of}
 use Rattle.rc_router_sets.proofs.router_sets.part_set.Goals as goal
 
 pub returns-then-is_everything-clause-set : goal.returns-then-is_everything-clause-set
@@ -31,12 +30,6 @@ returns-in-Some-clause-set g c =
     (subst (IsKnownIfMade c.args.work.now (part_in (parts_of c.args.made.now.parts.items c.args.at.now.index) c.args.part)) is
     (m.parts c.args.at.now.index x c.args.part (ap (λ hs. slice_get hs c.args.at.now.index) m.hops ∙ c.requires.at))))
 
-pub new_part-requires-clause-stretches : goal.new_part-requires-clause-stretches
-new_part-requires-clause-stretches g c =
-    let plane = c.args.site.now.plane.now in
-    subst (λ (ns : List ℕ). AreStretches ns (fib_of plane c.router.result)) (sym c.as_slice-2.ensures)
-    (subst (λ r. AreStretches c.args.made.now.stretches (fib_of plane r)) (sym c.router.ensures) c.requires.made.stretches)
-
 pub new_part-requires-clause-may : goal.new_part-requires-clause-may
 new_part-requires-clause-may g c =
     let plane = c.args.site.now.plane.now in
@@ -51,7 +44,7 @@ returns-clause-made g c =
     let q = c.args.site.now.position in
     let x = c.args.at.now.hop in
     let m = made_kept c.args.nodes.now plane q c.args.made.now c.args.work.now c.new_part.new.work c.requires.made c.in_ok-set.ensures.seat c.in_ok-set.ensures.keeps in
-    noted c.args.nodes.now plane q c.args.made.now _ c.new_part.new.work m refl refl refl refl c.args.at.now.index x c.args.part c.in_ok-set.set c.requires.at c.note.ensures
+    noted c.args.nodes.now plane q c.args.made.now _ c.new_part.new.work m refl refl refl c.args.at.now.index x c.args.part c.in_ok-set.set c.requires.at c.note.ensures
     (subst (λ n. SeatKnows c.new_part.new.work c.in_ok-set.set.index (tree (fixed plane n c.args.part x))) c.router.ensures c.in_ok-set.ensures.set)
 
 pub returns-clause-set : goal.returns-clause-set

@@ -1,30 +1,21 @@
-use Rattle.std.proofs.Common.{◌≡◌, ap, sym, subst, ◌∙◌, ◌++◌, [], ◌+◌, drop, append-nil}
-use Rattle.rc_sets.specs.Marks.{prefixes_over}
-use Rattle.rc_sets.specs.Stretches.{AreStretches, IsStretch}
-use Rattle.rc_sets.proofs.StretchLaws.{more_found, next_stretch, no_stretch}
+use Rattle.std.proofs.Common.{ap, ◌∙◌, ◌++◌, List, [], cond}
+use Rattle.std.specs.List.{list_any}
+use Rattle.rc_route.specs.Hops.{same_hop}
+use Rattle.rc_route.specs.declared.route.Hop.{Hop}
+use Rattle.rc_sets.proofs.StretchLaws.{all_found, fits, more_found, nothing_found}
 use Rattle.rc_sets.proofs.hops.prefixes_over.Goals as goal
 
-pub loop-length-init : goal.loop-length-init
-loop-length-init c = record {
-  found = ap (λ ps. ps ++ prefixes_over c.args.hop.now c.args.entries.now) c.in_ok-given.ensures.items;
-  others = c.requires;
-}
+pub loop-stretch-init : goal.loop-stretch-init
+loop-stretch-init c = nothing_found c.args.hop.now c.args.fib.now c.stretches-stretches.result.now c.prefixes-left.result.now _ c.prefixes-left.ensures.value c.in_ok-given.ensures.items c.stretches-stretches.ensures
 
 pub split_at-requires : goal.split_at-requires
-split_at-requires c = (next_stretch c.args.stretches.now c.loop-length.length-index _ c.loop-length.left.now c.loop-length-test.true c.loop-length.invariant.others).0
+split_at-requires c = fits c.args.hop.now c.args.fib.now c.stretches-stretches.result.now c.loop-stretch.stretch-index c.loop-stretch.from c.loop-stretch.left.now c.loop-stretch.given.items c.loop-stretch.invariant c.stretch-item.result c.loop-stretch-test.true c.stretch-item.is
 
-pub push_stretch-requires : goal.push_stretch-requires
-push_stretch-requires c = subst IsStretch (sym c.split_at.ensures.front)
-    (next_stretch c.args.stretches.now c.loop-length.length-index _ c.loop-length.left.now c.loop-length-test.true c.loop-length.invariant.others).1
-
-pub loop-length-preserved : goal.loop-length-preserved
-loop-length-preserved c = record {
-  found = more_found _ _ _ _ _ _ _ _ c.split_at.ensures.front c.split_at.ensures.back c.in_ok-push_stretch.ensures c.loop-length.invariant.found;
-  others = subst (AreStretches (drop (c.loop-length.length-index + 1) c.args.stretches.now)) (sym c.split_at.ensures.back)
-      (next_stretch c.args.stretches.now c.loop-length.length-index _ c.loop-length.left.now c.loop-length-test.true c.loop-length.invariant.others).2;
-}
+pub loop-stretch-preserved : goal.loop-stretch-preserved
+loop-stretch-preserved c =
+    more_found c.args.hop.now c.args.fib.now c.stretches-stretches.result.now c.loop-stretch.stretch-index c.loop-stretch.from c.loop-stretch.left.now c.loop-stretch.given.items c.loop-stretch.invariant c.stretch-item.result c.loop-stretch-test.true
+    c.stretch-item.is _ _ _ c.split_at.ensures.front c.split_at.ensures.back
+    (c.in_ok-push_stretch.ensures ∙ ap (λ (hops : List Hop). c.loop-stretch.given.items ++ cond (list_any (same_hop c.args.hop.now) hops) c.split_at.result.0.now []) c.as_slice.ensures)
 
 pub returns : goal.returns
-returns c =
-    let none : c.loop-length.left.now ≡ [] = no_stretch c.args.stretches.now c.loop-length.length-index c.loop-length.left.now c.loop-length-test.false c.loop-length.invariant.others in
-    sym (append-nil c.loop-length.given.items) ∙ ap (λ es. c.loop-length.given.items ++ prefixes_over c.args.hop.now es) (sym none) ∙ c.loop-length.invariant.found
+returns c = all_found c.args.hop.now c.args.fib.now c.stretches-stretches.result.now c.loop-stretch.stretch-index c.loop-stretch.from c.loop-stretch.left.now c.loop-stretch.given.items c.loop-stretch-test.false c.loop-stretch.invariant

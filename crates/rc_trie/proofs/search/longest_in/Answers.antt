@@ -1,28 +1,18 @@
-use Rattle.std.proofs.Common.{◌<◌, ap, sym, ◌∙◌, subst, arith}
-use Rattle.rc_base.specs.Prefix.{Cidr, contains}
-use Rattle.rc_trie.specs.Search.{IsShared}
-use Rattle.rc_trie.proofs.SearchLaws.{first_left, found, next_left, none_found}
+use Rattle.std.proofs.Common.{sym, ◌∙◌, length, refl}
+use Rattle.std.proofs.lemmas.Option.{MatchOption-at_some, slice_get_read, slice_get_within}
+use Rattle.rc_trie.specs.Tree.{IsLongestAt}
+use Rattle.rc_trie.proofs.ScanLaws.{longest_is_at}
 use Rattle.rc_trie.proofs.search.longest_in.Goals as goal
 
-pub loop-end-init : goal.loop-end-init
-loop-end-init g c = first_left g.T.HasPrefix.prefix_of c.args.rows.now c.requires c.args.addr c.reach-end.result c.reach-end.ensures
-
-pub returns : goal.returns
-returns g c = none_found g.T.HasPrefix.prefix_of c.args.rows.now c.requires c.args.addr c.loop-end.end (omega arith) c.loop-end.invariant
-
-pub returns-then-contains : goal.returns-then-contains
-returns-then-contains g c =
+pub bounds-rows-place : goal.bounds-rows-place
+bounds-rows-place g c =
     let f = g.T.HasPrefix.prefix_of in
-    let a = c.args.addr in
-    let some : 0 < c.loop-end.end = omega (arith, c.loop-end-test.true) in
-    let holds = ap (λ p. contains p a) (sym c.prefix-prefix.ensures) ∙ sym c.contains.ensures ∙ c.if-contains.true in
-    found f c.args.rows.now c.requires a c.loop-end.end c.loop-end.invariant some c.index-rows-end.result c.index-rows-end.is holds
+    let at : IsLongestAt f c.args.rows.now c.args.addr c.in-Some.place = MatchOption-at_some _ _ _ c.in-Some.is c.longest_at-place.ensures in
+    slice_get_within c.args.rows.now c.in-Some.place at.thing at.is
 
-pub loop-end-preserved : goal.loop-end-preserved
-loop-end-preserved g c =
+pub returns-in-Some : goal.returns-in-Some
+returns-in-Some g c =
     let f = g.T.HasPrefix.prefix_of in
-    let a = c.args.addr in
-    let some : 0 < c.loop-end.end = omega (arith, c.loop-end-test.true) in
-    let apart = ap (λ p. contains p a) (sym c.prefix-prefix.ensures) ∙ sym c.contains.ensures ∙ c.if-contains.false in
-    let both = subst (λ x. IsShared x a c.shared-both.result) (c.network.ensures.value ∙ ap (λ (p : Cidr). p.network) c.prefix-prefix.ensures) c.shared-both.ensures in
-    next_left f c.args.rows.now c.requires a c.loop-end.end c.loop-end.invariant some c.index-rows-end.result c.index-rows-end.is c.shared-both.result c.reach.result c.min-end.result apart both c.reach.ensures c.min-end.ensures
+    let at : IsLongestAt f c.args.rows.now c.args.addr c.in-Some.place = MatchOption-at_some _ _ _ c.in-Some.is c.longest_at-place.ensures in
+    sym (longest_is_at f c.args.addr c.args.rows.now c.in-Some.place at
+    ∙ slice_get_read c.args.rows.now (length c.args.rows.now) c.in-Some.place c.index-rows-place.result refl (slice_get_within c.args.rows.now c.in-Some.place at.thing at.is) c.index-rows-place.is)
