@@ -13,6 +13,8 @@ use Rattle.rc_writing.specs.declared.status.Status.TheVariants.{Done, Refused, U
 use Rattle.rc_writing.specs.declared.status.Status.{Status}
 use Rattle.rc_answers.specs.Written.{IsLackingFor, IsPutOf, status_of}
 use Rattle.rc_analyse.specs.Answer.{AreFound, MayAsk, files_asked, IsLacking, IsAnswer, IsComplete, IsCompleteWithout, IsTakenWhenPlain}
+use Rattle.rc_analyse.specs.Found.{AreFoundFor, IsPutFor}
+use Rattle.rc_analyse.specs.declared.found.Found.{Found}
 use Rattle.rc_answers.specs.Given.{Given, refused, no_place, idle, ended}
 use Rattle.rc_answers.specs.declared.findings.Findings.{Findings}
 
@@ -35,6 +37,10 @@ pub answered : (told : Option (List File)) (r : Request) (f : Findings) (answer 
 answered None r f answer old new are put = tt
 answered (Some files) r f answer old new are (inl (g, gives, written)) = inl (g, record { found = f; are = are; gives = gives }, written)
 answered (Some files) r f answer old new are (inr (lacking, same)) = inr (inr (lacks files r f answer are lacking, same))
+
+-- so it is with what stands for it
+pub answered_for : (told : Option (List File)) (r : Request) (found : Found) (answer : Status) (old new : Option (List ℕ)) → AreFoundFor told r found → IsPutFor r found answer old new → IfSome told (λ files. IsAnswer files r answer old new)
+answered_for told r found answer old new (f, stands, are) put = answered told r f answer old new are (put f stands)
 
 -- what files give never has the status of a folder that failed
 given_status : (g : Given) → ¬ (status_of g ≡ Source)
@@ -61,6 +67,9 @@ pub never_source : (r : Request) (f : Findings) {answer : Status} {old new : Opt
 never_source r f (inl (g, gives, inl (is, put))) e = given_status g (sym is ∙ e)
 never_source r f (inl (g, gives, inr (is, front))) e = let bad : Sink ≡ Source = sym is ∙ e in cc
 never_source r f {answer} (inr (lacking, same)) e = lacking_status r.limits.nodes f answer lacking e
+
+pub never_source_for : (told : Option (List File)) (r : Request) (found : Found) {answer : Status} {old new : Option (List ℕ)} → AreFoundFor told r found → IsPutFor r found answer old new → ¬ (answer ≡ Source)
+never_source_for told r found (f, stands, are) put = never_source r f (put f stands)
 
 complete : (files : List File) (r : Request) (answer : Status) (old new : Option (List ℕ)) → IsAnswer files r answer old new → ¬ (answer ≡ Source) → ¬ (answer ≡ Sink) → IsComplete files r answer old new
 complete files r answer old new (inl (g, given, inl (is, put))) read written = inr (g, given, is, put)

@@ -5,7 +5,7 @@ ghost use Rattle.rc_words.specs.Request.{AreInRange, IsSourceInRange};
 ghost use Rattle.rc_analyse.specs.Answer.{IsAnswer, IsCompleteWithout, IsSilent, MayAsk, files_asked};
 
 use crate::findings::analyse_folder;
-use rc_answers::answer_findings;
+use crate::found::answer_found;
 use rc_outside::{Folder, Gate, Sink, SourceError};
 use rc_words::Request;
 use rc_writing::Status;
@@ -34,7 +34,7 @@ pub(crate) fn answer_folder<R: Threads + Sync + AllocGlobal, F: Folder, S: Sink,
     ensures sink_always { S.faults out.old < S.faults out.new → result ≡ Status.Sink }
 {
     match analyse_folder(rt, request, folder, gate) {
-        Ok(found) => answer_findings(rt, request, found, out, gate),
+        Ok(found) => answer_found(rt, request, found, out, gate),
         Err(SourceError::Failed) => Status::Source,
         Err(SourceError::Memory) => Status::Memory,
     }

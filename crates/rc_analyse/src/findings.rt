@@ -4,13 +4,16 @@ ghost use Rattle.rc_config.specs.Lawful.{IsLawful};
 ghost use Rattle.rc_generate.specs.Files.{files};
 ghost use Rattle.rc_outside.specs.Causes.{HasCause};
 ghost use Rattle.rc_words.specs.Request.{AreInRange, IsSourceInRange};
-ghost use Rattle.rc_analyse.specs.Answer.{AreFound, HasOneAnswer, HasOneFinding, MayAsk, dir_of, files_asked};
+ghost use Rattle.rc_analyse.specs.Answer.{HasOneAnswer, HasOneFinding, MayAsk, dir_of, files_asked};
+ghost use Rattle.rc_analyse.specs.Found.{AreFoundFor, IsEndedFor, IsFoundFor, IsSoundFound};
 ghost use Rattle.rc_loading.specs.Net.{IsNet};
-ghost use Rattle.rc_analyse.specs.Sound.{AreRowsAfter, HasEnd, IfOfFiles, IsEndedAs, IsFailuresAs, IsFoundAs, IsSoundBefore};
-ghost use Rattle.rc_answers.specs.Sound.{IsSound, StartsIn};
+ghost use Rattle.rc_analyse.specs.Sound.{AreRowsAfter, HasEnd, IfOfFiles, IsSoundBefore};
+ghost use Rattle.rc_answers.specs.Sound.{StartsIn};
 ghost use Rattle.rc_answers.specs.Subject.{before_rounds};
 
-use rc_answers::{Arrival, BeforeRounds, Findings, Subject, before_rounds};
+use crate::found::Found;
+use rc_alone::tables_alone;
+use rc_answers::{Arrival, BeforeRounds, Findings, PacketSet, Subject, before_rounds};
 use rc_base::Items;
 use rc_config::Network;
 use rc_failures::failures;
@@ -55,6 +58,47 @@ fn network_asked<F: Folder>(
     }
 }
 
+/// How the rounds of a network end, with the state of a fixed point.
+fn rounds_ended<R: Threads + Sync + AllocGlobal, G: Gate>(
+    rt: &R,
+    net: Network,
+    limits: &Limits,
+    subject: Subject,
+    gate: &G,
+) -> Result<Found, AllocError>
+    requires lawful { IsLawful net }
+    requires limits { AreInRange limits.now }
+    requires starts { StartsIn net subject }
+    ensures ended { IfOk result (IsEndedFor net limits.now subject) }
+    ensures sound { IfOk result IsSoundFound }
+{
+    let outcome = run_rounds(rt, &net, limits.rounds, limits.workers, gate)?;
+    Ok(Found::Whole(Findings::Ended(net, outcome, subject)))
+}
+
+/// The same where packets are asked about. Where no router reads what any router knows, the tables of the fixed point are prepared with no
+/// state between.
+fn packets_ended<R: Threads + Sync + AllocGlobal, G: Gate>(
+    rt: &R,
+    net: Network,
+    limits: &Limits,
+    packets: PacketSet,
+    gate: &G,
+) -> Result<Found, AllocError>
+    requires lawful { IsLawful net }
+    requires limits { AreInRange limits.now }
+    requires starts { StartsIn net (Subject.Packets packets) }
+    ensures ended { IfOk result (IsEndedFor net limits.now (Subject.Packets packets)) }
+    ensures sound { IfOk result IsSoundFound }
+{
+    let (rounds, workers) = (limits.rounds, limits.workers);
+    let found = tables_alone(rt, rt.alloc(), &net, rounds, workers, gate)?;
+    match found {
+        Some(alone) => Ok(Found::Prepared(net, alone, packets)),
+        None => rounds_ended(rt, net, limits, Subject::Packets(packets), gate),
+    }
+}
+
 /// How the rounds of a network end.
 fn ended<R: Threads + Sync + AllocGlobal, G: Gate>(
     rt: &R,
@@ -62,15 +106,17 @@ fn ended<R: Threads + Sync + AllocGlobal, G: Gate>(
     limits: &Limits,
     subject: Subject,
     gate: &G,
-) -> Result<Findings, AllocError>
+) -> Result<Found, AllocError>
     requires lawful { IsLawful net }
     requires limits { AreInRange limits.now }
     requires starts { StartsIn net subject }
-    ensures ended { IfOk result (λ f. IsEndedAs net limits.now subject f) }
-    ensures sound { IfOk result IsSound }
+    ensures ended { IfOk result (IsEndedFor net limits.now subject) }
+    ensures sound { IfOk result IsSoundFound }
 {
-    let outcome = run_rounds(rt, &net, limits.rounds, limits.workers, gate)?;
-    Ok(Findings::Ended(net, outcome, subject))
+    match subject {
+        Subject::Packets(packets) => packets_ended(rt, net, limits, packets, gate),
+        _ => rounds_ended(rt, net, limits, subject, gate),
+    }
 }
 
 /// How the rounds of a network end, apart from the state of a fixed point, which is dropped.
@@ -124,15 +170,15 @@ fn failed<R: Threads + Sync + AllocGlobal, G: Gate>(
     limits: &Limits,
     arrival: &Arrival,
     gate: &G,
-) -> Result<Findings, AllocError>
+) -> Result<Found, AllocError>
     requires lawful { IsLawful net }
     requires limits { AreInRange limits.now }
-    ensures failures { IfOk result (λ f. IsFailuresAs net limits.now arrival.now f) }
-    ensures sound { IfOk result IsSound }
+    ensures failures { IfOk result (IsFoundFor limits.now (BeforeRounds.OfFailures net arrival.now)) }
+    ensures sound { IfOk result IsSoundFound }
 {
     let end = end_alone(rt, &net, limits, gate)?;
     let rows = rows_after(rt, &net, end, limits, arrival, gate)?;
-    Ok(Findings::Failures(net, end, rows))
+    Ok(Found::Whole(Findings::Failures(net, end, rows)))
 }
 
 /// What is found of what is asked. Only what is asked of a network once its rounds have ended needs memory.
@@ -141,15 +187,15 @@ fn findings_of<R: Threads + Sync + AllocGlobal, G: Gate>(
     limits: &Limits,
     known: BeforeRounds,
     gate: &G,
-) -> Result<Findings, AllocError>
+) -> Result<Found, AllocError>
     requires limits { AreInRange limits.now }
     requires sound { IsSoundBefore known }
-    ensures found { IfOk result (IsFoundAs limits.now known) }
-    ensures of_files { IfOfFiles known (λ found. result ≡ Ok (Findings.OfFiles found)) }
-    ensures sound { IfOk result IsSound }
+    ensures found { IfOk result (IsFoundFor limits.now known) }
+    ensures of_files { IfOfFiles known (λ found. result ≡ Ok (Found.Whole (Findings.OfFiles found))) }
+    ensures sound { IfOk result IsSoundFound }
 {
     match known {
-        BeforeRounds::OfFiles(found) => Ok(Findings::OfFiles(found)),
+        BeforeRounds::OfFiles(found) => Ok(Found::Whole(Findings::OfFiles(found))),
         BeforeRounds::OfRounds(net, subject) => ended(rt, net, limits, subject, gate),
         BeforeRounds::OfFailures(net, arrival) => failed(rt, net, limits, &arrival, gate),
     }
@@ -161,12 +207,12 @@ fn found_in<R: Threads + Sync + AllocGlobal, G: Gate>(
     request: &Request,
     net: Result<Network, NetRefusal>,
     gate: &G,
-) -> Result<Findings, SourceError>
+) -> Result<Found, SourceError>
     requires lawful { IfOk net IsLawful }
     requires limits { AreInRange request.now.limits }
-    ensures found { IfOk result (IsFoundAs request.now.limits (before_rounds net request.now.ask)) }
-    ensures of_files { IfOfFiles (before_rounds net request.now.ask) (λ found. result ≡ Ok (Findings.OfFiles found)) }
-    ensures sound { IfOk result IsSound }
+    ensures found { IfOk result (IsFoundFor request.now.limits (before_rounds net request.now.ask)) }
+    ensures of_files { IfOfFiles (before_rounds net request.now.ask) (λ found. result ≡ Ok (Found.Whole (Findings.OfFiles found))) }
+    ensures sound { IfOk result IsSoundFound }
     ensures never { result ≢ Err SourceError.Failed }
 {
     match findings_of(rt, &request.limits, before_rounds(net, &request.ask), gate) {
@@ -176,18 +222,18 @@ fn found_in<R: Threads + Sync + AllocGlobal, G: Gate>(
 }
 
 /// What the files that are asked about are found to be.
-#[tactic(auto, using(crate::proofs::FoundLaws::are_found))]
+#[tactic(auto, using(crate::proofs::FoundLaws::found_for))]
 pub(crate) fn analyse_folder<R: Threads + Sync + AllocGlobal, F: Folder, G: Gate>(
     rt: &R,
     request: &Request,
     folder: &mut F,
     gate: &G,
-) -> Result<Findings, SourceError>
+) -> Result<Found, SourceError>
     requires allowed { MayAsk (F.allows folder.old) request.now.source }
     requires limits { AreInRange request.now.limits }
     requires source { IsSourceInRange request.now.source }
-    ensures findings { IfOk result (λ found. IfSome (files_asked request.now.source (F.told folder.old)) (λ files. AreFound files request.now found)) }
-    ensures sound { IfOk result IsSound }
+    ensures findings { IfOk result (AreFoundFor (files_asked request.now.source (F.told folder.old)) request.now) }
+    ensures sound { IfOk result IsSoundFound }
     ensures cause { HasCause (F.faults folder.old) (F.faults folder.new) result }
 {
     let net = network_asked(rt.alloc(), &request.source, folder)?;

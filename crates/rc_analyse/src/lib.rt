@@ -6,6 +6,7 @@
 
 mod answering;
 mod findings;
+mod found;
 mod runs;
 
 pub use findings::one_answer;

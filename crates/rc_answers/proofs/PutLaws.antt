@@ -10,7 +10,7 @@ use Rattle.rc_reach.specs.Held.{IsFullAtMost}
 use Rattle.rc_report.specs.CubeText.{cubes_text, shown as only}
 use Rattle.rc_report.specs.IdleText.{routers_text}
 use Rattle.rc_report.specs.OutcomeText.{outcome_line}
-use Rattle.rc_report.specs.StateText.{route_count, routes_line}
+use Rattle.rc_report.specs.StateText.{routes_line}
 use Rattle.rc_report.specs.declared.failures.FailRow.{FailRow}
 use Rattle.rc_report.specs.declared.idle.RouterIdle.{RouterIdle}
 use Rattle.rc_route.specs.Outcomes.{end_of}
@@ -19,7 +19,9 @@ use Rattle.rc_route.specs.declared.outcome.Outcome.{Outcome}
 use Rattle.rc_route.specs.declared.outcome.Outcome.TheVariants as outcome
 use Rattle.rc_route.specs.declared.outcome.RoundsEnd.{RoundsEnd}
 use Rattle.rc_trees.specs.Trees.{Tree}
-use Rattle.rc_moves.specs.Moves.{DataPlane, plane_of}
+use Rattle.rc_fib.specs.Entry.{Entry}
+use Rattle.rc_moves.specs.Moves.{DataPlane, plane_of, plane_with, tables_of, route_count}
+use Rattle.rc_moves.proofs.PlaneLaws.{routes_counted}
 use Rattle.rc_moves.specs.declared.walk.Walk.{Walk}
 use Rattle.rc_words.specs.declared.request.Request.{Request}
 use Rattle.rc_idle.specs.Told.{AreIdleIn, AreTooFewForLists}
@@ -69,11 +71,17 @@ pub asked_put : (r : Request) (net : Network) (end : RoundsEnd) (state : List Ro
     → subject ≡ is_subject → IsPutAtFixed r net end state is_subject answer old new → IsPutAtFixed r net end state subject answer old new
 asked_put r net end state subject is_subject {answer} {old} {new} is put = subst (λ s. IsPutAtFixed r net end state s answer old new) (sym is) put
 
--- the packets of a plane are those of its network and state
-pub packets_put : (r : Request) (net : Network) (end : RoundsEnd) (state : List RouterState) (plane : DataPlane) (routes : ℕ) (packets : PacketSet) {answer : Status} {old new : Option (List ℕ)}
-    → plane ≡ plane_of net state → routes ≡ route_count state → IsPutOver r plane end routes packets answer old new → IsPutAtFixed r net end state (Packets packets) answer old new
-packets_put r net end state plane routes packets {answer} {old} {new} is many put =
-    subst (λ n. IsPutOver r (plane_of net state) end n packets answer old new) many (subst (λ p. IsPutOver r p end routes packets answer old new) is put)
+-- what is put over a plane is put over an equal one
+pub plane_put : (r : Request) (plane is_plane : DataPlane) (end : RoundsEnd) (routes is_routes : ℕ) (packets : PacketSet) {answer : Status} {old new : Option (List ℕ)}
+    → plane ≡ is_plane → routes ≡ is_routes → IsPutOver r plane end routes packets answer old new → IsPutOver r is_plane end is_routes packets answer old new
+plane_put r plane is_plane end routes is_routes packets {answer} {old} {new} is many put =
+    subst (λ n. IsPutOver r is_plane end n packets answer old new) many (subst (λ p. IsPutOver r p end routes packets answer old new) is put)
+
+-- the packets of a network with the tables of a state are those of its network and state
+pub packets_put : (r : Request) (net : Network) (end : RoundsEnd) (state : List RouterState) (tables : List (List Entry)) (packets : PacketSet) {answer : Status} {old new : Option (List ℕ)}
+    → tables ≡ tables_of state → IsPutOver r (plane_with net tables) end (route_count tables) packets answer old new → IsPutAtFixed r net end state (Packets packets) answer old new
+packets_put r net end state tables packets are put =
+    plane_put r (plane_with net tables) (plane_of net state) end (route_count tables) _ packets (ap (plane_with net) are) (ap route_count are ∙ routes_counted state) put
 
 -- a set and the walks of its examples are shown so: all cubes, or the number of routes and the first cube
 module _ (r : Request) (plane : DataPlane) (end : RoundsEnd) (routes : ℕ) (packets : PacketSet) (set : Tree) (walks : List (List Walk)) where
@@ -113,6 +121,14 @@ fixed_put r net o end subject {k} {state} {answer} {old} {new} is ends put =
     at_end (inl (shown, shows, written)) = inl (ended net (end_of (outcome.Fixed k state)) shown, (shown, shows, refl), written)
     at_end (inr (inl (memory, same))) = inr (subst (IsLackingFor r.limits.nodes (found.Ended net (outcome.Fixed k state) subject)) (sym memory) tt, same)
     at_end (inr (inr (nodes, more, same))) = inr (subst (IsLackingFor r.limits.nodes (found.Ended net (outcome.Fixed k state) subject)) (sym nodes) more, same)
+
+-- what is put of packets over tables is put of what was found at a fixed point that has these tables
+pub prepared_put : (r : Request) (net : Network) (k : ℕ) (state : List RouterState) (tables : List (List Entry)) (packets : PacketSet) {answer : Status} {old new : Option (List ℕ)}
+    → tables ≡ tables_of state → IsPutOver r (plane_with net tables) (end_of (outcome.Fixed k state)) (route_count tables) packets answer old new
+    → IsPutOf r (found.Ended net (outcome.Fixed k state) (Packets packets)) answer old new
+prepared_put r net k state tables packets are put =
+    let end : RoundsEnd = end_of (outcome.Fixed k state) in
+    fixed_put r net (outcome.Fixed k state) end (Packets packets) refl refl (packets_put r net end state tables packets are put)
 
 -- without a fixed point nothing is shown
 other_put : (r : Request) (net : Network) (o : Outcome) (end : RoundsEnd) (subject : Subject) {answer : Status} {old new : Option (List ℕ)} → end ≡ end_of o → IsShown net o subject nothing

@@ -1,16 +1,19 @@
 //! What was found is written.
-ghost use Rattle.std.specs.Prelude.{◌≡◌, ◌<◌, IfOk, length};
-ghost use Rattle.rc_config.specs.Lawful.{IsLawful};
+ghost use Rattle.std.specs.Prelude.{◌≡◌, ◌<◌, IfOk, List, length};
+ghost use Rattle.rc_config.specs.Lawful.{IsLawful, IsPosition};
 ghost use Rattle.rc_outside.specs.Causes.{Rose};
+ghost use Rattle.rc_reach.specs.Asked.{place_of};
 ghost use Rattle.rc_route.specs.Tables.{IsStateOf};
-ghost use Rattle.rc_moves.specs.Moves.{plane_of};
+ghost use Rattle.rc_route.specs.declared.state.RouterState.{RouterState};
+ghost use Rattle.rc_moves.specs.Moves.{plane_of, tables_of};
+ghost use Rattle.rc_topology.specs.Ports.{links_of};
 ghost use Rattle.rc_walk.specs.FirstWalks.{IsFirstWalk};
 ghost use Rattle.rc_words.specs.Request.{AreInRange};
 ghost use Rattle.rc_answers.specs.Sound.{IsSound, IsSoundEnd, StartsIn};
 ghost use Rattle.rc_answers.specs.Written.{IsPutAtFixed, IsPutOf};
 
-use crate::packets::{answer_packets, lacking};
-use crate::{FileFindings, Findings, Subject};
+use crate::packets::{answer_over_tables, answer_packets, lacking};
+use crate::{FileFindings, Findings, PacketSet, Subject};
 use rc_base::{Header, Items, Pos, RouterId};
 use rc_config::Network;
 use rc_idle::idle_told;
@@ -213,6 +216,31 @@ fn answer_ended<R: Threads + Sync + AllocGlobal, S: Sink, G: Gate>(
         Outcome::Repeats(_, _) => write_ended(rt.alloc(), &request.source, end, Nothing, out),
         Outcome::Limit(_) => write_ended(rt.alloc(), &request.source, end, Nothing, out),
     }
+}
+
+/// Answers which packets are asked about in a network whose rounds end at a fixed point after this round, by its links and tables, which are
+/// prepared. All of its memory is taken before the first line is put.
+pub fn answer_prepared<R: Threads + Sync + AllocGlobal, S: Sink, G: Gate>(
+    rt: &R,
+    request: &Request,
+    net: &Network,
+    round: u32,
+    links: &Links,
+    tables: Tables,
+    packets: &PacketSet,
+    out: &mut S,
+    gate: &G,
+) -> Status
+    requires limits { AreInRange request.now.limits }
+    requires lawful { IsLawful net.now }
+    requires links { links.now ≡ links_of net.now }
+    requires place { IsPosition net.now (place_of packets.now.asked) }
+    ensures put { (state : List RouterState) → tables ≡ tables_of state → IsPutOf request.now (Findings.Ended net.now (Outcome.Fixed round state) (Subject.Packets packets.now)) result (S.told out.old) (S.told out.new) }
+    ensures sink_only { result ≡ Status.Sink → Rose (S.faults out.old) (S.faults out.new) }
+    ensures sink_always { S.faults out.old < S.faults out.new → result ≡ Status.Sink }
+{
+    let end = RoundsEnd::Fixed(round);
+    answer_over_tables(rt, request, net, end, links, tables, packets, out, gate)
 }
 
 /// Answers what each single link's failure does, behind how the rounds of the whole network ended.

@@ -10,6 +10,6 @@ mod findings;
 mod packets;
 mod subject;
 
-pub use answering::answer_findings;
+pub use answering::{answer_findings, answer_prepared};
 pub use findings::{BeforeRounds, FileFindings, Findings, before_rounds};
 pub use subject::{Arrival, Detail, PacketSet, Question, Subject, question_of};

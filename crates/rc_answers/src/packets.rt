@@ -4,6 +4,7 @@
 //! answer is written whole, or it lacks something and nothing is.
 ghost use Rattle.std.specs.Prelude.{◌≡◌, ◌++◌, ◌<◌, option_to_list, IfOk, IfErr, IfSome, length};
 ghost use Rattle.rc_config.specs.Lawful.{IsLawful, IsPosition};
+ghost use Rattle.rc_moves.specs.Moves.{plane_with, route_count};
 ghost use Rattle.rc_nodes.specs.Seats.{IsKnown, IsSeatOf, Keeps, SeatKnows};
 ghost use Rattle.rc_outside.specs.Causes.{Rose};
 ghost use Rattle.rc_reach.specs.FirstTry.{IsFirstRoom};
@@ -25,7 +26,7 @@ use rc_moves::{Plane, Tables, Walk};
 use rc_nodes::{May, Nodes, Ref, Seat};
 use rc_outside::{Gate, Sink};
 use rc_reach::{Asked, AskedSet, arrivals, asked_in_table, failures, first_room};
-use rc_report::{CubeLines, RoutesLine, Then, route_count};
+use rc_report::{CubeLines, RoutesLine, Then};
 use rc_route::{RoundsEnd, State};
 use rc_topology::Links;
 use rc_walk::{looping, shortest};
@@ -290,8 +291,45 @@ fn answer_over<R: Threads + Sync + AllocGlobal, S: Sink, G: Gate>(
     answer_made(rt.alloc(), at, packets, made, out)
 }
 
-/// Answers which packets are asked about, at a fixed point. Its tables become those of the plane, which is not dropped behind them: the
-/// program ends there.
+/// Answers which packets are asked about, at a fixed point whose tables are prepared. The plane is not dropped behind them: the program ends
+/// there.
+#[tactic(auto, using(crate::proofs::PutLaws::memory_over))]
+pub(crate) fn answer_over_tables<R: Threads + Sync + AllocGlobal, S: Sink, G: Gate>(
+    rt: &R,
+    request: &Request,
+    net: &Network,
+    end: RoundsEnd,
+    links: &Links,
+    tables: Tables,
+    packets: &PacketSet,
+    out: &mut S,
+    gate: &G,
+) -> Status
+    requires limits { AreInRange request.now.limits }
+    requires lawful { IsLawful net.now }
+    requires links { links.now ≡ links_of net.now }
+    requires place { IsPosition net.now (place_of packets.now.asked) }
+    ensures put { IsPutOver request.now (plane_with net.now tables) end (route_count tables) packets.now result (S.told out.old) (S.told out.new) }
+    ensures sink_only { result ≡ Status.Sink → Rose (S.faults out.old) (S.faults out.new) }
+    ensures sink_always { S.faults out.old < S.faults out.new → result ≡ Status.Sink }
+{
+    let Ok(routes) = tables.route_count() else {
+        return Status::Memory;
+    };
+    let few = first_room(net, routes as usize, &packets.asked, request.limits.nodes);
+    let plane = Plane::of(net, links, tables);
+    let at = AtFixed {
+        request,
+        plane: &plane,
+        end,
+        routes,
+    };
+    let status = answer_over(rt, &at, few, packets, out, gate);
+    forget(plane);
+    status
+}
+
+/// Answers which packets are asked about, at a fixed point. Its tables take the place of its state.
 #[tactic(auto, using(crate::proofs::PutLaws::memory_at_fixed))]
 pub(crate) fn answer_packets<R: Threads + Sync + AllocGlobal, S: Sink, G: Gate>(
     rt: &R,
@@ -311,24 +349,11 @@ pub(crate) fn answer_packets<R: Threads + Sync + AllocGlobal, S: Sink, G: Gate>(
     ensures sink_only { result ≡ Status.Sink → Rose (S.faults out.old) (S.faults out.new) }
     ensures sink_always { S.faults out.old < S.faults out.new → result ≡ Status.Sink }
 {
-    let Ok(routes) = route_count(&state) else {
-        return Status::Memory;
-    };
-    let few = first_room(net, &state, &packets.asked, request.limits.nodes);
     let Ok(tables) = Tables::by_workers(rt, rt.alloc(), state, request.limits.workers) else {
         return Status::Memory;
     };
     let Ok(links) = Links::of(rt.alloc(), net) else {
         return Status::Memory;
     };
-    let plane = Plane::of(net, &links, tables);
-    let at = AtFixed {
-        request,
-        plane: &plane,
-        end,
-        routes,
-    };
-    let status = answer_over(rt, &at, few, packets, out, gate);
-    forget(plane);
-    status
+    answer_over_tables(rt, request, net, end, &links, tables, packets, out, gate)
 }

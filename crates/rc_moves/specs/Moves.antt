@@ -1,5 +1,6 @@
 -- The moves of a packet at a position (RFC 1812 s.5.2).
-use Rattle.std.specs.Prelude.{◌≡◌, ℕ, Bool, true, List, [], ◌∷◌, map, All, Option, Some, None, unwrap_or, is_some, if◌then◌else◌, slice_get, flat_map}
+use Rattle.std.specs.Prelude.{◌≡◌, ◌+◌, ℕ, Bool, true, List, [], ◌∷◌, length, map, All, Option, Some, None, unwrap_or, is_some, if◌then◌else◌, slice_get, flat_map}
+use Rattle.std.specs.List.{fold}
 use Rattle.rc_base.specs.declared.header.Header.{Header}
 use Rattle.rc_base.specs.declared.position.IfId.{IfId}
 use Rattle.rc_base.specs.declared.position.Pos.{Pos}
@@ -33,6 +34,10 @@ plane_with net fibs = record { network = net; links = links_of net; fibs = fibs 
 -- each router's table in a state, with its hops resolved
 abbrev pub tables_of : List RouterState → List (List Entry)
 tables_of = map (λ (s : RouterState). resolved s.table)
+
+-- how many routes such tables have in all
+abbrev pub route_count : List (List Entry) → ℕ
+route_count tables = fold (λ n (t : List Entry). n + length t) 0 tables
 
 -- what forwards packets, of a network in a state
 abbrev pub plane_of : Network → List RouterState → DataPlane

@@ -112,7 +112,15 @@ fn fibs_at_once<R: Threads + Sync>(
 }
 
 impl Tables {
-    ghost use Rattle.rc_moves.specs.Moves.{ArePrepared, tables_of};
+    ghost use Rattle.rc_moves.specs.Moves.{ArePrepared, route_count, tables_of};
+
+    /// Tables that are prepared already. It takes no memory.
+    pub fn prepared(fibs: Items<Fib>) -> Tables
+        requires { ArePrepared fibs }
+        ensures { result ≡ fibs }
+    {
+        Tables { fibs }
+    }
 
     /// The tables of a state, which takes their place. It errs only where memory runs out.
     pub fn of(alloc: Global, state: State) -> Result<Tables, AllocError>
@@ -139,6 +147,20 @@ impl Tables {
         }
         let fibs = fibs_at_once(rt, alloc, &state, workers)?;
         Ok(Tables { fibs })
+    }
+
+    /// How many routes they have in all. It errs only behind as many as can be counted.
+    pub fn route_count(&self) -> Result<u64, AllocError>
+        ensures { IfOk result (λ n. n ≡ route_count self.now) }
+    {
+        let mut count: u64 = 0;
+        for fib in self.fibs.as_slice() {
+            match count.checked_add(fib.len() as u64) {
+                Some(more) => count = more,
+                None => return Err(AllocError),
+            }
+        }
+        Ok(count)
     }
 
     /// The prepared tables of all routers: each is in order, and each of their hops says where a packet goes.

@@ -15,3 +15,4 @@ mod LeastWalks
 mod Existence
 mod FirstHopLaws
 mod AskedLaws
+mod GroundLaws

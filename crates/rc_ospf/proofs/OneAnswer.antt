@@ -50,7 +50,7 @@ one_router net steps r a b x y =
     let areas : a.areas ≡ b.areas = x.areas ∙ sym y.areas in
     λ i. record { router = routers i; areas = areas i; reach = λ area s. one_reach steps r a.reach b.reach x.reach y.reach area s i }
 
-one_routers : (net : Network) (steps : List Step) (r : ℕ) (xs ys : List OspfRouter) → length xs ≡ length ys → AreOspfRouters net steps r xs → AreOspfRouters net steps r ys → xs ≡ ys
+pub one_routers : (net : Network) (steps : List Step) (r : ℕ) (xs ys : List OspfRouter) → length xs ≡ length ys → AreOspfRouters net steps r xs → AreOspfRouters net steps r ys → xs ≡ ys
 one_routers net steps r [] [] long a b = refl
 one_routers net steps r [] (y ∷ ys) long a b = absurd (omega arith)
 one_routers net steps r (x ∷ xs) [] long a b = absurd (omega arith)

@@ -23,3 +23,4 @@ pub mod BoundaryRows
 pub mod Ends
 pub mod Stays
 pub mod Asked
+pub mod Grounds

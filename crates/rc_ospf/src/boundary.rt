@@ -100,7 +100,7 @@ fn boundary_routers(alloc: Global, net: &Network) -> Result<Items<RouterId>, All
 }
 
 /// Whether there is an AS boundary router. It errs only where memory runs out.
-pub(crate) fn has_boundary(alloc: Global, net: &Network) -> Result<bool, AllocError>
+pub fn has_boundary(alloc: Global, net: &Network) -> Result<bool, AllocError>
     ensures { IfOk result (λ found. found ≡ false → spec.boundary_routers net.now ≡ []) }
 {
     let found = boundary_routers(alloc, net)?;

@@ -37,7 +37,7 @@ use std::thread::Threads;
 
 /// Each prefix that is advertised, and the default route, with what is offered of it, as far as routers have use for it; where an address
 /// is asked for, those that hold it.
-fn destinations_of<R: Threads + Sync>(
+pub(crate) fn destinations_of<R: Threads + Sync>(
     rt: &R,
     alloc: Global,
     net: &Network,
@@ -135,7 +135,7 @@ impl<'t, 'm, 'w> Makes for PathsTo<'t, 'm, 'w> {
 }
 
 /// The paths of each router to the AS boundary routers.
-fn boundaries<R: Threads + Sync>(
+pub(crate) fn boundaries<R: Threads + Sync>(
     rt: &R,
     alloc: Global,
     net: &Network,

@@ -10,7 +10,6 @@ ghost use Rattle.rc_reach.specs.FirstTry.{IsFirstRoom};
 use crate::asked::Asked;
 use rc_config::{Network, RouterText};
 use rc_outside::Gate;
-use rc_route::State;
 use std::sync::atomic::{AtomicU32, Ordering};
 
 /// As how many routes a line of an access list counts: it makes about as many nodes.
@@ -27,15 +26,6 @@ static ROOMS: [u32; 10] = [
 /// As how many routes a route counts in a question about loops: its sets change at nearly every position in each round.
 const ROUTES_IN_LOOPS: usize = 16;
 
-/// How many routes the tables have.
-fn routes_in(state: &State) -> usize {
-    let mut routes: usize = 0;
-    for known in state.as_slice() {
-        routes = routes.saturating_add(known.table.len());
-    }
-    routes
-}
-
 /// How many lines the access lists of a router have.
 fn lines_in(file: &RouterText) -> usize {
     let lists = &file.lists.access_lists;
@@ -48,9 +38,9 @@ fn lines_in(file: &RouterText) -> usize {
     lines
 }
 
-/// How many routes a network has, where each line of an access list counts as some.
-fn size_of(net: &Network, state: &State) -> usize {
-    let mut size = routes_in(state);
+/// How many routes a network with so many in its tables has, where each line of an access list counts as some.
+fn size_of(net: &Network, routes: usize) -> usize {
+    let mut size = routes;
     for index in 0..net.routers.len() {
         if let Some((_, file)) = net.routers.at(index) {
             size = size.saturating_add(lines_in(file).saturating_mul(ROUTES_A_LINE));
@@ -120,11 +110,12 @@ fn larger(one: Option<u32>, other: Option<u32>) -> Option<u32>
     Some(one.max(other))
 }
 
-/// How many nodes the table of a first try has room for, where there is one: fewer than are allowed.
-pub fn first_room(net: &Network, state: &State, asked: &Asked, allowed: u32) -> Option<u32>
+/// How many nodes the table of a first try has room for, where there is one: fewer than are allowed. The tables of the network have so many
+/// routes.
+pub fn first_room(net: &Network, routes: usize, asked: &Asked, allowed: u32) -> Option<u32>
     ensures { IfSome result (IsFirstRoom allowed) }
 {
-    let by_routes = room_by_routes(size_asked(asked, size_of(net, state)));
+    let by_routes = room_by_routes(size_asked(asked, size_of(net, routes)));
     let by_interfaces = room_by_interfaces(interfaces_in(net));
     match larger(by_routes, by_interfaces) {
         Some(few) if few < allowed => Some(few),

@@ -29,5 +29,5 @@ pub use part::Part;
 pub use put::{SinkFault, end_line, put_line, put_parts};
 pub use puts::{Nothing, Puts, Then};
 pub use routes::put_routes;
-pub use tables::{AllRoutes, RoutesLine, RoutesOf, route_count};
+pub use tables::{AllRoutes, RoutesLine, RoutesOf};
 pub use walks::put_walk;

@@ -1,8 +1,8 @@
-//! The tables of a state, as lines, and how many routes they have.
-ghost use Rattle.std.specs.Prelude.{◌≡◌, IfOk, flat_map};
+//! The tables of a state, as lines, and the line of how many routes they have.
+ghost use Rattle.std.specs.Prelude.{◌≡◌, flat_map};
 ghost use Rattle.rc_outside.specs.Put.{IsPut};
 ghost use Rattle.rc_report.specs.RouteText.{routes_text};
-ghost use Rattle.rc_report.specs.StateText.{all_routes, part_lines, route_count, routes_in, routes_line};
+ghost use Rattle.rc_report.specs.StateText.{all_routes, part_lines, routes_in, routes_line};
 
 use crate::routes::{put_router, put_table};
 use crate::{Buffer, Part, Puts, SinkFault, put_line};
@@ -10,7 +10,7 @@ use rc_base::RouterId;
 use rc_config::Network;
 use rc_outside::Sink;
 use rc_route::{RouterState, State, Table};
-use std::alloc::{AllocError, Global};
+use std::alloc::Global;
 use std::sync::Arc;
 
 /// Puts the lines of the routes of some parts.
@@ -87,20 +87,6 @@ fn put_route_count<S: Sink>(out: &mut S, line: &mut Buffer, routes: u64) -> Resu
             Part::Text(b"\n"),
         ],
     )
-}
-
-/// How many routes the tables of all routers have. A number beyond 64 bits counts as want of memory: no tables are so large.
-pub fn route_count(state: &State) -> Result<u64, AllocError>
-    ensures { IfOk result (λ n. n ≡ route_count state.now) }
-{
-    let mut count: u64 = 0;
-    for known in state.as_slice() {
-        match count.checked_add(known.table.len() as u64) {
-            Some(more) => count = more,
-            None => return Err(AllocError),
-        }
-    }
-    Ok(count)
 }
 
 /// Each router and its routes in a state.

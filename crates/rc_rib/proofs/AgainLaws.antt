@@ -1,5 +1,5 @@
 -- A router that reads what it read a round earlier knows the same again.
-use Rattle.std.proofs.Common.{refl, ◌≡◌, ◌⊎◌, inl, inr, ap, sym, ◌∙◌, subst, ℕ, zero, suc, ◌+◌, ◌<◌, false, List, [], ◌∷◌, ◌++◌, All, Option, Some, None, IfSome, length, arith}
+use Rattle.std.proofs.Common.{refl, ◌≡◌, ◌⊎◌, inl, inr, ap, sym, ◌∙◌, subst, ℕ, zero, suc, ◌+◌, ◌<◌, false, List, [], ◌∷◌, ◌++◌, All, Option, Some, None, IfSome, length, arith, append-nil}
 use Rattle.std.specs.List.{cons_option, filter, filter_map, list_any, range_with_len, slice_get}
 use Rattle.std.specs.Option.{option_map, option_map_or}
 use Rattle.std.proofs.lemmas.Option.{same_Some, slice_get-map, slice_get-get_or, slice_get_past, slice_get_within, get_or_from_slice_get}
@@ -38,7 +38,7 @@ use Rattle.rc_rib.specs.Next.{learned_routes, next_router, next_state, ospf_rout
 use Rattle.rc_rib.specs.Static.{active_lines, asks_table, static_routes}
 use Rattle.rc_rib.proofs.StaticLaws.{none_asks}
 
-numbered : (n r : ℕ) → r < n → slice_get (range_with_len 0 n) r ≡ Some r
+pub numbered : (n r : ℕ) → r < n → slice_get (range_with_len 0 n) r ≡ Some r
 numbered n r less =
     slice_get-get_or (range_with_len 0 n) r 0 (omega (arith, less, length-range_with_len 0 n)) ∙ ap Some (get_or-range_with_len 0 n r 0 less ∙ (let e : 0 + r ≡ r = omega arith in e))
 
@@ -129,6 +129,12 @@ module _ (net : Network) (internal : Internal) (all : List (List Session)) (r : 
   pub from_file : (file : RouterText) (t u : List Route) → file.static_routes ≡ [] → after file t [] [] ≡ after file u [] []
   unfolding after with_lines
   from_file file t u none = ap (with_lines file t) none ∙ sym (ap (with_lines file u) none)
+
+  -- and of that only its interfaces count, beside its OSPF routes
+  pub of_file : (file : RouterText) (t : List Route) → file.static_routes ≡ [] → after file t [] [] ≡ record { table = best_routes (connected r file.interfaces ++ routes_of internal r); paths = [] }
+  unfolding after with_lines static_routes
+  of_file file t none =
+      ap (with_lines file t) none ∙ ap (λ inside. record { table = best_routes (connected r file.interfaces ++ inside); paths = [] }) (append-nil (routes_of internal r))
 
   -- from the same table, or where no line asks one, it comes to the same
   same_active : (file : RouterText) (t u : List Route) → (list_any (λ (s : StaticRoute). asks_table s.target) file.static_routes ≡ false) ⊎ (u ≡ t) → (paths : List Best) (outside : List Route) → after file t paths outside ≡ after file u paths outside

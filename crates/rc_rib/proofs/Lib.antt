@@ -12,3 +12,4 @@ mod MendingLaws
 mod LayingLaws
 mod HeldLaws
 pub mod AtAddressLaws
+pub mod LoneLaws

@@ -12,3 +12,4 @@ pub mod Laying
 pub mod Mending
 pub mod MendingRows
 pub mod Inputs
+pub mod Lone

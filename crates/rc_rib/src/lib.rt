@@ -12,6 +12,7 @@ mod grouping;
 mod inputs;
 mod laying;
 mod learned;
+mod lone;
 mod made;
 mod mending;
 mod merging;
@@ -23,6 +24,7 @@ mod sharing;
 
 pub use alone::all_read_nothing;
 pub use inputs::{Earlier, Inputs};
+pub use lone::lone_table;
 pub use made::Made;
 pub use next::table;
 pub use settled::is_settled;

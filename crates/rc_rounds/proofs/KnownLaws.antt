@@ -1,5 +1,5 @@
 -- Where no router reads what any knows, the first round makes the fixed point.
-use Rattle.std.proofs.Common.{◌≡◌, ◌≢◌, ap, sym, ◌∙◌, subst, ℕ, ◌≤◌, List, All, arith}
+use Rattle.std.proofs.Common.{refl, ◌≡◌, ◌≢◌, ap, sym, ◌∙◌, subst, ℕ, ◌≤◌, List, All, arith}
 use Rattle.std.specs.List.Sorted.{IsStrictlySortedBy}
 use Rattle.rc_base.specs.Prefix.{prefix_cmp}
 use Rattle.rc_config.specs.declared.network.Network.{Network}
@@ -36,6 +36,13 @@ module _ (net : Network) (i : Internal) (none : AllReadNothing net i) (some : ne
   ends_fixed limit within =
       let same : next_state net i (empty_state net) ≡ next_state net i (next_state net i (empty_state net)) = state_of_any net i none (empty_state net) (next_state net i (empty_state net)) in
       (omega arith, within, first_goes_on, same, sym same)
+
+-- and where it makes nothing, the rounds end with it
+pub ends_first : (net : Network) (i : Internal) → next_state net i (empty_state net) ≡ empty_state net → (limit : ℕ) → 1 ≤ limit → EndsAs net i limit (Fixed 1 (next_state net i (empty_state net)))
+ends_first net i same limit within = (omega arith, within, none_before, refl, same)
+  where
+    none_before : GoesOnBelow net i 1
+    none_before j low high = absurd (let none : ⊥ = omega (arith, low, high) in none)
 
 -- all that is known at an address
 pub known : (net : Network) (i : Internal) (a : ℕ) (links : Topology) (state : List RouterState) → i.links ≡ links_of net → links ≡ links_of net → IsInternalAt net a i → AllReadNothing net i → IsFirstState net i state → IsKnownAt net a links state

@@ -5,6 +5,6 @@ pub mod CheckpointLaws
 mod RoundLaws
 mod ProgressLaws
 mod SettingLaws
-mod KnownLaws
+pub mod KnownLaws
 mod SilentLaws
 pub mod OutcomeLaws

@@ -45,7 +45,7 @@ fn asks_no_table(net: &Network, router: RouterId) -> bool
 }
 
 /// Whether no router runs BGP or has a line `ip route`. It is told by the files alone, so where one does nothing is made in vain.
-fn none_ask_tables(net: &Network) -> bool
+pub fn none_ask_tables(net: &Network) -> bool
     ensures { IsTrue result → NoneAskTables net.now }
 {
     for index in 0..net.routers.len() {

@@ -16,7 +16,7 @@ mod rounds;
 mod shares;
 mod silent;
 
-pub use at_address::{KnownAt, known_at};
+pub use at_address::{KnownAt, known_at, none_ask_tables};
 pub use rc_reads::{Next, Reads, next_of, reads};
 pub use rc_route::Outcome;
 pub use rounds::{one_outcome, rounds_of, run_rounds};
