@@ -1,1 +1,2 @@
 mod FixedLaws
+mod LayingLaws

@@ -1,2 +1,3 @@
+pub mod Laying
 pub mod Preparing
 pub mod Alone

@@ -4,3 +4,4 @@ pub mod HopLaws
 pub mod LayerLaws
 pub mod StretchLaws
 mod GrowingLaws
+mod MakingLaws

@@ -59,7 +59,7 @@ impl Growing {
 
 /// Whether hops are this one alone.
 #[inline]
-fn is_alone(hop: &Hop, hops: &[Hop]) -> bool
+pub(crate) fn is_alone(hop: &Hop, hops: &[Hop]) -> bool
     ensures { result ≡ true → hops.now ≡ hop.now ∷ [] }
 {
     match hops {
@@ -118,7 +118,11 @@ fn repeats_of(hops: &SharedHops, next: &[Route]) -> usize
 
 /// What the hops of a run resolve to, where another table gives the hops of their gateways. Most hops need no look-up, and are few: the
 /// table shares them with the routes.
-fn hops_behind(alloc: Global, fib: &Fib, hops: &SharedHops) -> Result<SharedHops, AllocError>
+pub(crate) fn hops_behind(
+    alloc: Global,
+    fib: &Fib,
+    hops: &SharedHops,
+) -> Result<SharedHops, AllocError>
     ensures { IfOk result (λ shared. shared ≡ resolve_all (resolved_hops fib.now) hops.now) }
 {
     if is_settled(hops.as_slice()) {
@@ -148,7 +152,7 @@ fn are_resolved(hops: &[Hop]) -> bool
 }
 
 /// Whether each hop said where a packet goes so far, and each of these hops says so too.
-fn is_plain_with(known: bool, hops: &[Hop]) -> bool
+pub(crate) fn is_plain_with(known: bool, hops: &[Hop]) -> bool
     ensures { result ≡ true → (known ≡ true) × (list_all is_resolved hops.now ≡ true) }
 {
     known && are_resolved(hops)

@@ -10,10 +10,12 @@ mod growing;
 mod hop_set;
 mod laws;
 mod layers;
+mod making;
 mod resolve;
 mod seen;
 mod stretch;
 
 pub use fib::Fib;
 pub use laws::{hops_by_depth, prepared_hops_are_resolved};
+pub use making::FibMaking;
 pub use stretch::Stretch;

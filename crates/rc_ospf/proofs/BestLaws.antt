@@ -204,3 +204,8 @@ none_rise = tt
 pub hops_alone : (r : Result (List Hop) AllocError) (here all : List Hop) → IfOk r (λ hops. hops ≡ here) → IfOk r (IsStrictlySortedBy hop_cmp) → here ≡ all → IfOk r (λ hops. hops ≡ in_order hop_cmp all)
 hops_alone (Ok hops) here all are rise same = hops_stand hops rise ∙ ap (in_order hop_cmp) (are ∙ same)
 hops_alone (Err e) here all are rise same = tt
+
+-- the same where they are kept
+pub kept_alone : {A : Type 0} (now : A → List Hop) (o : Option A) (here all : List Hop) → IfSome o (λ h. (now h ≡ here) × IsStrictlySortedBy hop_cmp (now h)) → here ≡ all → IfSome o (λ h. now h ≡ in_order hop_cmp all)
+kept_alone now None here all are same = tt
+kept_alone now (Some h) here all are same = hops_stand (now h) are.1 ∙ ap (in_order hop_cmp) (are.0 ∙ same)

@@ -16,3 +16,4 @@ mod Existence
 mod FirstHopLaws
 mod AskedLaws
 mod GroundLaws
+mod TakingLaws

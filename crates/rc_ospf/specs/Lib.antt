@@ -24,3 +24,4 @@ pub mod Ends
 pub mod Stays
 pub mod Asked
 pub mod Grounds
+pub mod Taking

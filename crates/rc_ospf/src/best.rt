@@ -1,5 +1,5 @@
 //! The best of the ways to some offers.
-ghost use Rattle.std.specs.Prelude.{◌≡◌, ◌<◌, ◌^◌, None, Some, IfOk, IfSome, MatchOption};
+ghost use Rattle.std.specs.Prelude.{◌≡◌, ◌<◌, ◌^◌, Bool, None, Some, IfOk, IfSome, MatchOption};
 ghost use Rattle.std.specs.Ordering.{nat_cmp};
 ghost use Rattle.rc_base.specs.Lists.{in_order};
 ghost use Rattle.rc_ospf.specs.BestOffers as spec;
@@ -86,6 +86,19 @@ fn best_of_many<C: TellsCosts>(costs: &C, others: bool, offers: &[Offer]) -> Opt
     best
 }
 
+/// The same, which is taken apart, so that it stands in no memory where there are few.
+#[inline(always)]
+fn best_of_more<C: TellsCosts>(costs: &C, others: bool, offers: &[Offer]) -> Option<Best>
+    ensures value { result ≡ spec.best_from (reach_of (C.member costs.now)) others (C.member costs.now).router None 0 offers.now }
+    ensures small { IfSome result (λ b. b.cost < 2 ^ 27) }
+{
+    let best = best_of_many(costs, others, offers);
+    match best {
+        Some(Best { cost, at, is_alone }) => Some(Best { cost, at, is_alone }),
+        None => None,
+    }
+}
+
 /// The same of a way or two, which most prefixes have.
 #[inline(always)]
 fn best_of_few<C: TellsCosts>(costs: &C, others: bool, offers: &[Offer]) -> Option<Best>
@@ -99,7 +112,7 @@ fn best_of_few<C: TellsCosts>(costs: &C, others: bool, offers: &[Offer]) -> Opti
             let best = cheaper(costs.cost_to(others, first), None, 0);
             cheaper(costs.cost_to(others, second), best, 1)
         }
-        _ => best_of_many(costs, others, offers),
+        _ => best_of_more(costs, others, offers),
     }
 }
 
@@ -144,36 +157,17 @@ pub(crate) fn best_hops(
     hops_at(alloc, member, others, best.cost, offers)
 }
 
-/// The same of several ways that cost as much, which nothing shares yet.
-#[inline(never)]
-fn hops_of_several(
-    alloc: Global,
-    member: &Member,
-    others: bool,
-    cost: u32,
-    offers: &[Offer],
-) -> Result<SharedHops, AllocError>
-    ensures { IfOk result (λ hops. hops ≡ in_order hop_cmp (ways.hops_at nat_cmp cost (ways_of (reach_of member.now) others member.now.router offers.now))) }
-{
-    let hops = hops_at(alloc, member, others, cost, offers)?;
-    SharedHops::of(alloc, hops)
-}
-
-/// The same, which share those that are found where one way is better than all others.
+/// The same, where one way is better than all others, and its hops are kept.
 #[inline(always)]
-pub(crate) fn shared_hops(
-    alloc: Global,
-    first: &FirstHops,
-    others: bool,
+pub(crate) fn kept_hops<'f>(
+    first: &'f FirstHops<'_, '_>,
     best: Best,
     offers: &[Offer],
-) -> Result<SharedHops, AllocError>
-    requires { HasBest (reach_of first.now) others first.now.router offers.now best }
-    ensures { IfOk result (λ hops. hops ≡ in_order hop_cmp (ways.hops_at nat_cmp best.cost (ways_of (reach_of first.now) others first.now.router offers.now))) }
+) -> Option<&'f SharedHops>
+    ensures { (others : Bool) → HasBest (reach_of first.now) others first.now.router offers.now best → IfSome result (λ hops. hops.now ≡ in_order hop_cmp (ways.hops_at nat_cmp best.cost (ways_of (reach_of first.now) others first.now.router offers.now))) }
 {
-    if best.is_alone {
-        first.hops_to(alloc, &offers[best.at])
-    } else {
-        hops_of_several(alloc, first.member(), others, best.cost, offers)
+    match offers.get(best.at) {
+        Some(offer) if best.is_alone => first.hops_kept(offer),
+        _ => None,
     }
 }

@@ -293,16 +293,6 @@ fn all_towards(alloc: Global, member: &Member, routers: usize) -> Result<FoundHo
     Ok(found)
 }
 
-/// The first hops of the least walks to the router of an offer inside its area, which nothing shares yet.
-#[inline(never)]
-fn hops_anew(alloc: Global, member: &Member, offer: &Offer) -> Result<SharedHops, AllocError>
-    ensures value { IfOk result (λ hops. hops ≡ hops_to (reach_of member.now) offer.now) }
-    ensures in_order { IfOk result (IsStrictlySortedBy hop_cmp) }
-{
-    let hops = member.hops_to(alloc, offer.area(), offer.router())?;
-    SharedHops::of(alloc, hops)
-}
-
 /// Where the first hops to a router inside one of some areas stand, where there are so many routers in each.
 #[inline(never)]
 fn place_in(areas: &[RouterArea], routers: usize, area: u32, router: RouterId) -> usize {
@@ -362,18 +352,13 @@ impl<'m, 'w> FirstHops<'m, 'w> {
         }
     }
 
-    /// The first hops of the least walks to the router of an offer inside its area, in order; none where there are no walks. It errs only
-    /// where memory runs out, or as many share them as can be counted.
+    /// The first hops of the least walks to the router of an offer inside its area, in order, where they are kept.
     #[inline]
-    pub fn hops_to(&self, alloc: Global, offer: &Offer) -> Result<SharedHops, AllocError>
-        ensures value { IfOk result (λ hops. hops ≡ hops_to (reach_of self.now) offer.now) }
-        ensures in_order { IfOk result (IsStrictlySortedBy hop_cmp) }
+    pub fn hops_kept(&self, offer: &Offer) -> Option<&SharedHops>
+        ensures { IfSome result (λ hops. (hops.now ≡ hops_to (reach_of self.now) offer.now) × IsStrictlySortedBy hop_cmp hops.now) }
     {
         let place = self.place(offer.area(), offer.router());
-        match self.found.hops_towards(place, offer) {
-            Some(hops) => hops.share(),
-            None => hops_anew(alloc, self.member, offer),
-        }
+        self.found.hops_towards(place, offer)
     }
 }
 

@@ -7,8 +7,10 @@
 //!
 //! The crate goes one way: the areas of routers (`router_area`), what their interfaces offer (`advertising`, `offer`, `grouping`),
 //! routers as the others have them (`ospf_router`, `member`), with the least walks (`known_walks`) that an address asks for (`ends`,
-//! `asked`), the first hops of walks from a router (`first_hops`), ways to what is offered and the best of them (`way`, `best`), what border routers summarise of a destination (`summaries`),
-//! and what each router makes of it (`routes`, `boundary`). What is made of each router by itself is made by workers at once (`shares`).
+//! `asked`), the first hops of walks from a router (`first_hops`), ways to what is offered and the best of them (`way`, `best`), what
+//! border routers summarise of a destination (`summaries`), and what each router makes of it (`routes`, `boundary`): its routes are taken
+//! one by one (`taking`), by a list (`listing`) or by what the layer above makes of them (`using`). What is made of each router by itself
+//! is made by workers at once (`shares`).
 #![tactic(auto)]
 
 mod advertising;
@@ -21,6 +23,7 @@ mod first_hops;
 mod grounds;
 mod grouping;
 mod known_walks;
+mod listing;
 mod member;
 mod model;
 mod offer;
@@ -31,6 +34,7 @@ mod routes;
 mod shares;
 mod summaries;
 mod tables;
+mod taking;
 mod using;
 mod way;
 
@@ -43,4 +47,5 @@ use offer::{Advert, Offer};
 use rc_ospf_interfaces::OspfInterface;
 use router_area::RouterArea;
 pub use tables::{has_internal, internal, internal_at, one_internal};
+pub use taking::{RoutesOf, TakesRoutes};
 pub use using::{UsesRoutes, made_of_routes};

@@ -7,14 +7,12 @@ use crate::destination::Destination;
 use crate::grounds::Grounds;
 use crate::member::members;
 use crate::ospf_router::Member;
-use crate::routes::routes_of;
 use crate::shares::few_routers;
 use crate::tables::destinations_of;
+use crate::taking::RoutesOf;
 use rc_base::{Items, RouterId};
 use rc_config::Network;
 use rc_outside::{Gate, Passed};
-use rc_pieces::Pieces;
-use rc_route::Route;
 use rc_shares::{Each, each_at_once};
 use std::alloc::{AllocError, Global};
 use std::thread::Threads;
@@ -22,6 +20,7 @@ use std::thread::Threads;
 /// What is made of the routes of each router by itself.
 pub trait UsesRoutes: Sync {
     ghost use Rattle.std.specs.Prelude.{ℕ, List, IfOk};
+    ghost use Rattle.rc_ospf.specs.Taking.{routes_in};
     ghost use Rattle.rc_route.specs.Tables.{IsTable};
     ghost use Rattle.rc_route.specs.declared.route.Route.{Route as OneRoute};
 
@@ -31,15 +30,16 @@ pub trait UsesRoutes: Sync {
     /// That this is made of a router, by its index, and of its routes.
     ghost makes: { Self → ℕ → List OneRoute → Self.Made → Type 0 };
 
-    /// What is made of a router and its routes inside and between areas. It errs only where memory runs out.
+    /// What is made of a router and its routes inside and between areas, which it takes one by one. It errs only where memory runs out, or as
+    /// many share hops as can be counted.
     fn make(
         &self,
         alloc: Global,
         router: RouterId,
-        routes: Pieces<Route>,
+        routes: &RoutesOf<'_, '_, '_>,
     ) -> Result<Self::Made, AllocError>
-        requires { IsTable routes }
-        ensures { IfOk result (makes self.now router routes) };
+        requires { IsTable (routes_in routes.now) }
+        ensures { IfOk result (makes self.now router (routes_in routes.now)) };
 }
 
 /// The routers whose routes to some destinations are used.
@@ -73,9 +73,12 @@ impl<'u, 'd, 'm, 'w, U: UsesRoutes> Each for Routers<'u, 'd, 'm, 'w, U> {
     }
 
     fn make(&self, alloc: Global, item: usize) -> Result<U::Made, AllocError> {
-        let member = &self.members[item];
-        let routes = routes_of(alloc, member, self.destinations, self.members.len())?;
-        self.uses.make(alloc, RouterId::at(item), routes)
+        let routes = RoutesOf {
+            member: &self.members[item],
+            destinations: self.destinations,
+            routers: self.members.len(),
+        };
+        self.uses.make(alloc, RouterId::at(item), &routes)
     }
 }
 

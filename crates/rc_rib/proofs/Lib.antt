@@ -1,7 +1,7 @@
 mod AgainLaws
 pub mod AloneLaws
 pub mod ConnectedLaws
-mod BestLaws
+pub mod BestLaws
 pub mod MergingLaws
 mod OrderLaws
 mod TableLaws

@@ -104,11 +104,7 @@ pub(crate) fn connected_route(
 }
 
 /// The connected routes of a router: one for each prefix of an interface that is up, by address, then length.
-pub(crate) fn connected(
-    alloc: Global,
-    router: RouterId,
-    file: &RouterText,
-) -> Result<Table, AllocError>
+pub fn connected(alloc: Global, router: RouterId, file: &RouterText) -> Result<Table, AllocError>
     ensures value { IfOk result (λ routes. routes ≡ spec.connected router file.now.interfaces) }
     ensures in_order { IfOk result IsTable }
 {

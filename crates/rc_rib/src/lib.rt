@@ -23,6 +23,7 @@ mod settled;
 mod sharing;
 
 pub use alone::all_read_nothing;
+pub use connected_routes::connected;
 pub use inputs::{Earlier, Inputs};
 pub use lone::lone_table;
 pub use made::Made;

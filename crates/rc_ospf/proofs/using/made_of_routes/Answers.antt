@@ -1,7 +1,6 @@
-use Rattle.std.proofs.Common.{◌≡◌, ap, sym, subst, List, None, IfOk, length, map}
+use Rattle.std.proofs.Common.{ap, sym, subst, length, map}
 use Rattle.std.specs.Prelude.{slice_index_or}
 use Rattle.std.proofs.lemmas.Result.{IfOk-at_ok}
-use Rattle.rc_ospf.specs.Asked.{AnswerAlike}
 use Rattle.rc_ospf.specs.Internal.{adverts_in, steps_of}
 use Rattle.rc_ospf.specs.Members.{known, table_of}
 use Rattle.rc_ospf.specs.Routes.{offered_rows, with_default}

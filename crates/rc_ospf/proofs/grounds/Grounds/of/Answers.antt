@@ -1,6 +1,3 @@
-use Rattle.std.proofs.Common.{◌≡◌, List}
-use Rattle.rc_ospf.specs.Grounds.{without_routes}
-use Rattle.rc_ospf.specs.declared.model.Internal.{Internal}
 use Rattle.rc_ospf.proofs.GroundLaws.{whole_is, whole_of}
 use Rattle.rc_ospf.proofs.grounds.Grounds.of.Goals as goal
 
