@@ -1,5 +1,5 @@
 -- Sets that are joined one after another, beside what flows gather; and the positions of a network at their places.
-use Rattle.std.proofs.Common.{refl, ◌≡◌, ap, ◌∙◌, subst, ℕ, zero, suc, ◌<◌, List, [], ◌∷◌, ◌++◌, map, length, slice_index_or, inl, inr, arith}
+use Rattle.std.proofs.Common.{refl, ◌≡◌, subst, ℕ, zero, suc, ◌<◌, List, [], ◌∷◌, ◌++◌, map, length, slice_index_or, inl, inr, arith}
 use Rattle.std.specs.List.{fold}
 use Rattle.std.proofs.lemmas.List.FromFn.{fill_by_all}
 use Rattle.rc_base.proofs.KeepLaws.{In}

@@ -1,9 +1,7 @@
 -- What is gathered in rounds over numbers makes the trees of the query's recipes, by operations that are among the recipes' own.
-use Rattle.std.proofs.Common.{refl, ◌≡◌, ap, sym, ◌∙◌, subst, ℕ, zero, suc, ◌<◌, true, cond, List, [], ◌∷◌, ◌++◌, map, length, slice_index_or, inl, inr, arith}
+use Rattle.std.proofs.Common.{refl, ◌≡◌, ap, sym, ◌∙◌, subst, ℕ, suc, ◌<◌, true, cond, List, [], ◌∷◌, map, length, arith}
 use Rattle.std.specs.Prelude.{◌==◌, flat_map}
-use Rattle.std.specs.List.{fold}
 use Rattle.std.proofs.lemmas.Bool.Decides.{nat_tests, same_from_decides}
-use Rattle.std.proofs.lemmas.List.FromFn.{fill_by_all}
 use Rattle.rc_base.proofs.KeepLaws.{In}
 use Rattle.rc_base.specs.Positions.{same_position}
 use Rattle.rc_base.specs.declared.ending.Ends.{Ends}
@@ -11,11 +9,8 @@ use Rattle.rc_base.specs.declared.ending.Kind.{Kind}
 use Rattle.rc_base.specs.declared.position.Pos.{Pos}
 use Rattle.rc_base.specs.declared.position.Pos.TheVariants.{Own}
 use Rattle.rc_config.specs.Members as members
-use Rattle.rc_trees.specs.Trees.{Tree, never, always, HasNodes, HasNodesOf}
-use Rattle.rc_trees.specs.Combine as trees
-use Rattle.rc_trees.specs.Recipes.{Recipe, given, and, or, parts, tree}
-use Rattle.rc_trees.proofs.NodeLaws.{has_recipe}
-use Rattle.rc_trees.proofs.PartLaws.{fold-first, or-second}
+use Rattle.rc_trees.specs.Trees.{Tree, never, always, HasNodes}
+use Rattle.rc_trees.specs.Recipes.{Recipe, given, and, parts, tree}
 use Rattle.rc_moves.specs.Moves.{DataPlane}
 use Rattle.rc_moves.proofs.PositionLaws.{same_position-Decides}
 use Rattle.rc_jobs.specs.Flows.{edges_to, endings_of, positions}

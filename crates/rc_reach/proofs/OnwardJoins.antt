@@ -1,19 +1,15 @@
 -- The rounds over numbers make the trees of the recipes of what loops, by operations that are among the recipes' own.
-use Rattle.std.proofs.Common.{refl, ◌≡◌, ap, sym, ◌∙◌, subst, ℕ, zero, suc, ◌<◌, Bool, true, false, ◌&&◌, List, [], ◌∷◌, map, length, slice_index_or, All, inl, inr, arith}
-use Rattle.std.specs.List.{fold}
+use Rattle.std.proofs.Common.{refl, ◌≡◌, ap, sym, ◌∙◌, subst, ℕ, zero, suc, ◌<◌, Bool, true, false, ◌&&◌, List, [], ◌∷◌, map, length, All, arith}
 use Rattle.std.proofs.lemmas.List.Elements.{All-head, All-tail}
-use Rattle.std.proofs.lemmas.List.FromFn.{fill_by_all}
 use Rattle.rc_base.proofs.KeepLaws.{In}
 use Rattle.rc_base.specs.declared.position.Pos.{Pos}
 use Rattle.rc_base.specs.declared.position.Pos.TheVariants.{Own}
 use Rattle.rc_config.specs.Lawful.{IsPosition}
 use Rattle.rc_config.specs.Members as members
-use Rattle.rc_trees.specs.Trees.{Tree, never, HasNodes, HasNodesOf, IsReduced, value}
+use Rattle.rc_trees.specs.Trees.{Tree, never, HasNodes, IsReduced, value}
 use Rattle.rc_trees.specs.Combine as trees
-use Rattle.rc_trees.specs.Recipes.{Recipe, given, or, parts, tree}
-use Rattle.rc_trees.proofs.NodeLaws.{has_recipe}
+use Rattle.rc_trees.specs.Recipes.{given, parts, tree}
 use Rattle.rc_trees.proofs.OneTree.{one_tree}
-use Rattle.rc_trees.proofs.PartLaws.{fold-first, or-second}
 use Rattle.rc_trees.proofs.RecipeLaws.{reduced-tree}
 use Rattle.rc_trees.proofs.ReducedLaws.{reduced-and}
 use Rattle.rc_trees.proofs.TreeLaws.{value-and}

@@ -1,5 +1,5 @@
 -- What stands at first, what is known for good, and what the result says.
-use Rattle.std.proofs.Common.{◌≡◌, ap, ◌∙◌, subst, ℕ, ◌<◌, Bool, cond, List, length, Result, Ok, Err, IfErr, arith}
+use Rattle.std.proofs.Common.{◌≡◌, ap, ◌∙◌, ℕ, ◌<◌, Bool, cond, List, length, Result, Ok, Err, IfErr, arith}
 use Rattle.std.specs.Prelude.{◌==◌}
 use Rattle.std.specs.Set.{distinct_count}
 use Rattle.rc_base.specs.declared.ending.Ends.{Ends}

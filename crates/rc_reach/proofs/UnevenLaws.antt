@@ -34,7 +34,7 @@ use Rattle.rc_trees.proofs.PartLaws.{and-first, and-second, nodes_of_parts}
 use Rattle.rc_trees.proofs.RecipeLaws.{has-and}
 use Rattle.rc_trees.specs.Combine as trees
 use Rattle.rc_trees.specs.Recipes.{Uses, has, nodes, parts, tree}
-use Rattle.rc_trees.specs.Trees.{Tree, HasNodes, HasNodesOf, IsReduced, holds}
+use Rattle.rc_trees.specs.Trees.{Tree, HasNodes, HasNodesOf}
 use Rattle.rc_moves.specs.Moves.{DataPlane}
 use Rattle.rc_base.specs.declared.position.Pos.TheVariants.{Own}
 use Rattle.rc_reach.specs.Uneven.{IsUneven, all_ends, arrivals, failures, no_ends, uneven, uneven_nodes}

@@ -14,7 +14,7 @@ use rc_jobs::Prepared;
 use rc_moves::Plane;
 use rc_nodes::{May, Nodes, Ref};
 use rc_outside::Gate;
-use rc_spread::{Spread, all_rounds, first_fresh, first_sets, gathered_set};
+use rc_spread::{Spread, all_rounds, are_settled, first_fresh, first_sets, gathered_set};
 use std::alloc::Global;
 use std::thread::Threads;
 
@@ -54,6 +54,9 @@ impl<'a> Spread for Coming<'a> {
     ) -> Result<Ref, SetError> {
         let _ = number;
         let flows = self.prepared.into.as_slice()[q].as_slice();
+        if are_settled(flows, fresh) {
+            return Ok(sets[q]);
+        }
         gathered_set(work, nodes, sets, fresh, flows, sets[q])
     }
 

@@ -1,13 +1,10 @@
 //! What goes on from each position.
-ghost use Rattle.std.specs.Prelude.{◌≡◌, ◌<◌, All, false, true, length, slice_index_or};
-ghost use Rattle.rc_jobs.specs.declared.flow.Flow.{Flow as FlowOf};
-
 use rc_base::Items;
 use rc_bdd::{SetError, Work};
 use rc_jobs::Flow;
 use rc_moves::Plane;
 use rc_nodes::{May, NEVER, Nodes, Ref};
-use rc_spread::{Spread, gathered_set};
+use rc_spread::{Spread, are_settled, gathered_set};
 
 /// The headers that go on from each position of a plane, by one move more in each round.
 #[derive(Drop)]
@@ -17,19 +14,6 @@ pub struct GoingOn<'a> {
     pub out: &'a [Items<Flow>],
     /// So many times true.
     pub everywhere: &'a [bool],
-}
-
-/// Whether no flow comes from a position with something fresh.
-fn are_settled(flows: &[Flow], fresh: &[bool]) -> bool
-    requires { All (λ (f : FlowOf). f.from < length fresh.now) flows.now }
-    ensures { result ≡ true → All (λ (f : FlowOf). slice_index_or fresh.now f.from false ≡ false) flows.now }
-{
-    for flow in flows {
-        if fresh[flow.from] {
-            return false;
-        }
-    }
-    true
 }
 
 impl<'a> Spread for GoingOn<'a> {

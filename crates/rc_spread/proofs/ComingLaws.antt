@@ -12,9 +12,10 @@ use Rattle.rc_jobs.specs.Flows.{KnowsFlows, KnowsEdges, edges_to, positions, rea
 use Rattle.rc_jobs.specs.declared.flow.Flow.{Flow}
 use Rattle.rc_spread.specs.Gathered.{gathered, IsInside, MayGather}
 use Rattle.rc_spread.specs.Known.{AreSent, MayGatherRefs, IsAfter}
-use Rattle.rc_spread.proofs.GatherLaws.{AreReduced, gathered_without, may_without}
+use Rattle.rc_jobs.proofs.FlowLaws.{as_many_flows, flow_from}
+use Rattle.rc_spread.proofs.GatherLaws.{AreReduced, gathered_settled, gathered_without, may_without}
 use Rattle.rc_spread.proofs.PositionLaws.{edges_all, edges_own}
-use Rattle.rc_spread.proofs.RealLaws.{all_reduced, all_spared, is_real}
+use Rattle.rc_spread.proofs.RealLaws.{all_reduced, all_spared, is_real, no_flow}
 use Rattle.rc_spread.proofs.Rounding.{known_at}
 use Rattle.rc_spread.proofs.StillLaws.{settled_inside}
 
@@ -72,6 +73,31 @@ module _ {nodes : TableView} {seat : SeatView} {into : List (List Flow)} {refs :
   comes_next =
       let next : suc k ≡ k + 1 = omega arith in
       gathered_without here is_real all (here q) (known_set q less) both_reduced (all_spared here (here q) all) ∙ sym (round k q) ∙ ap (λ n. sets n q) next
+
+  -- ---- where nothing has changed at the positions from which real flows lead
+
+  abbrev through : List (ℕ × Tree)
+  through = real_edges_to edge (length into) q
+
+  -- the flows into the position lead from where these say
+  pub flows_within : (rows : List Flow) → rows ≡ slice_index_or into q rows → All (λ (f : Flow). f.from < length fresh) rows
+  flows_within rows is = λ i d fits.
+      let sent = are_sent rows no_header is in
+      let count = as_many_flows seat rows through sent.knows_flows in
+      let from = flow_from seat rows through sent.knows_flows i d (0, never) fits in
+      let low = sent.from i (0, never) (omega arith) in
+      let marks = sent.as_many in omega arith
+
+  pub stays_as_it_is : (rows : List Flow) → rows ≡ slice_index_or into q rows → All (λ (f : Flow). slice_index_or fresh f.from false ≡ false) rows → sets (k + 1) q ≡ sets k q
+  stays_as_it_is rows is quiet = sym comes_next ∙ gathered_settled here through (here q) (known_set q less) (All-filter is_real (AreReduced here) all both_reduced) inside
+    where
+      inside : All (λ (f : ℕ × Tree). IsInside (and (here f.0) f.1) (here q)) through
+      inside = λ i d fits.
+          let sent = are_sent rows no_header is in
+          let count = as_many_flows seat rows through sent.knows_flows in
+          let low : i < length rows = omega arith in
+          let from : (slice_index_or rows i no_flow).from ≡ (slice_index_or through i d).0 = flow_from seat rows through sent.knows_flows i no_flow d low in
+          sent.stale i d fits (subst (λ n. slice_index_or fresh n false ≡ false) from (quiet i no_flow low))
 
 -- ---- before the first round
 

@@ -68,6 +68,14 @@ module _ (sets : ℕ → Tree) where
   sent_inside (f ∷ fs) s zero d less = gathered_inside fs (or s (passed f)) (passed f) (inside_second s (passed f))
   sent_inside (f ∷ fs) s (suc i) d less = sent_inside fs (or s (passed f)) i d (omega arith)
 
+  -- where all of it is inside nothing new comes
+  pub gathered_settled : (fs : List (ℕ × Tree)) (s : Tree) → IsReduced s → All AreReduced fs → All (λ f. IsInside (passed f) s) fs → gathered sets s fs ≡ s
+  gathered_settled [] s r all inside = refl
+  gathered_settled (f ∷ fs) s r all inside =
+      let both = All-head AreReduced f fs all in
+      ap (λ t. gathered sets t fs) (or-inside s (passed f) r (reduced-and (sets f.0) f.1 both.0 both.1) (All-head (λ f. IsInside (passed f) s) f fs inside))
+      ∙ gathered_settled fs s r (All-tail AreReduced f fs all) (All-tail (λ f. IsInside (passed f) s) f fs inside)
+
   module _ (keep : ℕ × Tree → Bool) where
     -- where it is left out it is inside
     abbrev pub IsSpared : Tree → ℕ × Tree → Type 0

@@ -1,5 +1,6 @@
 //! What comes together at one position.
-ghost use Rattle.std.specs.Prelude.{◌≡◌, ℕ, List, IfOk, IfErr};
+ghost use Rattle.std.specs.Prelude.{◌≡◌, ◌<◌, ℕ, All, List, IfOk, IfErr, false, true, length, slice_index_or};
+ghost use Rattle.rc_jobs.specs.declared.flow.Flow.{Flow as FlowOf};
 ghost use Rattle.rc_bdd.specs.Work.{IsCause};
 ghost use Rattle.rc_nodes.specs.Seats.{IsSeatOf, Keeps, SeatKnows};
 ghost use Rattle.rc_spread.specs.Known.{AreSent, MayGatherRefs};
@@ -10,9 +11,22 @@ use rc_bdd::{SetError, Work};
 use rc_jobs::Flow;
 use rc_nodes::{May, Nodes, Ref};
 
-/// What stands somewhere, with all that positions with something fresh send there. It is part of the loops over positions, of which most get
-/// nothing.
+/// Whether no flow comes from a position with something fresh. It is part of the loops over positions, of most of which that holds.
 #[inline(always)]
+pub fn are_settled(flows: &[Flow], fresh: &[bool]) -> bool
+    requires { All (λ (f : FlowOf). f.from < length fresh.now) flows.now }
+    ensures { result ≡ true → All (λ (f : FlowOf). slice_index_or fresh.now f.from false ≡ false) flows.now }
+{
+    for flow in flows {
+        if fresh[flow.from] {
+            return false;
+        }
+    }
+    true
+}
+
+/// What stands somewhere, with all that positions with something fresh send there.
+#[inline(never)]
 pub fn gathered_set<M: May>(
     work: &mut Work<M>,
     nodes: &Nodes<M>,

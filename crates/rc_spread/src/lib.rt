@@ -17,7 +17,7 @@ mod spread;
 mod turning;
 
 pub use first::{first_fresh, first_sets};
-pub use gather::gathered_set;
+pub use gather::{are_settled, gathered_set};
 pub use rounds::all_rounds;
 pub use spread::Spread;
 pub use turning::flows_out;

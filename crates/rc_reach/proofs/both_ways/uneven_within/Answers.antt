@@ -1,4 +1,4 @@
-use Rattle.std.proofs.Common.{refl, length, ap, sym, subst, inl, arith}
+use Rattle.std.proofs.Common.{refl, length, sym, subst, inl, arith}
 use Rattle.std.proofs.lemmas.Result.{IfOk-at_ok}
 use Rattle.rc_base.specs.Positions.{is_among}
 use Rattle.rc_base.specs.declared.ending.Ends.{Ends}

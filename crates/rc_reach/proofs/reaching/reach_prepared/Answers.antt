@@ -2,7 +2,7 @@ use Rattle.std.proofs.Common.{ℕ, List, length, IfOk, IfErr, sym, subst, arith}
 use Rattle.std.proofs.lemmas.Result.{IfOk-at_ok}
 use Rattle.rc_bdd.specs.Work.{IsCause}
 use Rattle.rc_config.specs.Members.{positions}
-use Rattle.rc_edges.specs.Prepare.{edge_at, ends_at, stops_at}
+use Rattle.rc_edges.specs.Prepare.{edge_at, stops_at}
 use Rattle.rc_router_sets.specs.Query.{reaching}
 use Rattle.rc_base.specs.Positions.{is_among}
 use Rattle.rc_jobs.specs.Flows.{IsPrepared, KnowsFlows, flows_of, real_endings}

@@ -1,11 +1,31 @@
-use Rattle.std.proofs.Common.{rules, ◌≡◌, ◌+◌, slice_index_or, subst}
+use Rattle.std.proofs.Common.{rules, ◌≡◌, ◌+◌, All, false, slice_index_or, sym, subst, arith}
 use Rattle.std.proofs.lemmas.Result.{IfOk-weaker}
 use Rattle.rc_nodes.specs.Seats.{SeatKnows}
 use Rattle.rc_jobs.specs.Flows.{no_header}
+use Rattle.rc_jobs.specs.declared.flow.Flow.{Flow}
 use Rattle.rc_reach.specs.Rounds.{reached_at}
-use Rattle.rc_spread.proofs.ComingLaws.{are_sent, comes_next, may_gather}
+use Rattle.rc_spread.proofs.ComingLaws.{are_sent, comes_next, flows_within, may_gather, stays_as_it_is}
+use Rattle.rc_spread.proofs.Rounding.{known_at}
 use Rattle.rc_reach.proofs.JoinLaws.{place_next}
 use Rattle.rc_reach.proofs.coming.ComingSpread.next_set.Goals as goal
+
+pub are_settled-requires : goal.are_settled-requires
+are_settled-requires g c =
+    let coming = c.args.self.now in
+    let ready = c.requires.ready in
+    let rows : c.as_slice-flows.result.now ≡ slice_index_or coming.prepared.now.into c.args.q c.as_slice-flows.result.now = search rules in
+    flows_within (place_next coming.plane.now coming.place _ ready.as_many) c.requires.seat ready.edges c.requires.after c.args.q c.requires.position c.as_slice-flows.result.now rows
+
+pub returns-then-are_settled-clause-made : goal.returns-then-are_settled-clause-made
+returns-then-are_settled-clause-made g c =
+    let coming = c.args.self.now in
+    let ready = c.requires.ready in
+    let rows : c.as_slice-flows.result.now ≡ slice_index_or coming.prepared.now.into c.args.q c.as_slice-flows.result.now = search rules in
+    let quiet : All (λ (f : Flow). slice_index_or c.args.fresh.now f.from false ≡ false) c.as_slice-flows.result.now = c.are_settled.ensures c.if-are_settled.true in
+    let same = stays_as_it_is (place_next coming.plane.now coming.place _ ready.as_many) c.requires.seat ready.edges c.requires.after c.args.q c.requires.position c.as_slice-flows.result.now rows quiet in
+    let many = c.requires.after.as_many in
+    let here : SeatKnows c.args.work.now (slice_index_or c.args.sets.now c.args.q no_header).index (reached_at coming.plane.now coming.place c.args.number c.args.q) = known_at c.args.work.now c.args.sets.now (reached_at coming.plane.now coming.place c.args.number) c.requires.after.known c.args.q no_header (let low = c.requires.position in omega arith) in
+    subst (SeatKnows c.args.work.now (slice_index_or c.args.sets.now c.args.q no_header).index) (sym same) here
 
 pub gathered_set-requires-clause-may : goal.gathered_set-requires-clause-may
 gathered_set-requires-clause-may g c =
