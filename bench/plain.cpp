@@ -1,14 +1,17 @@
 // The yardstick of bench/sample and bench/reach: a plain program on one thread that does the work of `netcheck sample N` end to end. It makes
 // the texts of the network, reads them, makes the tables, and gives the first cube of what gets from outside the first router's LAN to a
-// router or a host; with a second word all its cubes. It refuses nothing, and reads only the lines that such a network has. Nothing
-// else uses it.
+// router or a host; with a second word all its cubes, of the texts that stand in that folder, which may have a default route in place of
+// OSPF. It refuses nothing, and reads only the lines that such a network has. Nothing else uses it.
 #include <algorithm>
 #include <cstdint>
 #include <cstdio>
 #include <cstdlib>
 #include <cstring>
+#include <dirent.h>
+#include <fcntl.h>
 #include <queue>
 #include <string>
+#include <unistd.h>
 #include <vector>
 
 using std::string;
@@ -119,6 +122,8 @@ struct Router {
     string host;
     vector<Interface> interfaces;
     vector<Line> list;
+    bool has_ospf = false;
+    uint32_t gateway = 0; // of its default route, or 0
 };
 
 static bool takes(const char *&at, const char *word) {
@@ -152,6 +157,8 @@ static Router read(const string &text) {
             left++;
             router.interfaces.back().mask = read_address(left);
         } else if (takes(left, " ip access-group ")) router.interfaces.back().filters = true;
+        else if (takes(left, "router ospf ")) router.has_ospf = true;
+        else if (takes(left, "ip route 0.0.0.0 0.0.0.0 ")) router.gateway = read_address(left);
         else if (takes(left, " passive-interface ")) {
             string name = rest_of_line(left);
             for (Interface &interface : router.interfaces) if (interface.name == name) interface.passive = true;
@@ -159,6 +166,28 @@ static Router read(const string &text) {
         else if (takes(left, "access-list 101 permit ip any any")) router.list.push_back({true, -1, -1});
     }
     return router;
+}
+
+// The text of a file.
+static string text_of(const string &name) {
+    string text;
+    char piece[65536];
+    int file = open(name.c_str(), O_RDONLY);
+    for (ssize_t length; (length = read(file, piece, sizeof piece)) > 0;) text.append(piece, length);
+    close(file);
+    return text;
+}
+
+// The texts of a folder, by the names of their files.
+static vector<string> texts_in(const char *path) {
+    vector<string> names, texts;
+    DIR *folder = opendir(path);
+    while (dirent *entry = readdir(folder))
+        if (entry->d_name[0] != '.') names.push_back(string(path) + "/" + entry->d_name);
+    closedir(folder);
+    std::sort(names.begin(), names.end());
+    for (const string &name : names) texts.push_back(text_of(name));
+    return texts;
 }
 
 // ---- links, shortest paths and tables
@@ -239,7 +268,10 @@ int main(int words, char **word) {
     while (count_of_slots < 2048 * count) count_of_slots *= 2;
     slots = (uint64_t *)calloc(count_of_slots, 8);
     vector<Router> routers;
-    for (uint32_t router = 0; router < count; router++) routers.push_back(read(configuration(router, count)));
+    if (all_cubes)
+        for (const string &text : texts_in(word[2])) routers.push_back(read(text));
+    else
+        for (uint32_t router = 0; router < count; router++) routers.push_back(read(configuration(router, count)));
     // links
     vector<End> ends;
     for (uint32_t r = 0; r < count; r++)
@@ -258,12 +290,28 @@ int main(int words, char **word) {
         for (size_t x = a; x < b; x++) {
             prefixes.back().advertisers.push_back({ends[x].router, 1});
             for (size_t y = a; y < b; y++) {
-                if (x == y || routers[ends[x].router].interfaces[ends[x].interface].passive || routers[ends[y].router].interfaces[ends[y].interface].passive) continue;
+                if (x == y || !routers[ends[x].router].has_ospf || !routers[ends[y].router].has_ospf) continue;
+                if (routers[ends[x].router].interfaces[ends[x].interface].passive || routers[ends[y].router].interfaces[ends[y].interface].passive) continue;
                 steps[ends[x].router].push_back({ends[y].router, int(hops[ends[x].router].size()), ends[y].interface, 1});
                 hops[ends[x].router].push_back({ends[x].interface, ends[y].router, ends[y].interface});
             }
         }
         a = b;
+    }
+    // default routes: the hop to the router that has the gateway
+    vector<uint32_t> by_default(count, 0);
+    for (uint32_t r = 0; r < count; r++) {
+        uint32_t gateway = routers[r].gateway;
+        for (size_t i = 0; gateway && i < routers[r].interfaces.size(); i++) {
+            const Interface &interface = routers[r].interfaces[i];
+            if ((interface.address & interface.mask) != (gateway & interface.mask)) continue;
+            auto same = std::equal_range(ends.begin(), ends.end(), End{gateway & interface.mask, 0, 0});
+            for (auto other = same.first; other != same.second; ++other) {
+                if (routers[other->router].interfaces[other->interface].address != gateway) continue;
+                by_default[r] = 1u << hops[r].size();
+                hops[r].push_back({int(i), other->router, other->interface});
+            }
+        }
     }
     // tables
     vector<vector<Route>> tables(count);
@@ -272,6 +320,7 @@ int main(int words, char **word) {
     for (uint32_t r = 0; r < count; r++) {
         paths_from(r, steps, costs, by);
         tables[r].reserve(prefixes.size());
+        if (by_default[r]) tables[r].push_back({0, 0, by_default[r], 0});
         for (const Prefix &prefix : prefixes) {
             Route route = {prefix.network, prefix.length, 0, UINT32_MAX};
             for (auto [router, cost] : prefix.advertisers) {
@@ -362,7 +411,9 @@ int main(int words, char **word) {
     Set result = 0;
     for (int position = 0; position < positions; position++) result = combine(Or, result, combine(And, arrived[position], ended[position]));
     // the first cube, or all of them
-    string text = "sample " + std::to_string(count) + "\noutcome fixed 2\nroutes " + std::to_string(routes) + "\n";
+    bool has_default = std::any_of(by_default.begin(), by_default.end(), [](uint32_t hop) { return hop; });
+    string text = has_default ? "outcome fixed 3\n" : "outcome fixed 2\n"; // a default route waits for the subnet of its gateway
+    if (!all_cubes) text = "sample " + std::to_string(count) + "\n" + text + "routes " + std::to_string(routes) + "\n";
     vector<std::pair<int, int>> path;
     struct Walk {
         static bool cubes(Set set, vector<std::pair<int, int>> &path, string &text, bool all) {
