@@ -69,10 +69,13 @@ def best_of(*words, runs=5):
     return best([PROGRAM, *words], runs)
 
 
-def by_turns(command, other, turns=15):
-    """The least times of two commands that are run by turns, and whether both wrote the same."""
+def by_turns(command, other, turns=31):
+    """The times of two commands in the turn whose ratio is the middle one of all turns, and whether both wrote the same in each. In a turn one
+    is run behind the other, so the clock at which the machine runs, and what else it does, meets both."""
     pairs = [(run(command), run(other)) for _ in range(turns)]
-    return min(a[0] for a, _ in pairs), min(b[0] for _, b in pairs), all(a[1] == b[1] for a, b in pairs)
+    pairs.sort(key=lambda pair: pair[0][0] / pair[1][0])
+    one, another = pairs[turns // 2]
+    return one[0], another[0], all(a[1] == b[1] for a, b in pairs)
 
 
 def run_held(command):
