@@ -71,9 +71,9 @@ fn last_round<G: Gate>(tables: &Tables, workers: u32, gate: &G) -> Result<u32, A
     Ok(2)
 }
 
-/// The prepared tables of a network's fixed point, where no router reads what any router knows, and the limit of rounds allows for it. Of the
-/// routes those of one router at a time are there, or of as many as work. Each worker passes the gate in each round. It errs only where
-/// memory runs out.
+/// The prepared tables of a network's fixed point, where no router reads what any router knows, and the limit of rounds allows for it. No
+/// route is made for them but the connected ones, unless a hop wants a look-up. Each worker passes the gate in each round. It errs only
+/// where memory runs out.
 pub fn tables_alone<R: Threads + Sync, G: Gate>(
     rt: &R,
     alloc: Global,
