@@ -78,6 +78,17 @@ def by_turns(command, other, turns=31):
     return one[0], another[0], all(a[1] == b[1] for a, b in pairs)
 
 
+def compare_workers(words, workers, yardstick=None):
+    """Prints the time of so many workers beside that of one, and beside that of a yardstick, where there is one."""
+    command = [PROGRAM, *words, "--workers", workers]
+    took, alone, is_same = by_turns(command, [PROGRAM, *words, "--workers", "1"])
+    line = f"  {workers} workers    {took:8.4f} s: {took / alone:.2f} of the time of one, {'the same text' if is_same else 'ANOTHER TEXT'}"
+    if yardstick is not None:
+        took, plainly, _ = by_turns(command, yardstick)
+        line += f"; {took / plainly:.2f} of that of plain C++"
+    print(line)
+
+
 def run_held(command):
     """The same of a run, and the most memory in MB that it held, or None where the command time isn't there to tell."""
     # A child that Python starts counts Python's own memory; one that time starts doesn't.

@@ -1,5 +1,5 @@
 -- What a work and its operations promise.
-use Rattle.std.specs.Prelude.{◌≡◌, ℕ, ◌<◌, ◌≤◌, Bool, ◌&&◌, ◌||◌}
+use Rattle.std.specs.Prelude.{◌≡◌, ℕ, ◌<◌, ◌≤◌, Bool, true, false, ◌&&◌, ◌||◌}
 use Rattle.rc_base.specs.Header.{bit_count}
 use Rattle.rc_trees.specs.Trees.{Tree, top, first_of, low_side, high_side, HasNodesOf}
 use Rattle.rc_trees.specs.Combine.{joined, combined, and_not}
@@ -40,6 +40,11 @@ IsCause nodes seat e = e ≡ Full → IsFull nodes seat
 -- an operation that takes no memory fails for want of room alone
 abbrev pub IsWantOfRoom : TableView → SeatView → SetError → Type 0
 IsWantOfRoom nodes seat e = (e ≡ Full) × IsFull nodes seat
+
+-- the side of a tree at a bit, for the headers in which it is 1, or 0
+abbrev pub side : Bool → ℕ → Tree → Tree
+side true v t = high_side v t
+side false v t = low_side v t
 
 -- ---- inside
 

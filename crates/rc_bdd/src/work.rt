@@ -1,6 +1,6 @@
 //! A seat with a memo, and the operations on sets.
 ghost use Rattle.std.specs.Prelude.{◌≡◌, ℕ, ◌≤◌, ◌&&◌, not, IfOk, IfErr, MatchOption};
-ghost use Rattle.rc_bdd.specs.Work.{AreSides, IsCause, IsFrom, IsRight, IsWantOfRoom, MayBranch, MayCombine, truth};
+ghost use Rattle.rc_bdd.specs.Work.{AreSides, IsCause, IsFrom, IsRight, IsWantOfRoom, MayBranch, MayCombine, side, truth};
 ghost use Rattle.rc_nodes.specs.Seats.{IsFull, IsKnown, IsSeatOf, Keeps, SeatKnows, SeatView};
 ghost use Rattle.rc_nodes.specs.Views.{Sound};
 ghost use Rattle.rc_trees.specs.Combine.{joined, combined, and, or, minus};
@@ -132,6 +132,20 @@ impl<M: May> Work<M> {
             return Ok(low);
         }
         nodes.make(&mut self.seat, var, low, high)
+    }
+
+    /// The side of a set at a bit, before which it tests none: its headers where that bit is 1, or where it is 0.
+    pub fn side(&mut self, nodes: &Nodes<M>, set: Ref, bit: u8, high: bool) -> Ref
+        requires seat { IsSeatOf nodes.now self.old }
+        requires known { IsKnown self.old set.index }
+        requires from { IsFrom self.old bit set.index }
+        ensures seat { IsSeatOf nodes.now self.new }
+        ensures keeps { Keeps self.old self.new }
+        ensures side { (t : Tree) → SeatKnows self.old set.index t → SeatKnows self.new result.index (side high bit t) }
+    {
+        let node = self.look(nodes, set);
+        let (of_low, of_high) = sides_at(bit, set, node);
+        if high { of_high } else { of_low }
     }
 
     /// Whether some header is in both sets. It makes no node.

@@ -1,4 +1,5 @@
 pub mod Rounds
+pub mod Sectored
 pub mod Kept
 pub mod Reaching
 pub mod Loops

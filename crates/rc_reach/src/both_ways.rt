@@ -13,6 +13,7 @@ ghost use Rattle.rc_nodes.specs.Seats.{IsSeatOf, Keeps, SeatKnows};
 ghost use Rattle.rc_spread.specs.Known.{KnowsShare};
 ghost use Rattle.rc_reach.specs.Reaching.{IsSetOf};
 ghost use Rattle.rc_reach.specs.Rounds.{reached_at};
+ghost use Rattle.rc_router_sets.specs.Planes.{IsPlane};
 ghost use Rattle.rc_topology.specs.Ports.{links_of};
 ghost use Rattle.rc_trees.specs.Recipes.{tree};
 ghost use Rattle.rc_trees.specs.Trees.{Tree, HasNodes, same_tree};
@@ -41,6 +42,7 @@ fn both_ended<M: May>(
     endings: &[Ending],
     sets: &[Ref],
 ) -> Result<Ref, SetError>
+    requires plane { IsPlane plane.now }
     requires seat { IsSeatOf nodes.now work.old }
     requires arriving { KnowsFlows work.old (flows_of (is_among arrivals) endings.now) (real_endings (ends_at plane.now arrivals) (length (positions plane.now.network))) }
     requires failing { KnowsFlows work.old (flows_of (is_among failures) endings.now) (real_endings (ends_at plane.now failures) (length (positions plane.now.network))) }
@@ -67,8 +69,7 @@ fn uneven_within<R: Threads + Sync, M: May + Send + Sync, G: Gate>(
     workers: u32,
     gate: &G,
 ) -> (Seat<M>, Result<Ref, SetError>)
-    requires lawful { IsLawful plane.now.network }
-    requires links { plane.now.links ≡ links_of plane.now.network }
+    requires plane { IsPlane plane.now }
     requires place { IsPosition plane.now.network place }
     requires seat { IsSeatOf nodes.now seat }
     requires may { HasNodes nodes.now.may (uneven_nodes plane.now place) }

@@ -1,46 +1,50 @@
 //! What comes from a place to each position.
-ghost use Rattle.std.specs.Prelude.{◌≡◌, ◌≤◌, length, IfOk, IfErr};
+ghost use Rattle.std.specs.Prelude.{◌≡◌, ◌≤◌, [], length, IfOk, IfErr};
 ghost use Rattle.rc_bdd.specs.Work.{IsCause};
 ghost use Rattle.rc_config.specs.Lawful.{IsPosition};
 ghost use Rattle.rc_nodes.specs.Seats.{IsSeatOf, Keeps};
 ghost use Rattle.rc_places.specs.Places.{number_of};
-ghost use Rattle.rc_reach.specs.Rounds.{MayCome};
+ghost use Rattle.rc_reach.specs.Rounds.{MayCome, reached_at, reached_in};
 ghost use Rattle.rc_spread.specs.Known.{KnowsShare};
-ghost use Rattle.rc_reach.specs.Rounds.{reached_at};
+ghost use Rattle.rc_spread.specs.Turned.{AreOut};
 
-use rc_base::Pos;
+use rc_base::{Items, Pos};
 use rc_bdd::{SetError, Work};
-use rc_jobs::Prepared;
+use rc_jobs::{Flow, Prepared};
 use rc_moves::Plane;
 use rc_nodes::{May, Nodes, Ref};
 use rc_outside::Gate;
-use rc_spread::{Spread, all_rounds, are_settled, first_fresh, first_sets, gathered_set};
+use rc_spread::{
+    Spread, all_rounds, are_settled, first_fresh, first_sets, gathered_set, rounds_alone,
+};
 use std::alloc::Global;
 use std::thread::Threads;
 
-/// The headers that come from a place to each position of a plane: what stood there, and what each position sends there.
+/// The headers of a sector that come from a place to each position of a plane: what stood there, and what each position sends there.
 #[derive(Drop)]
 pub struct Coming<'a> {
     pub plane: &'a Plane<'a>,
-    pub prepared: &'a Prepared,
+    /// For each position the flows into it, of all headers.
+    pub into: &'a [Items<Flow>],
     /// Where all headers start.
     pub place: Pos,
+    /// The first bits of the headers that are asked about.
+    pub sector: &'a [bool],
 }
 
 impl<'a> Spread for Coming<'a> {
     ghost use Rattle.std.specs.Prelude.{length};
     ghost use Rattle.rc_reach.specs.Kept.{coming_kept};
-    ghost use Rattle.rc_reach.specs.Rounds.{MayCome};
-    ghost use Rattle.rc_reach.specs.Rounds.{reached_at};
+    ghost use Rattle.rc_reach.specs.Rounds.{MayCome, reached_in};
 
-    ghost count = { λ c. length c.prepared.now.into };
+    ghost count = { λ c. length c.into.now };
 
-    ghost set_after = { λ c. reached_at c.plane.now c.place };
+    ghost set_after = { λ c. reached_in c.plane.now c.place c.sector.now };
 
-    ghost ready = { λ c nodes seat. MayCome nodes seat c.plane.now c.place c.prepared.now.into };
+    ghost ready = { λ c nodes seat. MayCome nodes seat c.plane.now c.place c.sector.now c.into.now };
 
     fn positions(&self) -> usize {
-        self.prepared.into.len()
+        self.into.len()
     }
 
     fn next_set<M: May>(
@@ -53,11 +57,11 @@ impl<'a> Spread for Coming<'a> {
         q: usize,
     ) -> Result<Ref, SetError> {
         let _ = number;
-        let flows = self.prepared.into.as_slice()[q].as_slice();
+        let flows = self.into[q].as_slice();
         if are_settled(flows, fresh) {
             return Ok(sets[q]);
         }
-        gathered_set(work, nodes, sets, fresh, flows, sets[q])
+        gathered_set(work, nodes, sets, fresh, flows, self.sector, sets[q])
     }
 
     ghost stays_ready = { λ c nodes v w keeps ready. coming_kept v w keeps ready };
@@ -79,7 +83,7 @@ pub fn propagate<R: Threads + Sync, M: May + Send + Sync, G: Gate>(
     requires place { IsPosition plane.now.network place.now }
     requires number { number ≡ number_of plane.now.network place.now }
     requires seat { IsSeatOf nodes.now work }
-    requires may { MayCome nodes.now work plane.now place.now prepared.now.into }
+    requires may { MayCome nodes.now work plane.now place.now [] prepared.now.into }
     requires positions { length prepared.now.into ≤ 131584 }
     requires some { 1 ≤ workers }
     requires most { workers ≤ 64 }
@@ -97,8 +101,48 @@ pub fn propagate<R: Threads + Sync, M: May + Send + Sync, G: Gate>(
     };
     let coming = Coming {
         plane: &*plane,
-        prepared,
+        into: prepared.into.as_slice(),
         place: *place,
+        sector: &[],
     };
     all_rounds(rt, alloc, nodes, work, &coming, sets, fresh, workers, gate)
+}
+
+/// What has come from a place to each position of the headers of a sector, after as many rounds as there are positions, made by one alone;
+/// and how many rounds changed something, with one more. `number` is that of the place, and `out` has the flows out of positions.
+pub fn propagate_alone<M: May>(
+    alloc: Global,
+    work: &mut Work<M>,
+    nodes: &Nodes<M>,
+    plane: &Plane<'_>,
+    place: &Pos,
+    number: usize,
+    into: &[Items<Flow>],
+    out: &[Items<Flow>],
+    sector: &[bool],
+) -> Result<(Vec<Ref>, u32), SetError>
+    requires place { IsPosition plane.now.network place.now }
+    requires number { number ≡ number_of plane.now.network place.now }
+    requires seat { IsSeatOf nodes.now work.old }
+    requires may { MayCome nodes.now work.old plane.now place.now sector.now into.now }
+    requires out { AreOut into.now (length into.now) out.now }
+    requires positions { length into.now ≤ 131584 }
+    ensures seat { IsSeatOf nodes.now work.new }
+    ensures keeps { Keeps work.old work.new }
+    ensures made { IfOk result (λ r. KnowsShare work.new r.0.items (reached_in plane.now place.now sector.now (length into.now)) 0 (length into.now)) }
+    ensures cause { IfErr result (IsCause nodes.now work.new) }
+{
+    let Ok(sets) = first_sets(alloc, into.len(), number) else {
+        return Err(SetError::Memory);
+    };
+    let Ok(fresh) = first_fresh(alloc, into.len(), number) else {
+        return Err(SetError::Memory);
+    };
+    let coming = Coming {
+        plane: &*plane,
+        into,
+        place: *place,
+        sector,
+    };
+    rounds_alone(alloc, work, nodes, &coming, out, sets, fresh)
 }

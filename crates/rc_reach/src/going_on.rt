@@ -46,7 +46,7 @@ impl<'a> Spread for GoingOn<'a> {
         if number > 0 && are_settled(flows, fresh) {
             return Ok(sets[q]);
         }
-        gathered_set(work, nodes, sets, self.everywhere, flows, NEVER)
+        gathered_set(work, nodes, sets, self.everywhere, flows, &[], NEVER)
     }
 
     ghost stays_ready = { λ g nodes v w keeps ready. onward_kept v w keeps ready };

@@ -1,5 +1,6 @@
 //! What has come to an ending.
-ghost use Rattle.std.specs.Prelude.{◌≡◌, length, IfOk, IfErr};
+ghost use Rattle.std.specs.Prelude.{◌≡◌, ◌≤◌, ◌==◌, length, map, not, IfOk, IfErr};
+ghost use Rattle.rc_base.specs.Header.{bit_count};
 ghost use Rattle.rc_base.specs.Positions.{is_among};
 ghost use Rattle.rc_bdd.specs.Work.{IsCause};
 ghost use Rattle.rc_config.specs.Members.{positions};
@@ -8,7 +9,10 @@ ghost use Rattle.rc_router_sets.specs.Query.{query_nodes, reaching};
 ghost use Rattle.rc_jobs.specs.Flows.{KnowsFlows, flows_of, real_endings};
 ghost use Rattle.rc_nodes.specs.Seats.{IsSeatOf, Keeps, SeatKnows};
 ghost use Rattle.rc_spread.specs.Known.{KnowsShare};
-ghost use Rattle.rc_reach.specs.Rounds.{reached_at};
+ghost use Rattle.rc_nodes.specs.declared.words.Ref.{Ref as SetRef};
+ghost use Rattle.rc_reach.specs.Rounds.{reached_at, reached_in};
+ghost use Rattle.rc_router_sets.specs.Planes.{IsPlane};
+ghost use Rattle.rc_sectors.specs.Sectors.{within};
 ghost use Rattle.rc_trees.specs.Recipes.{tree};
 ghost use Rattle.rc_trees.specs.Trees.{HasNodes};
 
@@ -21,7 +25,7 @@ use rc_spread::gathered_set;
 use std::alloc::{AllocError, Global};
 
 /// Of endings the flows of those that are asked for.
-fn flows_asked(alloc: Global, endings: &[Ending], ends: Ends) -> Result<Vec<Flow>, AllocError>
+pub fn flows_asked(alloc: Global, endings: &[Ending], ends: Ends) -> Result<Vec<Flow>, AllocError>
     ensures { IfOk result (λ flows. flows.items ≡ flows_of (is_among ends) endings.now) }
 {
     let mut flows = Vec::new(alloc);
@@ -31,6 +35,51 @@ fn flows_asked(alloc: Global, endings: &[Ending], ends: Ends) -> Result<Vec<Flow
         }
     }
     Ok(flows)
+}
+
+/// Which of some sets hold some header.
+fn somethings(alloc: Global, sets: &[Ref]) -> Result<Vec<bool>, AllocError>
+    ensures { IfOk result (λ some. some.items ≡ map (λ (r : SetRef). not (r.index == 0)) sets.now) }
+{
+    let mut some = Vec::with_capacity(alloc, sets.len())?;
+    for set in sets {
+        some.push(set.index != 0)?;
+    }
+    Ok(some)
+}
+
+/// The headers of a sector that have come from a place to one of some endings, after all rounds: `sets` are what these made of each
+/// position, and `flows` the endings that some header may have.
+pub fn reaching_in<M: May>(
+    alloc: Global,
+    work: &mut Work<M>,
+    nodes: &Nodes<M>,
+    plane: &Plane<'_>,
+    place: &Pos,
+    ends: Ends,
+    flows: &[Flow],
+    sector: &[bool],
+    sets: &[Ref],
+) -> Result<Ref, SetError>
+    requires plane { IsPlane plane.now }
+    requires short { length sector.now ≤ bit_count }
+    requires seat { IsSeatOf nodes.now work.old }
+    requires endings { KnowsFlows work.old flows.now (real_endings (ends_at plane.now ends) (length (positions plane.now.network))) }
+    requires sets { KnowsShare work.old sets.now (reached_in plane.now place.now sector.now (length (positions plane.now.network))) 0 (length (positions plane.now.network)) }
+    requires may { HasNodes nodes.now.may (query_nodes plane.now place.now ends) }
+    ensures seat { IsSeatOf nodes.now work.new }
+    ensures keeps { Keeps work.old work.new }
+    ensures set { IfOk result (λ r. SeatKnows work.new r.index (within sector.now (tree (reaching plane.now place.now ends)))) }
+    ensures cause { IfErr result (IsCause nodes.now work.new) }
+{
+    let _ = plane;
+    let _ = place;
+    let _ = ends;
+    let some = match somethings(alloc, sets) {
+        Ok(some) => some,
+        Err(_) => return Err(SetError::Memory),
+    };
+    gathered_set(work, nodes, sets, some.as_slice(), flows, sector, NEVER)
 }
 
 /// The headers that have come from a place to one of some endings, after all rounds: `sets` are what these made of each position, and
@@ -45,6 +94,7 @@ pub fn reaching_set<M: May>(
     endings: &[Ending],
     sets: &[Ref],
 ) -> Result<Ref, SetError>
+    requires plane { IsPlane plane.now }
     requires seat { IsSeatOf nodes.now work.old }
     requires endings { KnowsFlows work.old (flows_of (is_among ends) endings.now) (real_endings (ends_at plane.now ends) (length (positions plane.now.network))) }
     requires sets { KnowsShare work.old sets.now (reached_at plane.now place.now (length (positions plane.now.network))) 0 (length (positions plane.now.network)) }
@@ -54,23 +104,20 @@ pub fn reaching_set<M: May>(
     ensures set { IfOk result (λ r. SeatKnows work.new r.index (tree (reaching plane.now place.now ends))) }
     ensures cause { IfErr result (IsCause nodes.now work.new) }
 {
-    let _ = plane;
-    let _ = place;
     let flows = match flows_asked(alloc, endings, ends) {
         Ok(flows) => flows,
         Err(_) => return Err(SetError::Memory),
     };
-    let everywhere = match vec![in alloc; true; sets.len()] {
-        Ok(everywhere) => everywhere,
-        Err(_) => return Err(SetError::Memory),
-    };
-    gathered_set(
+    reaching_in(
+        alloc,
         work,
         nodes,
-        sets,
-        everywhere.as_slice(),
+        plane,
+        place,
+        ends,
         flows.as_slice(),
-        NEVER,
+        &[],
+        sets,
     )
 }
 
@@ -85,6 +132,7 @@ pub fn ended<M: May>(
     prepared: &Prepared,
     sets: Result<Vec<Ref>, SetError>,
 ) -> Result<Ref, SetError>
+    requires plane { IsPlane plane.now }
     requires seat { IsSeatOf nodes.now work.old }
     requires endings { KnowsFlows work.old (flows_of (is_among ends) prepared.now.ends) (real_endings (ends_at plane.now ends) (length (positions plane.now.network))) }
     requires sets { IfOk sets (λ v. KnowsShare work.old v.items (reached_at plane.now place.now (length (positions plane.now.network))) 0 (length (positions plane.now.network))) }

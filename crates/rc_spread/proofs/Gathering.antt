@@ -6,12 +6,14 @@ use Rattle.rc_trees.specs.Trees.{Tree, never, IsReduced, HasNodesOf}
 use Rattle.rc_trees.specs.Combine.{and, or}
 use Rattle.rc_trees.proofs.OneTree.{or-inside}
 use Rattle.rc_trees.proofs.ReducedLaws.{reduced-and}
-use Rattle.rc_nodes.specs.Seats.{TableView, SeatView, IsSeatOf, SeatKnows, Keeps}
+use Rattle.rc_nodes.specs.Seats.{TableView, SeatView, IsKnown, IsSeatOf, SeatKnows, Keeps}
 use Rattle.rc_nodes.specs.declared.words.Ref.{Ref}
 use Rattle.rc_nodes.proofs.KnownLaws.{known_reduced}
 use Rattle.rc_bdd.specs.Work.{MayCombine}
 use Rattle.rc_jobs.specs.declared.flow.Flow.{Flow}
-use Rattle.rc_jobs.proofs.FlowLaws.{as_many_flows, flow_from, flow_set}
+use Rattle.rc_sectors.specs.Sectors.{within}
+use Rattle.rc_sectors.proofs.SectorLaws.{within_from-reduced}
+use Rattle.rc_spread.proofs.SectorGather.{as_many_within, from_within, set_within, whole_known}
 use Rattle.rc_spread.specs.Gathered.{gathered, IsInside, MayGather}
 use Rattle.rc_spread.specs.Known.{AreSent}
 use Rattle.rc_jobs.specs.Flows.{no_header}
@@ -30,15 +32,15 @@ may_at may sets start (f ∷ fs) (suc i) d less m = may_at may sets (or start (p
 gathered_more : (sets : ℕ → Tree) (start : Tree) (through : List (ℕ × Tree)) (i : ℕ) (d : ℕ × Tree) → i < length through → gathered sets start (take (i + 1) through) ≡ or (gathered sets start (take i through)) (passed sets (slice_index_or through i d))
 gathered_more sets start through i d less = ap (gathered sets start) (take_more through i d less) ∙ gathered-append sets (take i through) (slice_index_or through i d ∷ []) start
 
-module _ {nodes : TableView} {seat : SeatView} {refs : List Ref} {fresh : List Bool} {flows : List Flow} {here : ℕ} {sets : ℕ → Tree} {start : Tree} {through : List (ℕ × Tree)} (mine : IsSeatOf nodes seat) (sent : AreSent seat refs fresh flows here sets start through) (i : ℕ) (less : i < length flows) where
+module _ {nodes : TableView} {seat : SeatView} {refs : List Ref} {fresh : List Bool} {flows : List Flow} {sector : List Bool} {here : ℕ} {sets : ℕ → Tree} {start : Tree} {through : List (ℕ × Tree)} (mine : IsSeatOf nodes seat) (sent : AreSent seat refs fresh flows sector here sets start through) (i : ℕ) (less : i < length flows) where
   abbrev pub at : ℕ × Tree
   at = slice_index_or through i (0, never)
 
   fits : i < length through
-  fits = let count = as_many_flows seat flows through sent.knows_flows in omega arith
+  fits = let count = as_many_within seat flows sector sent.whole through sent.knows_flows sent.in_sector in omega arith
 
   pub source : (d : Flow) → (slice_index_or flows i d).from ≡ at.0
-  source d = flow_from seat flows through sent.knows_flows i d (0, never) less
+  source d = from_within seat flows sector sent.whole through sent.knows_flows sent.in_sector i less d (0, never)
 
   pub from_set : (d : Flow) → (slice_index_or flows i d).from < length refs
   from_set d = let e = source d in let below : at.0 < length refs = sent.from i (0, never) fits in omega arith
@@ -54,19 +56,29 @@ module _ {nodes : TableView} {seat : SeatView} {refs : List Ref} {fresh : List B
 
   -- the steps of one flow, at a later seat
   module _ (now : SeatView) (keeps : Keeps seat now) where
-    -- what `and` answers at the seat after it
-    pub knows_passed : (after : SeatView) (got : ℕ) (d : Flow) (n : Ref) → ((s t : Tree) → SeatKnows now (slice_index_or refs (slice_index_or flows i d).from n).index s → SeatKnows now (slice_index_or flows i d).set.index t → SeatKnows after got (and s t)) → SeatKnows after got (passed sets at)
-    knows_passed after got d n made =
-        made (sets at.0) at.1 (keeps (slice_index_or refs (slice_index_or flows i d).from n).index (sets at.0) (knows_source d n)) (keeps (slice_index_or flows i d).set.index at.1 (flow_set seat flows through sent.knows_flows i d (0, never) less))
+    knows_whole : (d : Flow) → SeatKnows now (slice_index_or flows i d).set.index (slice_index_or sent.whole i (0, never)).1
+    knows_whole d = keeps (slice_index_or flows i d).set.index (slice_index_or sent.whole i (0, never)).1 (whole_known seat flows sector sent.whole through sent.knows_flows sent.in_sector i less d)
 
-    pub may_and : MayGather nodes.may sets start through → (d : Flow) (n : Ref) → MayCombine nodes now and (slice_index_or refs (slice_index_or flows i d).from n).index (slice_index_or flows i d).set.index
-    may_and allowed d n = record {
-      left = sets at.0;
-      right = at.1;
-      knows_left = keeps (slice_index_or refs (slice_index_or flows i d).from n).index (sets at.0) (knows_source d n);
-      knows_right = keeps (slice_index_or flows i d).set.index at.1 (flow_set seat flows through sent.knows_flows i d (0, never) less);
-      allowed = (may_at nodes.may sets start through i (0, never) fits allowed).0;
-    }
+    pub is_known : (d : Flow) → IsKnown now (slice_index_or flows i d).set.index
+    is_known d = ((slice_index_or sent.whole i (0, never)).1, knows_whole d)
+
+    -- what `set_in` answers at the seat after it
+    pub knows_there : (after : SeatView) (got : ℕ) (d : Flow) → ((t : Tree) → SeatKnows now (slice_index_or flows i d).set.index t → SeatKnows after got (within sector t)) → SeatKnows after got at.1
+    knows_there after got d made = subst (SeatKnows after got) (sym (set_within seat flows sector sent.whole through sent.knows_flows sent.in_sector i less (0, never))) (made (slice_index_or sent.whole i (0, never)).1 (knows_whole d))
+
+    module _ (right : ℕ) (knows_right : SeatKnows now right at.1) where
+      -- what `and` answers at the seat after it
+      pub knows_passed : (after : SeatView) (got : ℕ) (d : Flow) (n : Ref) → ((s t : Tree) → SeatKnows now (slice_index_or refs (slice_index_or flows i d).from n).index s → SeatKnows now right t → SeatKnows after got (and s t)) → SeatKnows after got (passed sets at)
+      knows_passed after got d n made = made (sets at.0) at.1 (keeps (slice_index_or refs (slice_index_or flows i d).from n).index (sets at.0) (knows_source d n)) knows_right
+
+      pub may_and : MayGather nodes.may sets start through → (d : Flow) (n : Ref) → MayCombine nodes now and (slice_index_or refs (slice_index_or flows i d).from n).index right
+      may_and allowed d n = record {
+        left = sets at.0;
+        right = at.1;
+        knows_left = keeps (slice_index_or refs (slice_index_or flows i d).from n).index (sets at.0) (knows_source d n);
+        knows_right = knows_right;
+        allowed = (may_at nodes.may sets start through i (0, never) fits allowed).0;
+      }
 
     pub may_or : MayGather nodes.may sets start through → (set got : ℕ) → SeatKnows now set (gathered sets start (take i through)) → SeatKnows now got (passed sets at) → MayCombine nodes now or set got
     may_or allowed set got known passes = record {
@@ -82,23 +94,24 @@ module _ {nodes : TableView} {seat : SeatView} {refs : List Ref} {fresh : List B
 
 -- ---- a source with nothing fresh
 
-module _ {nodes : TableView} {seat : SeatView} {refs : List Ref} {fresh : List Bool} {flows : List Flow} {here : ℕ} {sets : ℕ → Tree} {start : Tree} {through : List (ℕ × Tree)} (mine : IsSeatOf nodes seat) (sent : AreSent seat refs fresh flows here sets start through) where
+module _ {nodes : TableView} {seat : SeatView} {refs : List Ref} {fresh : List Bool} {flows : List Flow} {sector : List Bool} {here : ℕ} {sets : ℕ → Tree} {start : Tree} {through : List (ℕ × Tree)} (mine : IsSeatOf nodes seat) (sent : AreSent seat refs fresh flows sector here sets start through) where
   each_reduced : All (AreReduced sets) through
   each_reduced i d less =
-      let count = as_many_flows seat flows through sent.knows_flows in
+      let count = as_many_within seat flows sector sent.whole through sent.knows_flows sent.in_sector in
       let f : Flow = slice_index_or flows i no_flow in
       let e : ℕ × Tree = slice_index_or through i d in
       let fits : i < length flows = omega arith in
       let below : e.0 < length refs = sent.from i d less in
-      let filter : SeatKnows seat f.set.index e.1 = flow_set seat flows through sent.knows_flows i no_flow d fits in
+      let is : e.1 ≡ within sector (slice_index_or sent.whole i (0, never)).1 = set_within seat flows sector sent.whole through sent.knows_flows sent.in_sector i fits d in
+      let filter = known_reduced seat mine.sound f.set.index (slice_index_or sent.whole i (0, never)).1 (whole_known seat flows sector sent.whole through sent.knows_flows sent.in_sector i fits no_flow) in
       let known : SeatKnows seat (slice_index_or refs e.0 no_header).index (sets (0 + e.0)) = sent.knows_sets.at e.0 no_header below in
       let same : 0 + e.0 ≡ e.0 = omega arith in
-      (known_reduced seat mine.sound (slice_index_or refs e.0 no_header).index (sets e.0) (subst (λ n. SeatKnows seat (slice_index_or refs e.0 no_header).index (sets n)) same known), known_reduced seat mine.sound f.set.index e.1 filter)
+      (known_reduced seat mine.sound (slice_index_or refs e.0 no_header).index (sets e.0) (subst (λ n. SeatKnows seat (slice_index_or refs e.0 no_header).index (sets n)) same known), subst IsReduced (sym is) (within_from-reduced sector 0 (slice_index_or sent.whole i (0, never)).1 filter))
 
   -- adds nothing
   pub stays : (i : ℕ) → i < length flows → (d : Flow) → slice_index_or fresh (slice_index_or flows i d).from false ≡ false → gathered sets start (take (i + 1) through) ≡ gathered sets start (take i through)
   stays i less d stale =
-      let fits : i < length through = (let count = as_many_flows seat flows through sent.knows_flows in omega arith) in
+      let fits : i < length through = (let count = as_many_within seat flows sector sent.whole through sent.knows_flows sent.in_sector in omega arith) in
       let e : ℕ × Tree = slice_index_or through i (0, never) in
       let from : (slice_index_or flows i d).from ≡ e.0 = source mine sent i less d in
       let before : Tree = gathered sets start (take i through) in
@@ -109,4 +122,4 @@ module _ {nodes : TableView} {seat : SeatView} {refs : List Ref} {fresh : List B
       gathered_more sets start through i (0, never) fits ∙ or-inside before (passed sets e) all (reduced-and (sets e.0) e.1 both.0 both.1) (gathered_inside sets (take i through) start (passed sets e) inside)
 
   pub at_end : (n : ℕ) → n ≡ length flows → gathered sets start (take n through) ≡ gathered sets start through
-  at_end n e = let count = as_many_flows seat flows through sent.knows_flows in let all : length through ≤ n = omega arith in ap (gathered sets start) (take_all n through all)
+  at_end n e = let count = as_many_within seat flows sector sent.whole through sent.knows_flows sent.in_sector in let all : length through ≤ n = omega arith in ap (gathered sets start) (take_all n through all)

@@ -15,6 +15,7 @@ use Rattle.rc_spread.specs.Known.{MayOnward}
 use Rattle.rc_spread.specs.Onward.{onward, turned}
 use Rattle.rc_spread.proofs.GatherLaws.{AreReduced, gathered_reduced, gathered_without, may_without}
 use Rattle.rc_spread.proofs.PositionLaws.{edges_all}
+use Rattle.rc_spread.proofs.SectorGather.{in_all}
 use Rattle.rc_spread.proofs.RealLaws.{all_reduced, all_spared, is_real, no_flow}
 use Rattle.rc_spread.proofs.StillLaws.{gathered_agree}
 
@@ -54,13 +55,15 @@ module _ {nodes : TableView} {seat : SeatView} {edge : ℕ → ℕ → Tree} {ou
   real_sources : All (λ (f : ℕ × Tree). f.0 < length out) (real_edges_to (turned edge) (length out) q)
   real_sources = All-filter is_real (λ (f : ℕ × Tree). f.0 < length out) all (sources mine ready q)
 
-  pub onward_sent : (rows : List Flow) → rows ≡ slice_index_or out q rows → AreSent seat refs everywhere rows 0 here never (real_edges_to (turned edge) (length out) q)
+  pub onward_sent : (rows : List Flow) → rows ≡ slice_index_or out q rows → AreSent seat refs everywhere rows [] 0 here never (real_edges_to (turned edge) (length out) q)
   onward_sent rows is =
       let many = after.as_many in
       let true_ones : length everywhere ≡ length out = ap length ready.all ∙ length-replicate (length out) true in
       record {
         knows_sets = after.known;
+        whole = real_edges_to (turned edge) (length out) q;
         knows_flows = subst (λ (fs : List Flow). KnowsFlows seat fs (real_edges_to (turned edge) (length out) q)) (sym is) (ready.edges.each q rows less);
+        in_sector = in_all (real_edges_to (turned edge) (length out) q);
         knows_start = knows_never seat;
         as_many = true_ones ∙ sym many;
         from = λ i d fits. (let low = real_sources i d fits in omega arith);
@@ -70,7 +73,7 @@ module _ {nodes : TableView} {seat : SeatView} {edge : ℕ → ℕ → Tree} {ou
             absurd (let none : ⊥ = cc (right, wrong) in none);
       }
 
-  pub may_onward : k < length out → (rows : List Flow) → rows ≡ slice_index_or out q rows → MayGatherRefs nodes seat refs everywhere rows 0
+  pub may_onward : k < length out → (rows : List Flow) → rows ≡ slice_index_or out q rows → MayGatherRefs nodes seat refs everywhere rows [] 0
   may_onward further rows is = record {
     sets = here;
     start = never;

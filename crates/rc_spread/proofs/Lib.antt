@@ -1,5 +1,6 @@
 pub mod PositionLaws
 pub mod GatherLaws
+pub mod SectorGather
 pub mod StillLaws
 pub mod Gathering
 pub mod RealLaws
@@ -8,3 +9,4 @@ pub mod ComingLaws
 pub mod EndLaws
 pub mod GoingLaws
 pub mod TurnLaws
+pub mod AloneLaws

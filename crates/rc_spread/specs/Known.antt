@@ -6,6 +6,7 @@ use Rattle.rc_trees.specs.Trees.{Tree}
 use Rattle.rc_trees.specs.Combine.{and}
 use Rattle.rc_jobs.specs.Flows.{KnowsFlows, KnowsEdges}
 use Rattle.rc_jobs.specs.declared.flow.Flow.{Flow}
+use Rattle.rc_sectors.specs.Sectors.{flows_within}
 use Rattle.rc_spread.specs.Onward.{turned, MayGoOn}
 use Rattle.rc_spread.specs.Gathered.{before, IsInside, MayGather}
 
@@ -20,21 +21,24 @@ pub record KnowsShare (seat : SeatView) (refs : List Ref) (sets : ℕ → Tree) 
 
 -- ---- what comes together at a position
 
--- the seat knows what stands somewhere and what is sent there, where positions with nothing fresh send nothing new
-pub record AreSent (seat : SeatView) (refs : List Ref) (fresh : List Bool) (flows : List Flow) (here : ℕ) (sets : ℕ → Tree) (start : Tree) (through : List (ℕ × Tree)) : Type 0 where
+-- the seat knows what stands somewhere and what is sent there, each flow as it is in a sector, where positions with nothing fresh send
+-- nothing new
+pub record AreSent (seat : SeatView) (refs : List Ref) (fresh : List Bool) (flows : List Flow) (sector : List Bool) (here : ℕ) (sets : ℕ → Tree) (start : Tree) (through : List (ℕ × Tree)) : Type 0 where
   pub knows_sets : KnowsSets seat refs sets 0
-  pub knows_flows : KnowsFlows seat flows through
+  pub whole : List (ℕ × Tree)
+  pub knows_flows : KnowsFlows seat flows whole
+  pub in_sector : through ≡ flows_within sector whole
   pub knows_start : SeatKnows seat here start
   pub as_many : length fresh ≡ length refs
   pub from : All (λ f. f.0 < length refs) through
   pub stale : All (λ f. slice_index_or fresh f.0 false ≡ false → IsInside (and (sets f.0) f.1) start) through
 
 -- and the operations of gathering it may be done
-pub record MayGatherRefs (nodes : TableView) (seat : SeatView) (refs : List Ref) (fresh : List Bool) (flows : List Flow) (here : ℕ) : Type 0 where
+pub record MayGatherRefs (nodes : TableView) (seat : SeatView) (refs : List Ref) (fresh : List Bool) (flows : List Flow) (sector : List Bool) (here : ℕ) : Type 0 where
   pub sets : ℕ → Tree
   pub start : Tree
   pub through : List (ℕ × Tree)
-  pub sent : AreSent seat refs fresh flows here sets start through
+  pub sent : AreSent seat refs fresh flows sector here sets start through
   pub allowed : MayGather nodes.may sets start through
 
 -- ---- rounds

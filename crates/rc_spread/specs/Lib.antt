@@ -3,3 +3,4 @@ pub mod Known
 pub mod Kept
 pub mod Onward
 pub mod Turned
+pub mod Alone

@@ -1,14 +1,15 @@
 //! Sets of headers at positions that are made in rounds, each round from the sets of the one before, by workers at once.
 //!
-//! It stands on the workers of rc_jobs, and knows of positions only their numbers. The layer above says how one set is made (`Spread`), and
-//! knows that all sets are those after as many rounds as there are positions, for every number of workers; it may know that what comes
-//! together at a position is what stood there with all that is sent.
+//! It stands on the workers of rc_jobs and on the sectors of rc_sectors, and knows of positions only their numbers. The layer above says how
+//! one set is made (`Spread`), and knows that all sets are those after as many rounds as there are positions, for every number of workers;
+//! it may know that what comes together at a position is what stood there with all that is sent, in a sector or in all.
 //!
 //! The crate goes one way: what comes together at a position (`gather`); sets that are made in rounds (`spread`), a round of them
-//! (`round`), what stands before the first one and what a round changed (`first`), and all rounds (`rounds`); and the flows out of
-//! positions, of those into them (`turning`).
+//! (`round`), what stands before the first one and what a round changed (`first`), all rounds (`rounds`), and all rounds by one alone
+//! (`alone`); and the flows out of positions, of those into them (`turning`).
 #![tactic(auto)]
 
+mod alone;
 mod first;
 mod gather;
 mod round;
@@ -16,6 +17,7 @@ mod rounds;
 mod spread;
 mod turning;
 
+pub use alone::rounds_alone;
 pub use first::{first_fresh, first_sets};
 pub use gather::{are_settled, gathered_set};
 pub use rounds::all_rounds;

@@ -5,10 +5,11 @@ use rc_outside::{Gate, MeetGate};
 use std::sync::atomic::{AtomicU32, AtomicU64, Ordering};
 use std::test::Fail;
 
-/// Counts who passes, and who passes out of turn: in a phase that isn't the next one while workers of the one before are
+/// Counts who passes behind a phase, and who passes out of turn: in a phase that isn't the next one while workers of the one before are
 /// still to pass, a second time in one phase, or beyond the number of workers.
 #[derive(Drop)]
 struct Counts {
+    behind: u32,
     workers: u32,
     passes: AtomicU32,
     /// The workers that passed in this phase, a bit each.
@@ -16,8 +17,10 @@ struct Counts {
     wrong: AtomicU32,
 }
 
-fn counting(workers: u32) -> Counts {
+/// Nobody has passed yet behind a phase, of so many workers.
+fn counting_behind(behind: u32, workers: u32) -> Counts {
     Counts {
+        behind,
         workers,
         passes: AtomicU32::new(0),
         passed: AtomicU64::new(0),
@@ -25,8 +28,15 @@ fn counting(workers: u32) -> Counts {
     }
 }
 
+fn counting(workers: u32) -> Counts {
+    counting_behind(0, workers)
+}
+
 impl Gate for Counts {
     fn pass(&self, phase: u32, worker: u32) {
+        if phase <= self.behind {
+            return;
+        }
         let before = self.passes.fetch_add(1, Ordering::SeqCst);
         let workers = self.workers.max(1);
         if before % workers == 0 {
@@ -34,7 +44,7 @@ impl Gate for Counts {
         }
         let bit = 1u64.checked_shl(worker).unwrap_or(0);
         let passed = self.passed.fetch_or(bit, Ordering::SeqCst);
-        let is_next = phase == (before / workers).saturating_add(1);
+        let is_next = phase - self.behind == (before / workers).saturating_add(1);
         if !is_next || worker >= workers || passed & bit != 0 {
             self.wrong.fetch_add(1, Ordering::SeqCst);
         }
@@ -89,6 +99,27 @@ fn each_worker_passes_once_in_each_round(rt: HostRuntime) -> Result<(), Fail> {
     check_all_rounds(&rt, &ROUNDS)
 }
 
+/// The phase before the first round of propagation.
+const BEFORE_PROPAGATION: u32 = 100_000;
+
+/// How often workers pass in the rounds of propagation of a made network, and how often out of turn.
+fn passes_of_sample(rt: &impl Host, line: &str, workers: u32) -> Result<(u32, u32), Fail> {
+    let gate = counting_behind(BEFORE_PROPAGATION, workers);
+    let _ = ended_at(rt, &[], line, &gate)?;
+    let passes = gate.passes.load(Ordering::SeqCst);
+    let wrong = gate.wrong.load(Ordering::SeqCst);
+    Ok((passes, wrong))
+}
+
+/// Where each worker makes sectors of the headers, they pass as often as one who makes all.
+#[test]
+fn each_worker_passes_once_in_each_round_of_propagation(rt: HostRuntime) -> Result<(), Fail> {
+    let (alone, _wrong) = passes_of_sample(&rt, "sample 64 --workers 1", 1)?;
+    let (passes, wrong) = passes_of_sample(&rt, "sample 64 --workers 3", 3)?;
+    assert!(rt; alone > 10 && passes == alone.saturating_mul(3) && wrong == 0);
+    Ok(())
+}
+
 /// Two routers with default routes to each other.
 const IN_CIRCLES: [NamedText<'_>; 2] = [
     (
@@ -141,6 +172,7 @@ fn check_meets(
 fn workers_meet_at_the_gate(rt: HostRuntime) -> Result<(), Fail> {
     check_meets(&rt, &IN_CIRCLES, "routes d --workers 2", 1)?;
     check_meets(&rt, &IN_CIRCLES, "reach d --from R1 --workers 2", 100_001)?;
+    check_meets(&rt, &[], "sample 64 --workers 2", 100_001)?;
     check_meets(
         &rt,
         &IN_CIRCLES,

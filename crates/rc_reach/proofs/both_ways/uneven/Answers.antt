@@ -20,3 +20,6 @@ returns-clause-uneven g c =
 
 pub returns-clause-full : goal.returns-clause-full
 returns-clause-full g c = full_means_more c.uneven_within.result.1 c.args.nodes.now c.uneven_within.result.0 c.uneven_within.ensures.cause
+
+pub uneven_within-requires-clause-plane : goal.uneven_within-requires-clause-plane
+uneven_within-requires-clause-plane g c κs within = record { lawful = c.requires.lawful; links = c.requires.links; fibs = c.fibs-fibs.ensures.prepared.in_order }

@@ -1,4 +1,4 @@
-use Rattle.std.proofs.Common.{refl, length, sym, subst, inl, arith}
+use Rattle.std.proofs.Common.{refl, [], length, sym, subst, inl, arith}
 use Rattle.std.proofs.lemmas.Result.{IfOk-at_ok}
 use Rattle.rc_base.specs.Positions.{is_among}
 use Rattle.rc_base.specs.declared.ending.Ends.{Ends}
@@ -27,12 +27,14 @@ propagate-work-requires-clause-may g c κs within =
     let n = length (positions plane.network) in
     let prepared : IsPrepared c.prepare-seat.result.0 (edge_at plane) (stops_at plane c.all_ends.result) n c.in-Ok-prepared.prepared =
     IfOk-at_ok (IsPrepared c.prepare-seat.result.0 (edge_at plane) (stops_at plane c.all_ends.result) n) c.in-Ok-prepared.is c.prepare-seat.ensures.prepared in
-    let come : MayCome c.args.nodes.now c.prepare-seat.result.0 plane c.args.place c.in-Ok-prepared.prepared.into = record {
+    let come : MayCome c.args.nodes.now c.prepare-seat.result.0 plane c.args.place [] c.in-Ok-prepared.prepared.into = record {
+      plane_is = c.requires.plane;
+      short = omega arith;
       as_many = prepared.as_many;
       edges = prepared.edges;
       may = place_rounds plane c.args.place (length c.in-Ok-prepared.prepared.into) prepared.as_many arrivals may (arrivals_may plane c.args.place may c.requires.may) Accepted (inl refl);
     } in
-    subst (λ (s : SeatView). MayCome c.args.nodes.now s plane c.args.place c.in-Ok-prepared.prepared.into) (sym c.new-work.ensures) come
+    subst (λ (s : SeatView). MayCome c.args.nodes.now s plane c.args.place [] c.in-Ok-prepared.prepared.into) (sym c.new-work.ensures) come
 
 pub propagate-work-requires-clause-positions : goal.propagate-work-requires-clause-positions
 propagate-work-requires-clause-positions g c κs within =
@@ -41,7 +43,7 @@ propagate-work-requires-clause-positions g c κs within =
     let prepared : IsPrepared c.prepare-seat.result.0 (edge_at plane) (stops_at plane c.all_ends.result) n c.in-Ok-prepared.prepared =
     IfOk-at_ok (IsPrepared c.prepare-seat.result.0 (edge_at plane) (stops_at plane c.all_ends.result) n) c.in-Ok-prepared.is c.prepare-seat.ensures.prepared in
     let many = prepared.as_many in
-    let few = few_positions plane.network c.requires.lawful in
+    let few = few_positions plane.network c.requires.plane.lawful in
     omega arith
 
 pub both_ended-made-requires-clause-arriving : goal.both_ended-made-requires-clause-arriving

@@ -50,3 +50,6 @@ returns-clause-reaches g c =
 
 pub returns-clause-full : goal.returns-clause-full
 returns-clause-full g c = full_means_more c.reach_prepared.result.1 c.args.nodes.now c.reach_prepared.result.0 c.reach_prepared.ensures.cause
+
+pub reach_prepared-requires-clause-plane : goal.reach_prepared-requires-clause-plane
+reach_prepared-requires-clause-plane g c κs within = record { lawful = c.requires.lawful; links = c.requires.links; fibs = c.fibs-fibs.ensures.prepared.in_order }

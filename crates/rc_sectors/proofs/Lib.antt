@@ -1,0 +1,5 @@
+pub mod BoundLaws
+pub mod CutLaws
+pub mod SectorLaws
+pub mod TogetherLaws
+mod PartingLaws
