@@ -78,15 +78,30 @@ def by_turns(command, other, turns=31):
     return one[0], another[0], all(a[1] == b[1] for a, b in pairs)
 
 
+def ticks():
+    """For how many ticks the host has kept processors from this machine that it wanted, and for how many these have been there: zeros where
+    the system doesn't tell."""
+    try:
+        with open("/proc/stat", encoding="ascii") as file:
+            counts = [int(word) for word in file.readline().split()[1:9]]
+        return counts[7], sum(counts)
+    except (OSError, IndexError, ValueError):
+        return 0, 0
+
+
 def compare_workers(words, workers, yardstick=None):
-    """Prints the time of so many workers beside that of one, and beside that of a yardstick, where there is one."""
+    """Prints the time of so many workers beside that of one, and beside that of a yardstick, where there is one. What the host keeps from the
+    machine meanwhile it keeps from several workers first, so that stands behind it."""
     command = [PROGRAM, *words, "--workers", workers]
+    kept, there = ticks()
     took, alone, is_same = by_turns(command, [PROGRAM, *words, "--workers", "1"])
     line = f"  {workers} workers    {took:8.4f} s: {took / alone:.2f} of the time of one, {'the same text' if is_same else 'ANOTHER TEXT'}"
     if yardstick is not None:
         took, plainly, _ = by_turns(command, yardstick)
         line += f"; {took / plainly:.2f} of that of plain C++"
-    print(line)
+    kept_now, there_now = ticks()
+    share = 100 * (kept_now - kept) / max(1, there_now - there)
+    print(f"{line}; the host kept {share:.0f} % of the processors" if share >= 1 else line)
 
 
 def run_held(command):

@@ -11,6 +11,7 @@ use rc_outside::{Gate, Sink};
 use rc_words::Request;
 use rc_writing::Status;
 use std::alloc::AllocGlobal;
+use std::mem::forget;
 use std::thread::Threads;
 
 /// What is found.
@@ -22,7 +23,8 @@ pub(crate) enum Found {
     Prepared(Network, Alone, PacketSet),
 }
 
-/// Answers what was found. All of its memory is taken before the first line is put.
+/// Answers what was found. All of its memory is taken before the first line is put. The network and its links are not dropped behind the
+/// answer: the program ends there.
 pub(crate) fn answer_found<R: Threads + Sync + AllocGlobal, S: Sink, G: Gate>(
     rt: &R,
     request: &Request,
@@ -44,9 +46,12 @@ pub(crate) fn answer_found<R: Threads + Sync + AllocGlobal, S: Sink, G: Gate>(
                 tables,
                 round,
             } = alone;
-            answer_prepared(
+            let status = answer_prepared(
                 rt, request, &net, round, &links, tables, &packets, out, gate,
-            )
+            );
+            forget(links);
+            forget(net);
+            status
         }
     }
 }

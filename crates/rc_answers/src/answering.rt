@@ -259,7 +259,8 @@ fn answer_failures<S: Sink>(
     write_ended(alloc, &request.source, end, FailureLines { net, rows }, out)
 }
 
-/// Answers what the files that are asked about were found to be. All of its memory is taken before the first line is put.
+/// Answers what the files that are asked about were found to be. All of its memory is taken before the first line is put. Nor is the network
+/// dropped behind the answer: its thousands of parts take a hundredth of the time of a query.
 pub fn answer_findings<R: Threads + Sync + AllocGlobal, S: Sink, G: Gate>(
     rt: &R,
     request: &Request,
@@ -276,10 +277,14 @@ pub fn answer_findings<R: Threads + Sync + AllocGlobal, S: Sink, G: Gate>(
     match found {
         Findings::OfFiles(found) => answer_files(rt, request, found, out),
         Findings::Ended(net, outcome, subject) => {
-            answer_ended(rt, request, &net, outcome, &subject, out, gate)
+            let status = answer_ended(rt, request, &net, outcome, &subject, out, gate);
+            forget(net);
+            status
         }
         Findings::Failures(net, end, rows) => {
-            answer_failures(rt.alloc(), request, &net, end, rows, out)
+            let status = answer_failures(rt.alloc(), request, &net, end, rows, out);
+            forget(net);
+            status
         }
     }
 }

@@ -355,5 +355,7 @@ pub(crate) fn answer_packets<R: Threads + Sync + AllocGlobal, S: Sink, G: Gate>(
     let Ok(links) = Links::of(rt.alloc(), net) else {
         return Status::Memory;
     };
-    answer_over_tables(rt, request, net, end, &links, tables, packets, out, gate)
+    let status = answer_over_tables(rt, request, net, end, &links, tables, packets, out, gate);
+    forget(links);
+    status
 }

@@ -24,7 +24,7 @@ use std::alloc::Global;
 use std::thread::Threads;
 
 /// So much work, or less, is left to one worker: to start threads, each with a memo of its own, takes longer.
-const FEW: usize = 1_024;
+const FEW: usize = 448;
 
 /// So many routes are as much work as a position.
 const ROUTES_A_POSITION: usize = 8;

@@ -1,7 +1,6 @@
 -- Rounds of propagation from a place, in a sector.
-use Rattle.std.proofs.Common.{refl, ◌≡◌, ap, sym, ◌∙◌, subst, ℕ, zero, suc, ◌+◌, ◌<◌, ◌≤◌, Bool, true, false, cond, List, [], ◌∷◌, length, map, slice_index_or, take, All, eq-eqb, arith}
-use Rattle.std.specs.Prelude.{◌==◌, filter, flat_map, not}
-use Rattle.std.proofs.lemmas.Bool.Decides.{nat_tests}
+use Rattle.std.proofs.Common.{refl, ◌≡◌, ap, sym, ◌∙◌, subst, ℕ, zero, suc, ◌+◌, ◌<◌, ◌≤◌, Bool, true, false, cond, List, [], ◌∷◌, length, slice_index_or, take, All, eq-eqb, arith}
+use Rattle.std.specs.Prelude.{◌==◌, filter, flat_map}
 use Rattle.std.specs.List.{range_with_len}
 use Rattle.std.proofs.lemmas.List.{get_or-map, get_or_default, length-map}
 use Rattle.std.proofs.lemmas.List.Concat.{get_or-flat_map}
@@ -12,13 +11,11 @@ use Rattle.rc_base.specs.declared.position.Pos.{Pos}
 use Rattle.rc_config.specs.Lawful.{IsPosition}
 use Rattle.rc_config.specs.Members.{positions}
 use Rattle.rc_edges.specs.Prepare.{edge_at}
-use Rattle.rc_jobs.specs.Flows.{KnowsEdges, no_header}
+use Rattle.rc_jobs.specs.Flows.{KnowsEdges}
 use Rattle.rc_jobs.specs.Kept.{edges_kept}
 use Rattle.rc_jobs.specs.declared.flow.Flow.{Flow}
 use Rattle.rc_moves.specs.Moves.{DataPlane}
-use Rattle.rc_nodes.proofs.KnownLaws.{known_never}
-use Rattle.rc_nodes.specs.Seats.{TableView, SeatView, SeatKnows}
-use Rattle.rc_nodes.specs.declared.words.Ref.{Ref}
+use Rattle.rc_nodes.specs.Seats.{TableView, SeatView}
 use Rattle.rc_places.specs.Places.{number_of, position_at}
 use Rattle.rc_router_sets.proofs.ReducedLaws.{of_reduced-edge, of_reduced-reached}
 use Rattle.rc_router_sets.specs.Edges.{edge}
@@ -27,10 +24,8 @@ use Rattle.rc_router_sets.specs.Query.{reached}
 use Rattle.rc_sectors.proofs.SectorLaws.{within_from-always, within_from-never}
 use Rattle.rc_sectors.specs.Sectors.{within}
 use Rattle.rc_spread.proofs.ComingLaws.{stays_as_it_is}
-use Rattle.rc_spread.proofs.Rounding.{known_at}
 use Rattle.rc_spread.proofs.TurnLaws.{are_within, knows_out}
 use Rattle.rc_spread.specs.Alone.{LeadsTo, Rest, StayWithin}
-use Rattle.rc_spread.specs.Known.{KnowsShare}
 use Rattle.rc_spread.specs.Onward.{turned}
 use Rattle.rc_spread.specs.Turned.{AreOut, flows_from}
 use Rattle.rc_trees.proofs.RecipeLaws.{reduced-tree}
@@ -130,19 +125,3 @@ rest_in plane ok place sector short nodes seat into out many edges out_of later 
     stays_as_it_is sector short into (edge_at plane) (reached_at plane place) (place_next plane place (length into) many) (sets_reduced plane ok place) (edge_reduced plane ok)
     q less (edges_kept seat later keeps edges) after rows (get_or_default into q [] rows less)
     (λ i d fits. quiet (slice_index_or rows i d).from (low i d fits) (leads_there into out out_of q i d less fits (low i d fits)))
-
--- ---- what holds no header
-
-pub some_marks : (refs : List Ref) (some : List Bool) → some ≡ map (λ (r : Ref). not (r.index == 0)) refs → length some ≡ length refs
-some_marks refs some is = ap length is ∙ length-map refs (λ (r : Ref). not (r.index == 0))
-
-zero_where : (n : ℕ) → not (n == 0) ≡ false → n ≡ 0
-zero_where n is = grind (arith, nat_tests)
-
--- where no mark is there is nothing
-pub nothing_there : (seat : SeatView) (refs : List Ref) (sets : ℕ → Tree) (count : ℕ) → KnowsShare seat refs sets 0 count → (some : List Bool) → some ≡ map (λ (r : Ref). not (r.index == 0)) refs
-    → (q : ℕ) → q < length refs → slice_index_or some q false ≡ false → sets q ≡ never
-nothing_there seat refs sets count known some is q less out =
-    let mark : slice_index_or some q false ≡ not ((slice_index_or refs q no_header).index == 0) = ap (λ xs. slice_index_or xs q false) is ∙ get_or-map (λ (r : Ref). not (r.index == 0)) refs q no_header false less in
-    let zero : (slice_index_or refs q no_header).index ≡ 0 = zero_where (slice_index_or refs q no_header).index (sym mark ∙ out) in
-    known_never seat (sets q) (subst (λ n. SeatKnows seat n (sets q)) zero (known_at seat refs sets known.each q no_header less))

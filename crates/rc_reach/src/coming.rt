@@ -15,7 +15,8 @@ use rc_moves::Plane;
 use rc_nodes::{May, Nodes, Ref};
 use rc_outside::Gate;
 use rc_spread::{
-    Spread, all_rounds, are_settled, first_fresh, first_sets, gathered_set, rounds_alone,
+    Spread, are_settled, first_fresh, first_sets, flows_out, gathered_set, rounds_alone,
+    rounds_by_flows,
 };
 use std::alloc::Global;
 use std::thread::Threads;
@@ -99,13 +100,28 @@ pub fn propagate<R: Threads + Sync, M: May + Send + Sync, G: Gate>(
     let Ok(fresh) = first_fresh(alloc, count, number) else {
         return (work, Err(SetError::Memory));
     };
+    let into = prepared.into.as_slice();
+    let Ok(out) = flows_out(alloc, into) else {
+        return (work, Err(SetError::Memory));
+    };
     let coming = Coming {
         plane: &*plane,
-        into: prepared.into.as_slice(),
+        into,
         place: *place,
         sector: &[],
     };
-    all_rounds(rt, alloc, nodes, work, &coming, sets, fresh, workers, gate)
+    rounds_by_flows(
+        rt,
+        alloc,
+        nodes,
+        work,
+        &coming,
+        out.as_slice(),
+        sets,
+        fresh,
+        workers,
+        gate,
+    )
 }
 
 /// What has come from a place to each position of the headers of a sector, after as many rounds as there are positions, made by one alone;

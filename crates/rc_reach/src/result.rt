@@ -1,5 +1,5 @@
 //! What has come to an ending.
-ghost use Rattle.std.specs.Prelude.{◌≡◌, ◌≤◌, ◌==◌, length, map, not, IfOk, IfErr};
+ghost use Rattle.std.specs.Prelude.{◌≡◌, ◌≤◌, length, IfOk, IfErr};
 ghost use Rattle.rc_base.specs.Header.{bit_count};
 ghost use Rattle.rc_base.specs.Positions.{is_among};
 ghost use Rattle.rc_bdd.specs.Work.{IsCause};
@@ -9,7 +9,6 @@ ghost use Rattle.rc_router_sets.specs.Query.{query_nodes, reaching};
 ghost use Rattle.rc_jobs.specs.Flows.{KnowsFlows, flows_of, real_endings};
 ghost use Rattle.rc_nodes.specs.Seats.{IsSeatOf, Keeps, SeatKnows};
 ghost use Rattle.rc_spread.specs.Known.{KnowsShare};
-ghost use Rattle.rc_nodes.specs.declared.words.Ref.{Ref as SetRef};
 ghost use Rattle.rc_reach.specs.Rounds.{reached_at, reached_in};
 ghost use Rattle.rc_router_sets.specs.Planes.{IsPlane};
 ghost use Rattle.rc_sectors.specs.Sectors.{within};
@@ -20,8 +19,8 @@ use rc_base::{Ends, Pos};
 use rc_bdd::{SetError, Work};
 use rc_jobs::{Ending, Flow, Prepared};
 use rc_moves::Plane;
-use rc_nodes::{May, NEVER, Nodes, Ref};
-use rc_spread::gathered_set;
+use rc_nodes::{May, Nodes, Ref};
+use rc_spread::{passages_of, united_set};
 use std::alloc::{AllocError, Global};
 
 /// Of endings the flows of those that are asked for.
@@ -35,17 +34,6 @@ pub fn flows_asked(alloc: Global, endings: &[Ending], ends: Ends) -> Result<Vec<
         }
     }
     Ok(flows)
-}
-
-/// Which of some sets hold some header.
-fn somethings(alloc: Global, sets: &[Ref]) -> Result<Vec<bool>, AllocError>
-    ensures { IfOk result (λ some. some.items ≡ map (λ (r : SetRef). not (r.index == 0)) sets.now) }
-{
-    let mut some = Vec::with_capacity(alloc, sets.len())?;
-    for set in sets {
-        some.push(set.index != 0)?;
-    }
-    Ok(some)
 }
 
 /// The headers of a sector that have come from a place to one of some endings, after all rounds: `sets` are what these made of each
@@ -75,11 +63,10 @@ pub fn reaching_in<M: May>(
     let _ = plane;
     let _ = place;
     let _ = ends;
-    let some = match somethings(alloc, sets) {
-        Ok(some) => some,
-        Err(_) => return Err(SetError::Memory),
+    let Ok(passages) = passages_of(alloc, work, nodes, sets, flows, sector) else {
+        return Err(SetError::Memory);
     };
-    gathered_set(work, nodes, sets, some.as_slice(), flows, sector, NEVER)
+    united_set(alloc, work, nodes, passages.as_slice(), sector.len() as u8)
 }
 
 /// The headers that have come from a place to one of some endings, after all rounds: `sets` are what these made of each position, and

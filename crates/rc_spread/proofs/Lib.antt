@@ -6,7 +6,10 @@ pub mod Gathering
 pub mod RealLaws
 pub mod Rounding
 pub mod ComingLaws
-pub mod EndLaws
 pub mod GoingLaws
 pub mod TurnLaws
 pub mod AloneLaws
+pub mod PassageLaws
+pub mod UnitedLaws
+pub mod ThereLaws
+pub mod UnitedEnds

@@ -4,3 +4,4 @@ pub mod Kept
 pub mod Onward
 pub mod Turned
 pub mod Alone
+pub mod United

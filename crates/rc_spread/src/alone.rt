@@ -15,7 +15,7 @@ use rc_nodes::{May, Nodes, Ref};
 use std::alloc::{AllocError, Global};
 
 /// The positions with something fresh, in their order.
-fn fresh_ones(alloc: Global, fresh: &[bool]) -> Result<Vec<usize>, AllocError>
+pub(crate) fn fresh_ones(alloc: Global, fresh: &[bool]) -> Result<Vec<usize>, AllocError>
     ensures { IfOk result (λ found. AreListed fresh.now found.items) }
 {
     let mut found = Vec::new(alloc);
@@ -154,7 +154,7 @@ fn put_made(
 }
 
 /// One round more. `changed` are the positions with something fresh; it gives those whose sets the round changed.
-fn next_alone<M: May, S: Spread>(
+pub(crate) fn next_alone<M: May, S: Spread>(
     alloc: Global,
     work: &mut Work<M>,
     nodes: &Nodes<M>,

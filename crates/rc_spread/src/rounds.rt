@@ -16,7 +16,7 @@ use std::alloc::Global;
 use std::thread::Threads;
 
 /// The phase of the gate before the first round of propagation.
-const PHASE: u32 = 100_000;
+pub(crate) const PHASE: u32 = 100_000;
 
 /// How many positions with something fresh a worker has to have for a thread to be worth its start, which takes as long as some ten of
 /// them.
@@ -36,6 +36,11 @@ fn pace_of(number: u32, fresh: usize, workers: u32) -> Pace {
     } else {
         Pace::InTurn
     }
+}
+
+/// Whether the workers of a round go about it one after another.
+pub(crate) fn is_in_turn(number: u32, fresh: usize, workers: u32) -> bool {
+    matches!(pace_of(number, fresh, workers), Pace::InTurn)
 }
 
 /// How many positions have something fresh.
@@ -64,7 +69,7 @@ fn mark_made(old: &[Ref], made: &Result<Vec<Ref>, SetError>, fresh: &mut [bool])
 
 /// The round of a number, from what the rounds before it made. Where they failed it makes nothing. It marks the positions whose sets it
 /// changed as fresh, and tells how many there are.
-fn next_round<R: Threads + Sync, M: May + Send + Sync, S: Spread + Sync, G: Gate>(
+pub(crate) fn next_round<R: Threads + Sync, M: May + Send + Sync, S: Spread + Sync, G: Gate>(
     rt: &R,
     alloc: Global,
     nodes: &Nodes<M>,
