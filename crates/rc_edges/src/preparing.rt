@@ -12,19 +12,29 @@ ghost use Rattle.rc_topology.specs.Ports.{links_of};
 ghost use Rattle.rc_moves.specs.Moves.{DataPlane};
 
 use crate::edges_job::Sharing;
-use rc_base::{Ends, RouterId};
+use rc_base::{Ends, Pos, RouterId};
 use rc_bdd::SetError;
 use rc_config::RouterText;
-use rc_jobs::{Collected, Prepared, by_workers};
+use rc_jobs::{Bounds, Collected, Prepared, by_workers};
 use rc_moves::Plane;
 use rc_nodes::{May, Nodes, Seat};
 use rc_outside::OpenGate;
 use rc_places::Places;
-use std::alloc::Global;
+use std::alloc::{AllocError, Global};
 use std::thread::Threads;
 
 /// So much work, or less, is left to one worker: to start threads, each with a memo of its own, takes longer.
 const FEW: usize = 448;
+
+/// Into so many shares the positions are cut for each of several workers, who take them one after another.
+const SHARES_A_WORKER: usize = 6;
+
+/// So many lists of flows are made for all shares at most: each has one for each position.
+const MOST_LISTS: usize = 262_144;
+
+/// A share begins with a router where one begins so few positions further: what is made of a router is made again by each share with a
+/// position of it.
+const NEAR: usize = 16;
 
 /// So many routes are as much work as a position.
 const ROUTES_A_POSITION: usize = 8;
@@ -83,6 +93,42 @@ fn workers_for(workers: u32, positions: usize, work: usize) -> u32
     workers
 }
 
+/// Into how many shares so many positions are cut.
+fn shares_for(workers: u32, positions: usize) -> usize {
+    if workers == 1 {
+        return 1;
+    }
+    let shares = (workers as usize).saturating_mul(SHARES_A_WORKER);
+    shares
+        .min(MOST_LISTS / positions.max(1))
+        .max(workers as usize)
+}
+
+/// The position of a number, or the next one that is a router's first, where that is near.
+fn near_router(places: &Places<'_>, number: usize) -> usize {
+    let positions = places.as_slice();
+    let end = number.saturating_add(NEAR).min(positions.len());
+    for near in number..end {
+        if let Pos::Own(_) = positions[near] {
+            return near;
+        }
+    }
+    number
+}
+
+/// The shares of all positions.
+fn shares_of(alloc: Global, places: &Places<'_>, workers: u32) -> Result<Bounds, AllocError>
+    ensures { IfOk result (λ shares. shares.items ≡ length (positions places.now)) }
+{
+    let count = places.len();
+    let shares = shares_for(workers, count);
+    let mut bounds = Bounds::whole(alloc, count)?;
+    for share in 1..shares {
+        bounds.begin_at(near_router(places, count.saturating_mul(share) / shares))?;
+    }
+    Ok(bounds)
+}
+
 /// The sets of a query, of the share of all positions, if it was made.
 fn prepared_of(share: Result<Collected, SetError>) -> Result<Prepared, SetError>
     ensures prepared { (seat : SeatView) (plane : DataPlane) (ends : Asked) → IfOk share (IsShare seat plane ends 0 (length (positions plane.network))) → IfOk result (IsPrepared seat (edge_at plane) (stops_at plane ends) (length (positions plane.network))) }
@@ -125,8 +171,11 @@ pub fn prepare<R: Threads + Sync, M: May + Send + Sync>(
         places,
         ends,
     };
+    let Ok(shares) = shares_of(alloc, places, workers) else {
+        return (seat, Err(SetError::Memory));
+    };
     let (seat, _passed, share) = by_workers(
-        rt, alloc, nodes, seat, &sharing, 0, workers, &OpenGate,
+        rt, alloc, nodes, seat, &sharing, &shares, 0, workers, &OpenGate,
     );
     (seat, prepared_of(share))
 }

@@ -1,3 +1,4 @@
+pub mod BoundLaws
 mod ShareLaws
 pub mod FlowLaws
 pub mod CollectLaws

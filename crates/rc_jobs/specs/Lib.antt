@@ -1,3 +1,4 @@
+pub mod Bounds
 pub mod Collecting
 pub mod Flows
 pub mod Kept

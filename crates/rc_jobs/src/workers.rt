@@ -39,7 +39,10 @@ fn share_of<M: May, J: Job>(
 }
 
 /// What two halves of the workers made, where both made something. Want of memory comes before a full table.
-fn both<T: Drop>(left: Result<T, SetError>, right: Result<T, SetError>) -> Result<(T, T), SetError>
+pub(crate) fn both<T: Drop>(
+    left: Result<T, SetError>,
+    right: Result<T, SetError>,
+) -> Result<(T, T), SetError>
     ensures made { IfOk result (λ p. (left ≡ Ok p.0) × (right ≡ Ok p.1)) }
     ensures cause { (nodes : TableView) (seat : SeatView) → IfErr left (IsCause nodes seat) → IfErr right (IsCause nodes seat) → IfErr result (IsCause nodes seat) }
     ensures memory { (left ≡ Err SetError.Memory) ⊎ (right ≡ Err SetError.Memory) → result ≡ Err SetError.Memory }
@@ -150,33 +153,6 @@ fn by_some<R: Threads + Sync, M: May + Send + Sync, J: Job, G: Gate>(
     let shared = OverTable { nodes, job, few };
     let (passed, (seat, made)) = at_once(rt, alloc, &shared, seat, workers, phase, gate);
     (seat, passed, made)
-}
-
-/// The whole job by all workers at once, each with a seat split off and a memo of its own. Each passes the gate before its work.
-///
-/// `workers` is from 1 to 64, and there are at most 4,294,967,295 items. It errs where memory runs out, and else where the table is full.
-pub fn by_workers<R: Threads + Sync, M: May + Send + Sync, J: Job, G: Gate>(
-    rt: &R,
-    alloc: Global,
-    nodes: &Nodes<M>,
-    seat: Seat<M>,
-    job: &J,
-    phase: u32,
-    workers: u32,
-    gate: &G,
-) -> (Seat<M>, Passed, Result<J::Made, SetError>)
-    requires seat { IsSeatOf nodes.now seat }
-    requires ready { J.ready job.now nodes.now seat }
-    requires few { J.count job.now ≤ 4294967295 }
-    requires some { 1 ≤ workers }
-    requires most { workers ≤ 64 }
-    ensures seat { IsSeatOf nodes.now result.0 }
-    ensures keeps { Keeps seat result.0 }
-    ensures passed { result.1 ≡ passage phase 0 workers }
-    ensures made { IfOk result.2 (J.knows job.now result.0 0 (J.count job.now)) }
-    ensures cause { IfErr result.2 (IsCause nodes.now result.0) }
-{
-    by_some(rt, alloc, nodes, seat, job, 1, phase, workers, gate)
 }
 
 /// What the workers before made, with the share of one who has passed the gate. Where they failed, none is made.

@@ -1,5 +1,5 @@
 //! The table and its seats.
-ghost use Rattle.std.specs.Prelude.{◌≡◌, ◌≢◌, ℕ, ◌+◌, ◌*◌, ◌<◌, ◌≤◌, ◌↔◌, IsTrue, IfOk, IfErr, [], replicate, true, false};
+ghost use Rattle.std.specs.Prelude.{◌≡◌, ◌≢◌, ℕ, ◌+◌, ◌*◌, ◌<◌, ◌≤◌, ◌↔◌, IsTrue, IfOk, IfErr, IfSome, [], length, replicate, true, false};
 ghost use Rattle.std.specs.Slots.{IsFull, slots_items, slots_len};
 ghost use Rattle.rc_trees.specs.Trees.{Tree, node};
 ghost use Rattle.rc_nodes.specs.Good.{IsLeft};
@@ -72,6 +72,40 @@ impl<M: May> Model for Seat<M> {
     ghost invariant = { λ s. s.place.me.1 ≡ [] };
 }
 
+/// Slots of 0. A table with no more slots is a copy of them, so no list of zeros is made first: a compiler that sees what they are
+/// writes zeros, and keeps them in no file.
+static EMPTY_SLOTS: [u64; 524_288] = [0; 524_288];
+
+/// The slots of 0.
+fn empty_slots() -> &'static [u64] {
+    &EMPTY_SLOTS
+}
+
+/// Whether no slot is taken.
+fn are_empty(slots: &[u64]) -> bool
+    ensures { IsTrue result → slots.now ≡ replicate (length slots.now) 0 }
+{
+    for index in 0..slots.len() {
+        if slots[index] != 0 {
+            return false;
+        }
+    }
+    true
+}
+
+/// The words of a table of which no slot is taken, where it has few slots.
+fn few_words(capacity: u32) -> Option<&'static [u64]>
+    ensures { IfSome result (λ words. words.now ≡ replicate capacity 0) }
+{
+    let slots = empty_slots();
+    let count = capacity as usize;
+    if slots.len() < count {
+        return None;
+    }
+    let words = &slots[..count];
+    if are_empty(words) { Some(words) } else { None }
+}
+
 /// The words of a table of which no slot is taken.
 fn empty_words(alloc: Global, capacity: u32) -> Result<Vec<u64>, AllocError>
     ensures { IfOk result (λ words. words.items ≡ replicate capacity 0) }
@@ -80,8 +114,8 @@ fn empty_words(alloc: Global, capacity: u32) -> Result<Vec<u64>, AllocError>
 }
 
 impl<M: May> Nodes<M> {
-    /// An empty table of `capacity` slots, from 1 to 16,777,216, with its first seat. All memory is taken here, for a moment twice the
-    /// table's 8 bytes a slot.
+    /// An empty table of `capacity` slots, from 1 to 16,777,216, with its first seat. All memory is taken here: 8 bytes a slot, and for a
+    /// moment twice as many where there are more than 524,288.
     pub fn new(alloc: Global, capacity: u32, may: &M) -> Result<(Nodes<M>, Seat<M>), AllocError>
         requires low { 0 < capacity }
         requires high { capacity ≤ 16777216 }
@@ -93,8 +127,13 @@ impl<M: May> Nodes<M> {
             capacity,
             may: Snapshot::of(may),
         };
-        let words = empty_words(alloc, capacity)?;
-        let (table, place) = Table::of_words(alloc, words.as_slice(), &plan)?;
+        let (table, place) = match few_words(capacity) {
+            Some(words) => Table::of_words(alloc, words, &plan)?,
+            None => {
+                let words = empty_words(alloc, capacity)?;
+                Table::of_words(alloc, words.as_slice(), &plan)?
+            }
+        };
         let nodes = Nodes { table, capacity };
         let seat = Seat {
             place,

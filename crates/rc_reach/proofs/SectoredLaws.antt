@@ -1,6 +1,5 @@
 -- What is known of a question that is answered sector by sector.
-use Rattle.std.proofs.Common.{◌≡◌, ap, sym, ◌∙◌, subst, ℕ, zero, suc, ◌+◌, ◌≤◌, Bool, true, List, [], length, slice_index_or, arith}
-use Rattle.std.proofs.Math.Decide.{ℕ_discrete}
+use Rattle.std.proofs.Common.{◌≡◌, ap, sym, ◌∙◌, subst, ℕ, ◌+◌, Bool, true, List, [], length, slice_index_or, arith}
 use Rattle.std.proofs.lemmas.List.{get_or_default}
 use Rattle.std.specs.List.{list_any}
 use Rattle.rc_base.specs.Endings.{all_kinds}
@@ -22,7 +21,7 @@ use Rattle.rc_places.proofs.PlaceLaws.{few_positions}
 use Rattle.rc_places.specs.Places.{number_of}
 use Rattle.rc_router_sets.specs.Planes.{IsPlane}
 use Rattle.rc_router_sets.specs.Query.{query_nodes, reaching}
-use Rattle.rc_sectors.specs.Cuts.{AreBounds, AreCut, AreWithin, MayPutTogether}
+use Rattle.rc_sectors.specs.Cuts.{AreCut, AreWithin, MayPutTogether}
 use Rattle.rc_sectors.specs.Sectors.{within}
 use Rattle.rc_spread.specs.Known.{KnowsShare}
 use Rattle.rc_spread.specs.Turned.{AreOut}
@@ -31,24 +30,7 @@ use Rattle.rc_trees.specs.Recipes.{tree}
 use Rattle.rc_trees.specs.Trees.{Tree, HasNodes, IsReduced}
 use Rattle.rc_reach.proofs.AskedLaws.{asked_among, some_asked}
 use Rattle.rc_reach.proofs.JoinLaws.{place_rounds}
-use Rattle.rc_reach.specs.Sectored.{Sectored, KnowsAnswers, MayReachIn, answer_in}
-
--- later shares begin behind earlier ones
-pub bounds_rise : (bounds : List ℕ) (n many : ℕ) → AreBounds bounds n many → (i j : ℕ) → i ≤ j → j ≤ n → slice_index_or bounds i 0 ≤ slice_index_or bounds j 0
-bounds_rise bounds n many are i zero low high = let is : i ≡ zero = omega arith in subst (λ m. slice_index_or bounds m 0 ≤ slice_index_or bounds zero 0) (sym is) (omega arith)
-bounds_rise bounds n many are i (suc j) low high = elim (ℕ_discrete i (suc j)) [
-  | yes is ↦ subst (λ m. slice_index_or bounds m 0 ≤ slice_index_or bounds (suc j) 0) (sym is) (omega arith)
-  | no other ↦ (
-      let before = bounds_rise bounds n many are i j (omega arith) (omega arith) in
-      let step = are.rise j 0 (omega arith) in
-      let same : j + 1 ≡ suc j = omega arith in
-      subst (λ m. slice_index_or bounds i 0 ≤ slice_index_or bounds m 0) same (omega arith)
-      )
-]
-
--- those of all shares are those of all sectors
-pub all_answers : (seat : SeatView) (asked : Sectored) (sets : List Ref) → AreBounds asked.starts asked.shares (length asked.sectors) → KnowsAnswers seat asked sets 0 asked.shares → KnowsShare seat sets (answer_in asked) 0 (length asked.sectors)
-all_answers seat asked sets bounds known = subst (λ a. KnowsShare seat sets (answer_in asked) a (length asked.sectors)) (bounds.first 0) (subst (KnowsShare seat sets (answer_in asked) (slice_index_or asked.starts 0 0)) (bounds.last 0) known)
+use Rattle.rc_reach.specs.Sectored.{Sectored, MayReachIn, answer_in}
 
 module _ (nodes : TableView) (seat : SeatView) (asked : Sectored) (sets : List Ref) (ready : MayReachIn nodes seat asked) (known : KnowsShare seat sets (answer_in asked) 0 (length asked.sectors)) where
   abbrev answer : Tree
@@ -80,9 +62,9 @@ module _ (nodes : TableView) (seat : SeatView) (asked : Sectored) (sets : List R
 pub may_reach : (plane : DataPlane) → IsPlane plane → (place : Pos) → IsPosition plane.network place → (n : ℕ) → n ≡ number_of plane.network place → (ends : Ends) → list_any (is_among ends) all_kinds ≡ true
     → (nodes : TableView) (seat : SeatView) (prepared : Prepared) → IsPrepared seat (edge_at plane) (stops_at plane ends) (length (positions plane.network)) prepared → HasNodes nodes.may (query_nodes plane place ends)
     → (into : List (List Flow)) → into ≡ prepared.into → (out : List (List Flow)) → AreOut into (length into) out → (flows : List Flow) → flows ≡ flows_of (is_among ends) prepared.ends
-    → (sectors : List (List Bool)) → AreCut sectors → (starts : List ℕ) (shares : ℕ) → AreBounds starts shares (length sectors)
-    → MayReachIn nodes seat (record { plane = plane; place = place; place_number = n; ends = ends; into = into; out_of = out; flows = flows; sectors = sectors; starts = starts; shares = shares })
-may_reach plane ok place there n number ends asking nodes seat prepared p has into is out out_of flows are sectors cut starts shares bounds =
+    → (sectors : List (List Bool)) → AreCut sectors
+    → MayReachIn nodes seat (record { plane = plane; place = place; place_number = n; ends = ends; into = into; out_of = out; flows = flows; sectors = sectors })
+may_reach plane ok place there n number ends asking nodes seat prepared p has into is out out_of flows are sectors cut =
     let many : length into ≡ length (positions plane.network) = ap length is ∙ p.as_many in
     let asked = some_asked ends asking in
     record {
@@ -90,7 +72,6 @@ may_reach plane ok place there n number ends asking nodes seat prepared p has in
       there = there;
       number = number;
       short = cut.short;
-      bounds = bounds;
       as_many = many;
       few = (let few = few_positions plane.network ok.lawful in omega arith);
       edges = subst (λ (fs : List (List Flow)). KnowsEdges seat fs (edge_at plane)) (sym is) p.edges;

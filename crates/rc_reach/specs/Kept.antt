@@ -18,7 +18,6 @@ module _ (v w : SeatView) (keeps : Keeps v w) where
     there = m.there;
     number = m.number;
     short = m.short;
-    bounds = m.bounds;
     as_many = m.as_many;
     few = m.few;
     edges = edges_kept v w keeps m.edges;

@@ -9,19 +9,16 @@ use Rattle.rc_jobs.specs.Flows.{KnowsEdges, KnowsFlows, real_endings}
 use Rattle.rc_jobs.specs.declared.flow.Flow.{Flow}
 use Rattle.rc_moves.specs.Moves.{DataPlane}
 use Rattle.rc_nodes.specs.Seats.{TableView, SeatView}
-use Rattle.rc_nodes.specs.declared.words.Ref.{Ref}
 use Rattle.rc_places.specs.Places.{number_of}
 use Rattle.rc_router_sets.specs.Planes.{IsPlane}
 use Rattle.rc_router_sets.specs.Query.{query_nodes, reaching}
-use Rattle.rc_sectors.specs.Cuts.{AreBounds}
 use Rattle.rc_sectors.specs.Sectors.{within}
-use Rattle.rc_spread.specs.Known.{KnowsShare}
 use Rattle.rc_spread.specs.Turned.{AreOut}
 use Rattle.rc_trees.specs.Recipes.{tree}
 use Rattle.rc_trees.specs.Trees.{Tree, HasNodes}
 use Rattle.rc_reach.specs.Rounds.{MayRounds}
 
--- what is asked, by the flows into positions, the flows out of them, those of the endings asked for, and shares of some sectors
+-- what is asked, by the flows into positions, the flows out of them, those of the endings asked for, and some sectors
 pub record Sectored : Type 0 where
   pub plane : DataPlane
   pub place : Pos
@@ -31,8 +28,6 @@ pub record Sectored : Type 0 where
   pub out_of : List (List Flow)
   pub flows : List Flow
   pub sectors : List (List Bool)
-  pub starts : List ℕ
-  pub shares : ℕ
 
 -- it may be answered in each of the sectors: the seat knows the edges and the endings, and the operations of all rounds, and those of the
 -- answer, may be done
@@ -41,7 +36,6 @@ pub record MayReachIn (nodes : TableView) (seat : SeatView) (asked : Sectored) :
   pub there : IsPosition asked.plane.network asked.place
   pub number : asked.place_number ≡ number_of asked.plane.network asked.place
   pub short : All (λ s. length s ≤ 32) asked.sectors
-  pub bounds : AreBounds asked.starts asked.shares (length asked.sectors)
   pub as_many : length asked.into ≡ length (members.positions asked.plane.network)
   pub few : length asked.into ≤ 131584
   pub edges : KnowsEdges seat asked.into (edge_at asked.plane)
@@ -53,7 +47,3 @@ pub record MayReachIn (nodes : TableView) (seat : SeatView) (asked : Sectored) :
 -- what the answer is in the sector of a number
 abbrev pub answer_in : Sectored → ℕ → Tree
 answer_in asked i = within (slice_index_or asked.sectors i []) (tree (reaching asked.plane asked.place asked.ends))
-
--- the seat knows what it is in the sectors of the shares from one number up to another
-abbrev pub KnowsAnswers : SeatView → Sectored → List Ref → ℕ → ℕ → Type 0
-KnowsAnswers seat asked sets a b = KnowsShare seat sets (answer_in asked) (slice_index_or asked.starts a 0) (slice_index_or asked.starts b 0)

@@ -10,7 +10,7 @@ ghost use Rattle.rc_edges.specs.Prepare.{edge_at, stops_at};
 ghost use Rattle.rc_jobs.specs.Flows.{IsPrepared};
 ghost use Rattle.rc_nodes.specs.Seats.{IsSeatOf, Keeps, SeatKnows};
 ghost use Rattle.rc_places.specs.Places.{number_of};
-ghost use Rattle.rc_reach.specs.Sectored.{KnowsAnswers, MayReachIn, answer_in};
+ghost use Rattle.rc_reach.specs.Sectored.{MayReachIn, answer_in};
 ghost use Rattle.rc_router_sets.specs.Planes.{IsPlane};
 ghost use Rattle.rc_router_sets.specs.Query.{query_nodes, reaching};
 ghost use Rattle.rc_sectors.specs.Cuts.{AreCut};
@@ -20,13 +20,13 @@ ghost use Rattle.rc_trees.specs.Trees.{HasNodes};
 
 use crate::result::flows_asked;
 use crate::sectored::{Answers, BySectors};
-use rc_base::{Ends, Pos};
+use rc_base::{Ends, Items, Pos};
 use rc_bdd::{SetError, Work};
-use rc_jobs::{Prepared, by_workers};
+use rc_jobs::{Bounds, Prepared, by_workers};
 use rc_moves::Plane;
 use rc_nodes::{May, Nodes, Ref, Seat};
 use rc_outside::Gate;
-use rc_sectors::{Cut, bounds_of, whole};
+use rc_sectors::whole;
 use rc_spread::flows_out;
 use std::alloc::Global;
 use std::thread::Threads;
@@ -50,19 +50,33 @@ fn answers<R: Threads + Sync, M: May + Send + Sync, G: Gate>(
     nodes: &Nodes<M>,
     seat: Seat<M>,
     asked: &BySectors<'_>,
+    workers: u32,
     gate: &G,
 ) -> (Seat<M>, Result<Vec<Ref>, SetError>)
     requires seat { IsSeatOf nodes.now seat }
     requires ready { MayReachIn nodes.now seat asked.now }
-    requires some { 1 ≤ asked.now.shares }
-    requires most { asked.now.shares ≤ 64 }
+    requires some { 1 ≤ workers }
+    requires most { workers ≤ 64 }
     ensures seat { IsSeatOf nodes.now result.0 }
     ensures keeps { Keeps seat result.0 }
     ensures made { IfOk result.1 (λ sets. KnowsShare result.0 sets.items (answer_in asked.now) 0 (length asked.now.sectors)) }
     ensures cause { IfErr result.1 (IsCause nodes.now result.0) }
 {
-    let workers = asked.shares;
-    let (seat, _passed, made) = by_workers(rt, alloc, nodes, seat, asked, PHASE + 1, workers, gate);
+    let count = asked.sectors.len();
+    let Ok(singly) = Bounds::even(alloc, count, count) else {
+        return (seat, Err(SetError::Memory));
+    };
+    let (seat, _passed, made) = by_workers(
+        rt,
+        alloc,
+        nodes,
+        seat,
+        asked,
+        &singly,
+        PHASE + 1,
+        workers,
+        gate,
+    );
     match made {
         Ok(Answers { sets, rounds }) => {
             pass_later_rounds(gate, rounds, workers);
@@ -103,7 +117,8 @@ fn put_together<M: May>(
     }
 }
 
-/// The headers that reach, made sector by sector: each worker makes all rounds of some sectors, and none waits for another one.
+/// The headers that reach, made sector by sector: each worker makes all rounds of the sectors that it takes, and none waits for another
+/// one.
 pub fn reach_by_sectors<R: Threads + Sync, M: May + Send + Sync, G: Gate>(
     rt: &R,
     alloc: Global,
@@ -114,7 +129,7 @@ pub fn reach_by_sectors<R: Threads + Sync, M: May + Send + Sync, G: Gate>(
     nodes: &Nodes<M>,
     seat: Seat<M>,
     prepared: &Prepared,
-    cut: &Cut,
+    sectors: &[Items<bool>],
     workers: u32,
     gate: &G,
 ) -> (Seat<M>, Result<Ref, SetError>)
@@ -125,8 +140,7 @@ pub fn reach_by_sectors<R: Threads + Sync, M: May + Send + Sync, G: Gate>(
     requires seat { IsSeatOf nodes.now seat }
     requires prepared { IsPrepared seat (edge_at plane.now) (stops_at plane.now ends) (length (positions plane.now.network)) prepared.now }
     requires may { HasNodes nodes.now.may (query_nodes plane.now place ends) }
-    requires cut { AreCut cut.now.sectors }
-    requires weights { length cut.now.weights ≡ length cut.now.sectors }
+    requires cut { AreCut sectors.now }
     requires some { 1 ≤ workers }
     requires most { workers ≤ 64 }
     ensures seat { IsSeatOf nodes.now result.0 }
@@ -140,9 +154,6 @@ pub fn reach_by_sectors<R: Threads + Sync, M: May + Send + Sync, G: Gate>(
     let Ok(out) = flows_out(alloc, prepared.into.as_slice()) else {
         return (seat, Err(SetError::Memory));
     };
-    let Ok(starts) = bounds_of(alloc, cut.weights.as_slice(), workers) else {
-        return (seat, Err(SetError::Memory));
-    };
     let asked = BySectors {
         plane: &*plane,
         place,
@@ -151,10 +162,8 @@ pub fn reach_by_sectors<R: Threads + Sync, M: May + Send + Sync, G: Gate>(
         into: prepared.into.as_slice(),
         out: out.as_slice(),
         flows: flows.as_slice(),
-        sectors: cut.sectors.as_slice(),
-        starts: starts.as_slice(),
-        shares: workers,
+        sectors,
     };
-    let (seat, sets) = answers(rt, alloc, nodes, seat, &asked, gate);
+    let (seat, sets) = answers(rt, alloc, nodes, seat, &asked, workers, gate);
     put_together(alloc, nodes, seat, &asked, sets)
 }

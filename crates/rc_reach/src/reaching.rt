@@ -23,7 +23,7 @@ ghost use Rattle.rc_trees.specs.Trees.{Tree, HasNodes, same_tree};
 use crate::by_sectors::reach_by_sectors;
 use crate::coming::propagate;
 use crate::result::ended;
-use rc_base::{Ends, Pos, Prefix};
+use rc_base::{Ends, Items, Pos, Prefix};
 use rc_bdd::{SetError, Work};
 use rc_edges::prepare;
 use rc_fib::Fib;
@@ -32,7 +32,7 @@ use rc_moves::Plane;
 use rc_nodes::{May, NEVER, Nodes, Ref, Seat};
 use rc_outside::Gate;
 use rc_places::Places;
-use rc_sectors::{Cut, cut_of};
+use rc_sectors::cut_of;
 use std::alloc::{AllocError, AllocGlobal, Global};
 use std::thread::Threads;
 
@@ -92,16 +92,15 @@ fn reach_at_once<R: Threads + Sync, M: May + Send + Sync, G: Gate>(
     (work.into_seat(), made)
 }
 
-/// Whether the sectors of a cut are made one by one: where there are some for each of several workers, and where one makes all.
-fn is_by_sectors(cut: &Cut, workers: u32) -> bool {
-    workers == 1 || cut.sectors.len() > 1
+/// Whether so many sectors are made one by one: where there are some for each of several workers, and where one makes all.
+fn is_by_sectors(sectors: usize, workers: u32) -> bool {
+    workers == 1 || sectors > 1
 }
 
 /// All headers cut into sectors for so many workers, who then need not wait for each other: about as many with routes by the largest table as
 /// have work for each, and the others with little in them.
-fn cut_for(alloc: Global, plane: &Plane<'_>, workers: u32) -> Result<Cut, AllocError>
-    ensures cut { IfOk result (λ cut. AreCut cut.sectors) }
-    ensures weights { IfOk result (λ cut. length cut.weights ≡ length cut.sectors) }
+fn cut_for(alloc: Global, plane: &Plane<'_>, workers: u32) -> Result<Items<Items<bool>>, AllocError>
+    ensures { IfOk result AreCut }
 {
     let prefixes = most_prefixes(plane.fibs());
     if workers < 2 {
@@ -159,9 +158,10 @@ fn reach_prepared<R: Threads + Sync, M: May + Send + Sync, G: Gate>(
     let Ok(cut) = cut_for(alloc, plane, workers) else {
         return (seat, Err(SetError::Memory));
     };
-    if is_by_sectors(&cut, workers) {
+    let sectors = cut.as_slice();
+    if is_by_sectors(sectors.len(), workers) {
         return reach_by_sectors(
-            rt, alloc, plane, place, number, ends, nodes, seat, &prepared, &cut, workers, gate,
+            rt, alloc, plane, place, number, ends, nodes, seat, &prepared, sectors, workers, gate,
         );
     }
     reach_at_once(

@@ -2,7 +2,8 @@
 ghost use Rattle.std.specs.Prelude.{◌≡◌, ◌++◌, ◌<◌, ◌≤◌, IfErr, IfOk, length};
 ghost use Rattle.rc_bdd.specs.Work.{IsCause};
 ghost use Rattle.rc_nodes.specs.Seats.{IsSeatOf, Keeps, SeatKnows};
-ghost use Rattle.rc_reach.specs.Sectored.{KnowsAnswers, MayReachIn, answer_in};
+ghost use Rattle.rc_reach.specs.Sectored.{MayReachIn, answer_in};
+ghost use Rattle.rc_spread.specs.Known.{KnowsShare};
 
 use crate::coming::propagate_alone;
 use crate::result::reaching_in;
@@ -29,9 +30,6 @@ pub struct BySectors<'a> {
     /// The endings asked for.
     pub flows: &'a [Flow],
     pub sectors: &'a [Items<bool>],
-    /// With which of them each share begins, and their number.
-    pub starts: &'a [usize],
-    pub shares: u32,
 }
 
 /// By a function of its own, so that what holds it drops it by one call.
@@ -46,8 +44,6 @@ impl<'a> Drop for BySectors<'a> {
             out: _,
             flows: _,
             sectors: _,
-            starts: _,
-            shares: _,
         } = self;
     }
 }
@@ -57,7 +53,7 @@ impl<'a> Model for BySectors<'a> {
 
     ghost Value = { Sectored };
 
-    ghost view = { λ s. record { plane = s.plane.now; place = s.place; place_number = s.number; ends = s.ends; into = s.into.now; out_of = s.out.now; flows = s.flows.now; sectors = s.sectors.now; starts = s.starts.now; shares = s.shares } };
+    ghost view = { λ s. record { plane = s.plane.now; place = s.place; place_number = s.number; ends = s.ends; into = s.into.now; out_of = s.out.now; flows = s.flows.now; sectors = s.sectors.now } };
 }
 
 /// What was made of some sectors in a row, and in how many rounds at most.
@@ -110,7 +106,7 @@ fn answer_in<M: May>(
     Ok((set, rounds))
 }
 
-/// What of the headers of some shares comes to one of the endings.
+/// What of the headers of some sectors comes to one of the endings.
 fn answers_of<M: May>(
     alloc: Global,
     work: &mut Work<M>,
@@ -122,17 +118,15 @@ fn answers_of<M: May>(
     requires seat { IsSeatOf nodes.now work.old }
     requires ready { MayReachIn nodes.now work.old asked.now }
     requires order { from ≤ to }
-    requires end { to ≤ asked.now.shares }
+    requires end { to ≤ length asked.now.sectors }
     ensures seat { IsSeatOf nodes.now work.new }
     ensures keeps { Keeps work.old work.new }
-    ensures made { IfOk result (λ a. KnowsAnswers work.new asked.now a.sets.items from to) }
+    ensures made { IfOk result (λ a. KnowsShare work.new a.sets.items (answer_in asked.now) from to) }
     ensures cause { IfErr result (IsCause nodes.now work.new) }
 {
     let mut sets = Vec::new(alloc);
     let mut most = 0;
-    let starts = asked.starts;
-    let (first, end) = (starts[from], starts[to]);
-    for index in first..end {
+    for index in from..to {
         let (set, rounds) = answer_in(alloc, work, nodes, asked, index)?;
         if sets.push(set).is_err() {
             return Err(SetError::Memory);
@@ -156,20 +150,22 @@ fn joined(left: Answers, right: Answers) -> Result<Answers, AllocError>
 }
 
 impl<'a> Job for BySectors<'a> {
+    ghost use Rattle.std.specs.Prelude.{length};
     ghost use Rattle.rc_spread.specs.Kept.{share_kept};
+    ghost use Rattle.rc_spread.specs.Known.{KnowsShare};
     ghost use Rattle.rc_reach.specs.Kept.{sectors_kept};
-    ghost use Rattle.rc_reach.specs.Sectored.{KnowsAnswers, MayReachIn};
+    ghost use Rattle.rc_reach.specs.Sectored.{MayReachIn, answer_in};
 
     type Made = Answers;
 
-    ghost count = { λ s. s.shares };
+    ghost count = { λ s. length s.sectors };
 
     ghost ready = { λ s nodes seat. MayReachIn nodes seat s };
 
-    ghost knows = { λ s seat a b made. KnowsAnswers seat s made.sets.items a b };
+    ghost knows = { λ s seat a b made. KnowsShare seat made.sets.items (answer_in s) a b };
 
     fn items(&self) -> usize {
-        self.shares as usize
+        self.sectors.len()
     }
 
     fn share<M: May>(

@@ -1,4 +1,3 @@
-pub mod BoundLaws
 pub mod CutLaws
 pub mod SectorLaws
 pub mod TogetherLaws

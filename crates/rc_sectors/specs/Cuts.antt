@@ -34,13 +34,6 @@ pub record MayPutTogether (nodes : TableView) (seat : SeatView) (sectors : List 
   pub allowed : HasNodesOf nodes.may whole
   pub are : AreWithin seat sectors sets whole
 
--- n shares in a row of so many things: where each begins, and behind them where the last one ends
-pub record AreBounds (bounds : List ℕ) (n many : ℕ) : Type 0 where
-  pub as_many : length bounds ≡ n + 1
-  pub first : (d : ℕ) → slice_index_or bounds 0 d ≡ 0
-  pub last : (d : ℕ) → slice_index_or bounds n d ≡ many
-  pub rise : (i : ℕ) (d : ℕ) → i < n → slice_index_or bounds i d ≤ slice_index_or bounds (i + 1) d
-
 -- ---- inside
 
 -- the sectors into which one is cut: its bits, and behind them those of each

@@ -16,14 +16,14 @@ use crate::idle_lines::idle;
 use rc_base::{Items, RouterId};
 use rc_bdd::{SetError, Work};
 use rc_config::Network;
-use rc_jobs::{Job, by_workers};
+use rc_jobs::{Bounds, Job, by_workers};
 use rc_nodes::{May, Nodes, Seat};
 use rc_outside::OpenGate;
 use std::alloc::{AllocError, AllocGlobal, Global};
 use std::thread::Threads;
 
-/// More lists count as want of memory: no files have so many.
-const MOST_LISTS: usize = u32::MAX as usize;
+/// Into so many shares the lists are cut for each worker, who takes them one after another: lists differ much in their work.
+const SHARES_A_WORKER: usize = 8;
 
 /// The place of an access list: that of its router in the network, and its own among the lists of the router, both counted from 0.
 #[derive(Clone, Copy)]
@@ -198,11 +198,12 @@ fn idle_at_places<R: Threads + Sync, M: May + Send + Sync>(
     ensures idle { IfOk result.1 (IsStretch (IsIdleAt network.now places.now) 0 (length places.now)) }
     ensures cause { IfErr result.1 (IsCause nodes.now result.0) }
 {
-    if places.len() > MOST_LISTS {
+    let shares = (workers as usize).saturating_mul(SHARES_A_WORKER);
+    let Ok(bounds) = Bounds::even(alloc, places.len(), shares) else {
         return (seat, Err(SetError::Memory));
-    }
+    };
     let job = Places { network, places };
-    let (seat, _, made) = by_workers(rt, alloc, nodes, seat, &job, 0, workers, &OpenGate);
+    let (seat, _, made) = by_workers(rt, alloc, nodes, seat, &job, &bounds, 0, workers, &OpenGate);
     (seat, made)
 }
 

@@ -1,4 +1,5 @@
-//! Rounds of several workers, who look at those positions only to which something fresh leads: in turn where these are few, and else at once.
+//! Rounds of several workers. Where few positions changed, only those are looked at to which something fresh leads, by one worker in turn
+//! for all; else all positions are, by all workers at once.
 ghost use Rattle.std.specs.Prelude.{◌≡◌, ◌+◌, ◌<◌, ◌≤◌, IfOk, IfErr};
 ghost use Rattle.rc_bdd.specs.Work.{IsCause};
 ghost use Rattle.rc_nodes.specs.Seats.{IsSeatOf, Keeps};

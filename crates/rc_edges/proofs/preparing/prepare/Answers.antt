@@ -6,12 +6,6 @@ use Rattle.rc_places.proofs.PlaceLaws.{few_positions}
 use Rattle.rc_edges.specs.Shares.{IsShare}
 use Rattle.rc_edges.proofs.preparing.prepare.Goals as goal
 
-pub by_workers-seat-requires-clause-few : goal.by_workers-seat-requires-clause-few
-by_workers-seat-requires-clause-few g c κs within =
-    let few = few_positions c.args.plane.now.network c.requires.plane in
-    let same = ap (λ n. length (positions n)) c.requires.places in
-    omega arith
-
 pub returns-clause-prepared : goal.returns-clause-prepared
 returns-clause-prepared g c =
     let plane = c.args.plane.now in

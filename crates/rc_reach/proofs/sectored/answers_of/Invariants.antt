@@ -7,5 +7,5 @@ abbrev pub invariant-loop-index : goal.invariant-loop-index
 invariant-loop-index g l = record {
   mine : IsSeatOf l.nodes l.work;
   keeps : Keeps l.fn.work l.work;
-  known : KnowsShare l.work l.sets.items (answer_in l.asked) l.first l.index;
+  known : KnowsShare l.work l.sets.items (answer_in l.asked) l.from l.index;
 }

@@ -3,7 +3,7 @@ use Rattle.rc_sectors.specs.Cuts.{AreBelow}
 use Rattle.rc_sectors.proofs.CutLaws.{all_below}
 use Rattle.rc_sectors.proofs.cut.cut_of.Goals as goal
 
-pub returns-clause-cut : goal.returns-clause-cut
-returns-clause-cut c =
-    let after = c.put_below.new.cut.sectors in
-    all_below after (subst (λ (s : List Bool). AreBelow s [] after) c.new-3.ensures (subst (λ (ss : List (List Bool)). AreBelow c.new-3.result ss after) c.new.ensures c.in_ok-put_below.ensures.sectors))
+pub returns : goal.returns
+returns c =
+    let after = c.put_below.new.cut in
+    all_below after (subst (λ (s : List Bool). AreBelow s [] after) c.new.ensures (subst (λ (ss : List (List Bool)). AreBelow c.new.result ss after) c.new-cut.ensures c.in_ok-put_below.ensures))
