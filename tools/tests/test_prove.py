@@ -244,6 +244,27 @@ class LauncherTest(CompanionTest):
             self.launch(root)
             self.assertTrue(os.access(kept, os.X_OK))
 
+    def test_the_program_that_is_built_and_current(self):
+        with repository() as root:
+            proved, unproved = (root / "x/.netcheck" / kind / "netcheck" for kind in ("proved", "unproved"))
+            self.assertEqual(self.launch(root, "--program"), (70, "", ""))
+            self.assertFalse((root / "x/.netcheck").exists())
+            self.launch(root)
+            self.assertEqual(self.launch(root, "--program"), (0, f"{proved}\n", ""))
+            unproved.parent.mkdir()
+            shutil.copy(proved, unproved)
+            read = "cd \"$0\" && grep : crates.txt | grep -v rc_tests && find crates/*/src -type f -exec cksum {} + | LC_ALL=C sort"
+            listed = subprocess.run(["sh", "-c", read, root / "x"], capture_output=True, check=True).stdout.splitlines(keepends=True)
+            of_crates = {line.split(b":")[0]: line for line in listed if b":" in line}
+            order = [b"low", b"mid", b"side", b"netcheck"]
+            (unproved.parent / "sources").write_bytes(b"".join([*(of_crates[name] for name in order), *(line for line in listed if b":" not in line)]))
+            self.assertEqual(self.launch(root, "--program"), (0, f"{proved}\n", ""))
+            proved.unlink()
+            self.assertEqual(self.launch(root, "--program"), (0, f"{unproved}\n", ""))
+            (root / "x/crates/low/src/lib.rt").write_text("// another\n")
+            self.assertEqual(self.launch(root, "--program"), (70, "", ""))
+            self.assertEqual(self.asked(root), ["low", "mid", "netcheck", "side"])
+
     def test_large_pages_are_asked_for(self):
         with repository() as root:
             self.launch(root)
